@@ -1,0 +1,43 @@
+-- The table of kinds: which five fields are a frame, and the five fields of a frame.
+use Prim.Native.Nat.{ℕ}
+use mathlib.Core.Bool.{Bool, true, false, cond, _&&_}
+use lib.Dec.{eqb, leb}
+use Rattle.line.specs.declared.Frame.{Frame}
+use Rattle.line.specs.declared.Frame.the-variants.{Site, Call, Spawn, Sync, Return, Cost}
+
+-- "kind (2 digits), site (4), value (8), file (4), column (4)"
+pub record Fields : Type 0 where
+  pub kind : ℕ
+  pub site : ℕ
+  pub value : ℕ
+  pub file : ℕ
+  pub column : ℕ
+
+-- A table entry: a frame, or none: "unknown kind, unused field not zero, or a value outside the table".
+pub data Entry : Type 0 where
+  frame : Frame → Entry
+  none : Entry
+
+-- the frame where its fields are as the table has them
+abbrev pub only : Bool → Frame → Entry
+only b f = cond b (frame f) none
+
+-- "kind | meaning | used fields", a line for each. "Unused fields are zero."
+abbrev pub table : Fields → Entry
+table x =
+    cond (eqb (x .kind) 1) (only (leb 1 (x .value) && leb 1 (x .file) && leb 1 (x .column)) (Site (x .site) (record { file = x .file; line = x .value; column = x .column })))
+    (cond (eqb (x .kind) 2) (only (eqb (x .value) 0 && eqb (x .file) 0 && eqb (x .column) 0) (Call (x .site)))
+    (cond (eqb (x .kind) 3) (only (eqb (x .value) 0 && eqb (x .file) 0 && eqb (x .column) 0) (Spawn (x .site)))
+    (cond (eqb (x .kind) 4) (only (eqb (x .site) 0 && eqb (x .value) 0 && eqb (x .file) 0 && eqb (x .column) 0) Sync)
+    (cond (eqb (x .kind) 5) (only (eqb (x .site) 0 && eqb (x .value) 0 && eqb (x .file) 0 && eqb (x .column) 0) Return)
+    (cond (eqb (x .kind) 6) (only (eqb (x .site) 0 && leb 1 (x .value) && leb (x .value) 4294967295 && eqb (x .file) 0 && eqb (x .column) 0) (Cost (x .value)))
+    none)))))
+
+-- the five fields of a frame, the unused ones zero
+abbrev pub fieldsOf : Frame → Fields
+fieldsOf (Site s p) = record { kind = 1; site = s; value = p .line; file = p .file; column = p .column }
+fieldsOf (Call s) = record { kind = 2; site = s; value = 0; file = 0; column = 0 }
+fieldsOf (Spawn s) = record { kind = 3; site = s; value = 0; file = 0; column = 0 }
+fieldsOf Sync = record { kind = 4; site = 0; value = 0; file = 0; column = 0 }
+fieldsOf Return = record { kind = 5; site = 0; value = 0; file = 0; column = 0 }
+fieldsOf (Cost v) = record { kind = 6; site = 0; value = v; file = 0; column = 0 }
