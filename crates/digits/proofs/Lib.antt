@@ -1,3 +1,3 @@
 pub mod Laws
-mod Reading
+pub mod Reading
 pub mod Writing

@@ -4,7 +4,7 @@ use Prim.Native.Nat.{ℕ, suc, _+_, _*_, _%_, _^_, _≤_, _<_}
 use mathlib.Core.Bool.{Bool, true, false, cond, _&&_, and-assoc, and-true}
 use mathlib.Core.List.{List, [], _∷_}
 use mathlib.Core.Path.{_≡_, refl, ap, _∙_, sym}
-use native.Mathlib.Nat.{pow-suc, pow-le-pow-right}
+use native.Mathlib.Nat.{pow-suc, pow-le-pow-right, one-le-pow}
 use native.Mathlib.Numerals.{add-one}
 use native.Mathlib.Omega.{arith}
 use borrow.Author.Tests.{lt-ltb, le-leb, lt-leb}
@@ -68,6 +68,28 @@ module _ (s : List ℕ) where
 
   reading-good : length s ≤ 8 → allDigits s ≡ true → reading s ≡ given (number s)
   reading-good h e = reading-of true true (le-leb (length s) 8 h) e
+
+  -- what the two fields hold, and how large the number is at most
+  pub reading-tells : length s ≤ 8 → reading s .good ≡ allDigits s
+  reading-tells h = go (allDigits s) refl
+    where
+      go : (b : Bool) → allDigits s ≡ b → reading s .good ≡ b
+      go true e = ap (λ (x : Numeral). x .good) (reading-good h e)
+      go false e = ap (λ (x : Numeral). x .good) (reading-wrong h e)
+
+  pub reading-value : length s ≤ 8 → reading s .value ≡ cond (allDigits s) (number s) 0
+  reading-value h = go (allDigits s) refl
+    where
+      go : (b : Bool) → allDigits s ≡ b → reading s .value ≡ cond b (number s) 0
+      go true e = ap (λ (x : Numeral). x .value) (reading-good h e)
+      go false e = ap (λ (x : Numeral). x .value) (reading-wrong h e)
+
+  pub reading-below : length s ≤ 8 → reading s .value < 16 ^ length s
+  reading-below h = go (allDigits s) refl
+    where
+      go : (b : Bool) → allDigits s ≡ b → reading s .value < 16 ^ length s
+      go true e = let v = ap (λ (x : Numeral). x .value) (reading-good h e) in omega (arith, number-below s e)
+      go false e = let v = ap (λ (x : Numeral). x .value) (reading-wrong h e) in omega (arith, one-le-pow (length s) 16 (omega arith))
 
   short-below : length s ≤ 8 → allDigits s ≡ true → number s < 2 ^ 32
   short-below h e = let p = pow-le-pow-right {n = 16} (omega arith) {i = length s} {j = 8} h in omega (arith, number-below s e)
