@@ -1,0 +1,3 @@
+mod Parts
+mod Lines
+pub mod Decisions
