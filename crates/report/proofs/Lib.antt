@@ -1,3 +1,4 @@
 mod Parts
 mod Lines
+mod Examples
 pub mod Decisions
