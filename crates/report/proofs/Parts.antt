@@ -1,6 +1,6 @@
 -- Laws of a room that is filled from the front, part after part, and of a copy. Assumes nothing.
 use Prim.Native.Nat.{ℕ, suc, _+_, _≤_, _<_}
-use mathlib.Core.List.{List, [], _∷_, _++_, append-assoc, append-nil, flatMap}
+use mathlib.Core.List.{List, [], _∷_, _++_, append-assoc}
 use mathlib.Core.Path.{_≡_, refl, ap, _∙_, sym}
 use native.Mathlib.Numerals.{add-one}
 use native.Mathlib.Omega.{arith}
@@ -18,12 +18,6 @@ behind a k done rest ys l =
 -- the same, where the rest is what the room held before
 pub next : (a k : ℕ) (done before ys : List ℕ) → length done ≡ a → putMid a k (done ++ drop a before) ys ≡ (done ++ ys) ++ drop (a + k) before
 next a k done before ys l = behind a k done (drop a before) ys l ∙ ap (λ (r : List ℕ). (done ++ ys) ++ r) (drop-drop k a before)
-
--- one more element at the end
-pub flatMap-last : (f : ℕ → List ℕ) (xs : List ℕ) (x : ℕ) → flatMap f (xs ++ x ∷ []) ≡ flatMap f xs ++ f x
-unfolding flatMap
-flatMap-last f [] x = simp append-nil
-flatMap-last f (y ∷ xs) x = ap (λ (r : List ℕ). f y ++ r) (flatMap-last f xs x) ∙ sym (append-assoc (f y) (flatMap f xs) (f x))
 
 -- one more element is copied
 pub copy-more : (to from : List ℕ) (i : ℕ) → i < length to → i < length from → take i to ≡ take i from → take (i + 1) (set to i (getD from i 0)) ≡ take (i + 1) from

@@ -5,7 +5,7 @@ use mathlib.Core.List.{List, [], _∷_, _++_, flatMap}
 use lib.Dec.{ltb}
 use lib.ListN.{length}
 use Rattle.report.specs.Room.{Decision, write, refuse}
-use Rattle.report.specs.Rows.{columns, numbersOf, lineOf, width}
+use Rattle.report.specs.Rows.{columns, rowLine, width}
 
 -- 0, 1, 2 and on: the first n row numbers
 abbrev pub first : ℕ → List ℕ
@@ -18,7 +18,7 @@ printed rows count = first (count + 1)
 
 -- "each row, 0 first, becomes a line": the lines of some rows
 abbrev pub linesOf : List ℕ → List ℕ → List ℕ
-linesOf rows which = flatMap (λ (r : ℕ). lineOf r (numbersOf rows r)) which
+linesOf rows which = flatMap (rowLine rows) which
 
 -- the report's text
 abbrev pub text : List ℕ → ℕ → List ℕ
