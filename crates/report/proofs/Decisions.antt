@@ -1,8 +1,7 @@
 -- When each decision is taken, what it then promises, and that a promise leaves one outcome. Assumes nothing.
 use Prim.Native.Nat.{ℕ, _+_, _*_, _≤_, _<_}
-use mathlib.Core.Bool.{Bool, true, false, _||_}
 use mathlib.Core.List.{List, _++_}
-use mathlib.Core.Path.{_≡_, refl, ap, _∙_, sym}
+use mathlib.Core.Path.{_≡_, ap, _∙_, sym}
 use borrow.Author.Tests.{lt-ltb, le-ltb}
 use lib.ListN.{length, drop}
 use Rattle.line.specs.declared.Wrote.{Wrote}
@@ -28,32 +27,32 @@ written s before after n e l f =
 pub one-outcome : {d : Decision} {r q : Wrote} {before after other : List ℕ} → Writes d r before after → Writes d q before other → (r ≡ q) × (after ≡ other)
 one-outcome w v = (w .answered ∙ sym (v .answered), w .left ∙ sym (v .left))
 
-module _ (rows : List ℕ) (count : ℕ) (out : List ℕ) where
-  pub report-1 : 255 < count → report rows count out ≡ refuse 1 0
+module _ (rows : List ℕ) (count room : ℕ) where
+  pub report-1 : 255 < count → report rows count room ≡ refuse 1 0
   report-1 h = simp (lt-ltb _ _ h)
 
   module _ (few : count ≤ 255) where
-    pub report-4-rows : length rows < columns * (count + 1) → report rows count out ≡ refuse 4 0
+    pub report-4-rows : length rows < columns * (count + 1) → report rows count room ≡ refuse 4 0
     report-4-rows h = simp (le-ltb _ _ few, lt-ltb _ _ h)
 
     module _ (enough : columns * (count + 1) ≤ length rows) where
-      pub report-4-out : length out < width * (count + 1) → report rows count out ≡ refuse 4 0
+      pub report-4-out : room < width * (count + 1) → report rows count room ≡ refuse 4 0
       report-4-out h = simp (le-ltb _ _ few, le-ltb _ _ enough, lt-ltb _ _ h)
 
-      pub report-text : width * (count + 1) ≤ length out → report rows count out ≡ write (text rows count)
+      pub report-text : width * (count + 1) ≤ room → report rows count room ≡ write (text rows count)
       report-text h = simp (le-ltb _ _ few, le-ltb _ _ enough, le-ltb _ _ h)
 
-module _ (number line : ℕ) (out : List ℕ) where
-  pub print-1-number : 255 < number → printRefusal number line out ≡ refuse 1 0
+module _ (number line room : ℕ) where
+  pub print-1-number : 255 < number → printRefusal number line room ≡ refuse 1 0
   print-1-number h = simp (lt-ltb _ _ h)
 
   module _ (fits : number ≤ 255) where
-    pub print-1-line : 4294967295 < line → printRefusal number line out ≡ refuse 1 0
+    pub print-1-line : 4294967295 < line → printRefusal number line room ≡ refuse 1 0
     print-1-line h = simp (le-ltb _ _ fits, lt-ltb _ _ h)
 
     module _ (fits′ : line ≤ 4294967295) where
-      pub print-4 : length out < 13 → printRefusal number line out ≡ refuse 4 0
+      pub print-4 : room < 13 → printRefusal number line room ≡ refuse 4 0
       print-4 h = simp (le-ltb _ _ fits, le-ltb _ _ fits′, lt-ltb _ _ h)
 
-      pub print-text : 13 ≤ length out → printRefusal number line out ≡ write (refusalText number line)
+      pub print-text : 13 ≤ room → printRefusal number line room ≡ write (refusalText number line)
       print-text h = simp (le-ltb _ _ fits, le-ltb _ _ fits′, le-ltb _ _ h)

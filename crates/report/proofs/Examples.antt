@@ -1,6 +1,6 @@
 -- Case I's report and printed refusals, as document 01 prints them, by computing. Assumes nothing.
 use Prim.Native.Nat.{ℕ}
-use Prim.Native.Char.{Char, code}
+use Prim.Native.Char.{code}
 use Prim.Native.String.{String}
 use Prim.Native.String as string
 use mathlib.Core.List.{List, [], _∷_, _++_, flatMap}

@@ -8,7 +8,7 @@ use native.Mathlib.Numerals.{add-one}
 use native.Mathlib.Omega.{arith}
 use borrow.Rule.Slice.PartMut.{putMid, midOf, mid-len}
 use lib.ListN.{length, take, drop, getD, length-append, length-drop, List·getD-append}
-use lib.Seq.{length-take-le, take-suc, getD-at}
+use lib.Seq.{length-take-le, take-suc, getD-at, take-append-le, drop-append-le}
 use Rattle.digits.specs.Digits.{digits}
 use Rattle.digits.proofs.Writing.{digits-length}
 use Rattle.report.specs.Rows.{columns, numbersOf, lineOf, rowLine, width}
@@ -64,6 +64,21 @@ line-at rows t n r h l = piece-at (rowLine rows) width (first n) t r (lines-even
 -- the line of one row more
 lines-more : (rows : List ℕ) (n : ℕ) → linesOf rows (first (n + 1)) ≡ linesOf rows (first n) ++ rowLine rows n
 lines-more rows n = rw add-one (flatMap-last (rowLine rows) (first n) n)
+
+-- what stands behind the rows makes no difference
+row-front : (rows rest : List ℕ) (r : ℕ) → columns * (r + 1) ≤ length rows → numbersOf (rows ++ rest) r ≡ numbersOf rows r
+row-front rows rest r h =
+    ap (λ (l : List ℕ). take columns l) (drop-append-le (columns * r) rows rest (omega arith))
+    ∙ take-append-le columns (drop (columns * r) rows) rest (simp length-drop (omega arith))
+
+pub lines-front : (rows rest : List ℕ) (n : ℕ) → columns * n ≤ length rows → linesOf (rows ++ rest) (first n) ≡ linesOf rows (first n)
+unfolding flatMap
+lines-front rows rest zero h = refl
+lines-front rows rest (suc n) h =
+    flatMap-last (rowLine (rows ++ rest)) (first n) n
+    ∙ ap (λ (l : List ℕ). l ++ rowLine (rows ++ rest) n) (lines-front rows rest n (omega arith))
+    ∙ ap (λ (l : List ℕ). linesOf rows (first n) ++ lineOf n l) (row-front rows rest n (omega arith))
+    ∙ sym (flatMap-last (rowLine rows) (first n) n)
 
 -- a part filled with the digits of the first k numbers, then with those of the next one
 pub numbers-more : (numbers before part ys : List ℕ) (k : ℕ) → k < length numbers → length part ≡ 16 * length numbers

@@ -10,8 +10,8 @@ use Rattle.digits.specs.Digits.{digits, number}
 use Rattle.digits.proofs.Laws.{digits-number}
 use Rattle.digits.proofs.Writing.{digits-length}
 use Rattle.report.specs.Rows.{columns, numbersOf, lineOf, rowLine, width}
-use Rattle.report.specs.Report.{first, linesOf, text}
-use Rattle.report.proofs.Lines.{number-at, row-length, lines-length, line-at}
+use Rattle.report.specs.Report.{text}
+use Rattle.report.proofs.Lines.{number-at, row-length, lines-length, line-at, lines-front}
 
 -- line r of a text; and what stands in a line, its row and its number k
 abbrev pub lineAt : List ℕ → ℕ → List ℕ
@@ -46,6 +46,10 @@ module _ (rows : List ℕ) (count : ℕ) (given : Rows rows count) where
   -- 85 characters a row
   pub text-length : length (text rows count) ≡ width * (count + 1)
   text-length = lines-length rows (count + 1) (given .enough)
+
+  -- numbers behind the rows make no difference
+  pub rest-idle : (rest : List ℕ) → text (rows ++ rest) count ≡ text rows count
+  rest-idle rest = lines-front rows rest (count + 1) (given .enough)
 
   -- line r is the line of row r
   pub line-is : (r : ℕ) → r ≤ count → lineAt (text rows count) r ≡ rowLine rows r

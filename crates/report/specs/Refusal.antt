@@ -1,9 +1,8 @@
 -- A refusal as it is printed, and what its writer gives.
 use Prim.Native.Nat.{ℕ}
-use mathlib.Core.Bool.{Bool, true, false, cond, _||_}
+use mathlib.Core.Bool.{cond, _||_}
 use mathlib.Core.List.{List, [], _∷_, _++_}
 use lib.Dec.{ltb}
-use lib.ListN.{length}
 use Rattle.digits.specs.Digits.{digits}
 use Rattle.report.specs.Room.{Decision, write, refuse}
 
@@ -12,8 +11,8 @@ abbrev pub refusalText : ℕ → ℕ → List ℕ
 refusalText number line = 102 ∷ 102 ∷ digits 2 number ++ (digits 8 line ++ 10 ∷ [])
 
 -- 1 where a number has no room in its digits, then 4 where the output has no room for the text; both with line 0
-abbrev pub printRefusal : ℕ → ℕ → List ℕ → Decision
-printRefusal number line out =
+abbrev pub printRefusal : ℕ → ℕ → ℕ → Decision
+printRefusal number line room =
     cond (ltb 255 number || ltb 4294967295 line) (refuse 1 0)
-    (cond (ltb (length out) 13) (refuse 4 0)
+    (cond (ltb room 13) (refuse 4 0)
     (write (refusalText number line)))

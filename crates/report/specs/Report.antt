@@ -1,6 +1,6 @@
 -- What the report writer gives: a line for each printed row, or refusal 1 or 4.
 use Prim.Native.Nat.{ℕ, zero, suc, _+_, _*_}
-use mathlib.Core.Bool.{Bool, true, false, cond, _||_}
+use mathlib.Core.Bool.{cond, _||_}
 use mathlib.Core.List.{List, [], _∷_, _++_, flatMap}
 use lib.Dec.{ltb}
 use lib.ListN.{length}
@@ -25,8 +25,8 @@ abbrev pub text : List ℕ → ℕ → List ℕ
 text rows count = linesOf rows (printed rows count)
 
 -- "refusal 1 for a count above 255, then 4 where rows are shorter than 5·(count+1) or output shorter than 85·(count+1). Both come with line 0"
-abbrev pub report : List ℕ → ℕ → List ℕ → Decision
-report rows count out =
+abbrev pub report : List ℕ → ℕ → ℕ → Decision
+report rows count room =
     cond (ltb 255 count) (refuse 1 0)
-    (cond (ltb (length rows) (columns * (count + 1)) || ltb (length out) (width * (count + 1))) (refuse 4 0)
+    (cond (ltb (length rows) (columns * (count + 1)) || ltb room (width * (count + 1))) (refuse 4 0)
     (write (text rows count)))

@@ -3,7 +3,7 @@ use line::Wrote;
 ghost use mathlib.Core.Path.{_≡_};
 ghost use Prim.Native.Nat.{_+_, _*_, _≤_, _<_};
 ghost use mathlib.Core.List.{_++_, flatMap};
-ghost use lib.ListN.{length, take, drop};
+ghost use lib.ListN.{length, drop};
 ghost use Rattle.digits.specs.Digits.{digits};
 ghost use Rattle.report.specs.Room.{Writes};
 ghost use Rattle.report.specs.Rows.{columns, lineOf, width};
@@ -67,7 +67,7 @@ fn put_line(part: &mut [u8], line: ReportLine)
 
 // Writes the lines of the first n rows to the front of the output: how many characters they are.
 fn put_rows(rows: &[u64], n: usize, out: &mut [u8]) -> usize
-    requires { ⌜ (n < 65536) × (columns * n ≤ length (now rows)) × (width * n ≤ length (now out)) ⌝ }
+    requires { ⌜ (n ≤ 256) × (columns * n ≤ length (now rows)) × (width * n ≤ length (now out)) ⌝ }
     ensures { λ r. ⌜ (r ≡ width * n) × (now (out .exit) ≡ linesOf (now (rows .entry)) (first n) ++ drop (width * n) (now (out .entry))) ⌝ }
 {
     let mut at = 0;
@@ -83,7 +83,7 @@ fn put_rows(rows: &[u64], n: usize, out: &mut [u8]) -> usize
 
 // Writes the report of the rows of the root and of `count` sites.
 pub fn write_report(rows: &[u64], count: usize, out: &mut [u8]) -> Wrote
-    ensures { λ r. ⌜ Writes (report (now (rows .entry)) count (now (out .entry))) r (now (out .entry)) (now (out .exit)) ⌝ }
+    ensures { λ r. ⌜ Writes (report (now (rows .entry)) count (length (now (out .entry)))) r (now (out .entry)) (now (out .exit)) ⌝ }
 {
     if 255 < count {
         return Wrote::Refused(1, 0);
@@ -110,7 +110,7 @@ fn refusal_line(number: u64, line: u64) -> [u8; 13]
 
 // Writes a refusal's line.
 pub fn write_refusal(number: u64, line: u64, out: &mut [u8]) -> Wrote
-    ensures { λ r. ⌜ Writes (printRefusal number line (now (out .entry))) r (now (out .entry)) (now (out .exit)) ⌝ }
+    ensures { λ r. ⌜ Writes (printRefusal number line (length (now (out .entry)))) r (now (out .entry)) (now (out .exit)) ⌝ }
 {
     if 255 < number {
         return Wrote::Refused(1, 0);

@@ -1,18 +1,15 @@
 -- `report::put_numbers` meets its contract. The invariant: the digits of the first `k` numbers stand before the rest of the part
 -- as it was. The measure is how many numbers are left. Assumes nothing.
 use borrow.Author.Needs.{needs}
-use Prim.Native.Nat.{ℕ, suc, _+_, _*_, _≤_, _<_, _-_}
-use mathlib.Core.List.{List, [], _∷_, _++_, append-nil, flatMap}
+use Prim.Native.Nat.{ℕ, _+_, _*_, _≤_, _-_}
+use mathlib.Core.List.{List, _++_, append-nil, flatMap}
 use mathlib.Core.Path.{_≡_, refl, _∙_, ap, sym}
-use native.Mathlib.Nat.{add-sub-cancel-left}
-use native.Mathlib.Numerals.{add-one}
 use native.Mathlib.Omega.{arith}
-use borrow.Rule.Slice.PartMut.{putMid, midOf, mid-len, same-len-mid}
-use lib.ListN.{length, take, drop, getD, drop-of-length-le}
-use lib.Seq.{take-suc, take-all, length-take-le}
+use borrow.Rule.Slice.PartMut.{same-len-mid}
+use lib.ListN.{length, take, drop, drop-of-length-le}
+use lib.Seq.{take-all}
 use Rattle.digits.specs.Digits.{digits}
 use Rattle.report.proofs.Lines.{numbers-more}
-use Rattle.report.proofs.Parts.{next}
 use Rattle.report.proofs.put_numbers.Statement.{statement}
 use Rattle.report.proofs.put_numbers.Tie as tie
 

@@ -1,16 +1,16 @@
 -- `report::put_rows` meets its contract. The invariant: the lines of the first `row` rows stand before the rest of the output as it
 -- was, and `at` is how many characters they are. The measure is how many rows are left. Assumes nothing.
 use borrow.Author.Needs.{needs}
-use Prim.Native.Nat.{ℕ, _+_, _*_, _-_, _≤_, _<_}
-use mathlib.Core.List.{List, [], _∷_, _++_, flatMap}
+use Prim.Native.Nat.{ℕ, _+_, _*_, _-_, _≤_}
+use mathlib.Core.List.{_++_, flatMap}
 use mathlib.Core.Path.{_≡_, refl, _∙_, ap, sym}
 use native.Mathlib.Nat.{add-sub-cancel-left}
 use native.Mathlib.Omega.{arith}
-use borrow.Rule.Slice.PartMut.{putMid, midOf, mid-len, same-len-mid}
-use lib.ListN.{length, take, drop}
-use Rattle.report.specs.Rows.{columns, numbersOf, lineOf, width}
+use borrow.Rule.Slice.PartMut.{midOf, mid-len, same-len-mid}
+use lib.ListN.{length, drop, length-take, length-drop}
+use Rattle.report.specs.Rows.{columns, lineOf, width}
 use Rattle.report.specs.Report.{first, linesOf}
-use Rattle.report.proofs.Lines.{row-length, line-length, lines-length, lines-put}
+use Rattle.report.proofs.Lines.{line-length, lines-length, lines-put}
 use Rattle.report.proofs.put_rows.Statement.{statement}
 use Rattle.report.proofs.put_rows.Tie as tie
 
@@ -50,10 +50,8 @@ part-report-line-end c = search needs
 
 report-line-requires : tie.Need-report-line-requires Inv-loop μ-loop
 report-line-requires c κs =
-    let l = c .before .before .loop in
     let a = c .before .before .before .before .before in
-    ap (λ (k : ℕ). length (midOf (columns * l .row) k (a .args .rows .now))) (add-sub-cancel-left (columns * l .row) columns)
-    ∙ row-length (a .args .rows .now) (l .row) (omega (arith, a .pre .1))
+    simp (length-take, length-drop) (omega (arith, a .pre .1))
 
 add-put-line : tie.Need-add-put-line Inv-loop μ-loop
 add-put-line c = search needs
@@ -70,14 +68,9 @@ part-put-line-end c = search needs
 put-line-requires : tie.Need-put-line-requires Inv-loop μ-loop
 put-line-requires c κs =
     let l = c .before .before .before .before .loop in
-    let a = c .before .before .before .before .before .before .before in
-    let r = c .before .report-line in
-    let rows = a .args .rows .now in
-    let size = add-sub-cancel-left (columns * l .row) columns in (
+    let a = c .before .before .before .before .before .before .before in (
       mid-len (l .at) (l .at + width) (l .out) (omega (arith, a .pre .2)) ∙ add-sub-cancel-left (l .at) width,
-      ap length (r .ensures .1)
-          ∙ ap (λ (k : ℕ). length (lineOf (l .row) (midOf (columns * l .row) k rows))) size
-          ∙ line-length (l .row) (numbersOf rows (l .row)) (row-length rows (l .row) (omega (arith, a .pre .1))),
+      ap length (c .before .report-line .ensures .1) ∙ line-length _ _ (simp (length-take, length-drop) (omega (arith, a .pre .1))),
     )
 
 add-at : tie.Need-add-at Inv-loop μ-loop
