@@ -13,8 +13,7 @@ use Rattle.digits.specs.Digits.{digits}
 use Rattle.digits.proofs.Writing.{digits-length}
 use Rattle.report.specs.Rows.{columns, numbersOf, lineOf, rowLine, width}
 use Rattle.report.specs.Report.{first, linesOf}
-use Rattle.report.proofs.Parts.{next}
-use Rattle.report.proofs.Pieces.{flatMap-last, Even, pieces-length, piece-at}
+use Rattle.report.proofs.Pieces.{flatMap-last, Even, pieces-length, piece-at, next-piece}
 
 -- sixteen digits for each number
 numbers-even : (numbers : List ℕ) → Even (digits 16) 16 numbers
@@ -61,10 +60,6 @@ lines-length rows n h = pieces-length (rowLine rows) width (first n) (lines-even
 pub line-at : (rows t : List ℕ) (n r : ℕ) → columns * n ≤ length rows → r < n → take width (drop (width * r) (linesOf rows (first n) ++ t)) ≡ rowLine rows r
 line-at rows t n r h l = piece-at (rowLine rows) width (first n) t r (lines-even rows n h) (rw first-length l) ∙ ap (rowLine rows) (first-at n r l)
 
--- the line of one row more
-lines-more : (rows : List ℕ) (n : ℕ) → linesOf rows (first (n + 1)) ≡ linesOf rows (first n) ++ rowLine rows n
-lines-more rows n = rw add-one (flatMap-last (rowLine rows) (first n) n)
-
 -- what stands behind the rows makes no difference
 row-front : (rows rest : List ℕ) (r : ℕ) → columns * (r + 1) ≤ length rows → numbersOf (rows ++ rest) r ≡ numbersOf rows r
 row-front rows rest r h =
@@ -80,36 +75,24 @@ lines-front rows rest (suc n) h =
     ∙ ap (λ (l : List ℕ). linesOf rows (first n) ++ lineOf n l) (row-front rows rest n (omega arith))
     ∙ sym (flatMap-last (rowLine rows) (first n) n)
 
--- a part filled with the digits of the first k numbers, then with those of the next one
-pub numbers-more : (numbers before part ys : List ℕ) (k : ℕ) → k < length numbers → length part ≡ 16 * length numbers
+-- a part that begins with the digits of the first k numbers, and then with those of the next one
+pub numbers-more : (numbers before part piece : List ℕ) (k : ℕ) → k < length numbers → length part ≡ 16 * length numbers
     → part ≡ flatMap (digits 16) (take k numbers) ++ drop (16 * k) before
-    → ys ≡ digits (length (midOf (16 * k) (16 * k + 16 - 16 * k) part)) (getD numbers k 0)
-    → putMid (16 * k) (16 * k + 16 - 16 * k) part ys ≡ flatMap (digits 16) (take (k + 1) numbers) ++ drop (16 * (k + 1)) before
-numbers-more numbers before part ys k h l e f =
-    let done = flatMap (digits 16) (take k numbers) in
+    → piece ≡ digits (length (midOf (16 * k) (16 * k + 16 - 16 * k) part)) (getD numbers k 0)
+    → putMid (16 * k) (16 * k + 16 - 16 * k) part piece ≡ flatMap (digits 16) (take (k + 1) numbers) ++ drop (16 * (k + 1)) before
+numbers-more numbers before part piece k h l e f =
     let x = getD numbers k 0 in
-    let long : 16 * k + 16 - 16 * k ≡ 16 = add-sub-cancel-left (16 * k) 16 in
-    let long-done : length done ≡ 16 * k = numbers-length (take k numbers) ∙ ap (λ (n : ℕ). 16 * n) (length-take-le k numbers (omega arith)) in
-    let g : ys ≡ digits 16 x = f ∙ ap (λ (n : ℕ). digits n x) (mid-len (16 * k) (16 * k + 16) part (omega arith) ∙ long) in
-    let m : flatMap (digits 16) (take (k + 1) numbers) ≡ done ++ digits 16 x =
-    rw (add-one, take-suc numbers k 0) (flatMap-last (digits 16) (take k numbers) x) in
-    let n : 16 * k + 16 ≡ 16 * (k + 1) = omega arith in
-    ap (λ (j : ℕ). putMid (16 * k) j part ys) long
-    ∙ ap (λ (p : List ℕ). putMid (16 * k) 16 p ys) e
-    ∙ next (16 * k) 16 done before ys long-done
-    ∙ ap (λ (j : ℕ). (done ++ ys) ++ drop j before) n
-    ∙ ap (λ (p : List ℕ). (done ++ p) ++ drop (16 * (k + 1)) before) g
-    ∙ ap (λ (p : List ℕ). p ++ drop (16 * (k + 1)) before) (sym m)
+    let size : length (midOf (16 * k) (16 * k + 16 - 16 * k) part) ≡ 16 = mid-len (16 * k) (16 * k + 16) part (omega arith) ∙ add-sub-cancel-left (16 * k) 16 in
+    let done : length (flatMap (digits 16) (take k numbers)) ≡ 16 * k = numbers-length (take k numbers) ∙ ap (λ (n : ℕ). 16 * n) (length-take-le k numbers (omega arith)) in
+    let more : take k numbers ++ x ∷ [] ≡ take (k + 1) numbers = rw add-one (sym (take-suc numbers k 0 h)) in
+    let place : 16 * k + 16 ≡ 16 * (k + 1) = omega arith in
+    next-piece (digits 16) 16 (take k numbers) x (16 * k) part before piece done e (f ∙ ap (λ (n : ℕ). digits n x) size)
+    ∙ ap (λ (xs : List ℕ). flatMap (digits 16) xs ++ drop (16 * k + 16) before) more
+    ∙ ap (λ (n : ℕ). flatMap (digits 16) (take (k + 1) numbers) ++ drop n before) place
 
--- an output that begins with the lines of the first rows, then with the line of the next one too
-pub lines-put : (rows before out ys : List ℕ) (row at : ℕ) → length (linesOf rows (first row)) ≡ at
+-- an output that begins with the lines of the first rows, and then with the line of the next one
+pub lines-more : (rows before out line : List ℕ) (row at : ℕ) → length (linesOf rows (first row)) ≡ at
     → out ≡ linesOf rows (first row) ++ drop at before
-    → ys ≡ rowLine rows row
-    → putMid at (at + width - at) out ys ≡ linesOf rows (first (row + 1)) ++ drop (at + width) before
-lines-put rows before out ys row at l e f =
-    let done = linesOf rows (first row) in
-    ap (λ (k : ℕ). putMid at k out ys) (add-sub-cancel-left at width)
-    ∙ ap (λ (p : List ℕ). putMid at width p ys) e
-    ∙ next at width done before ys l
-    ∙ ap (λ (p : List ℕ). (done ++ p) ++ drop (at + width) before) f
-    ∙ ap (λ (p : List ℕ). p ++ drop (at + width) before) (sym (lines-more rows row))
+    → line ≡ rowLine rows row
+    → putMid at (at + width - at) out line ≡ linesOf rows (first (row + 1)) ++ drop (at + width) before
+lines-more rows before out line row at l e f = rw (add-one row) (next-piece (rowLine rows) width (first row) row at out before line l e f)

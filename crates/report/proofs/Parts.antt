@@ -1,4 +1,4 @@
--- Laws of a room that is filled from the front, part after part, and of a copy. Assumes nothing.
+-- Laws of a part that is put behind what is done, and of a copy. Assumes nothing.
 use Prim.Native.Nat.{ℕ, _+_, _≤_, _<_}
 use mathlib.Core.List.{List, [], _∷_, _++_, append-assoc}
 use mathlib.Core.Path.{_≡_, ap, _∙_, sym}
@@ -6,7 +6,7 @@ use native.Mathlib.Numerals.{add-one}
 use native.Mathlib.Omega.{arith}
 use borrow.Rule.Slice.PartMut.{putMid}
 use lib.ListN.{length, take, drop, getD, set}
-use lib.Seq.{take-suc-set, take-suc, take-all, drop-drop, take-at, drop-at}
+use lib.Seq.{take-suc-set, take-suc, take-all, take-at, drop-at}
 
 -- a part put right behind what is done
 pub behind : (a k : ℕ) (done rest ys : List ℕ) → length done ≡ a → putMid a k (done ++ rest) ys ≡ (done ++ ys) ++ drop k rest
@@ -14,10 +14,6 @@ behind a k done rest ys l =
     ap (λ (t : List ℕ). t ++ (ys ++ drop k (drop a (done ++ rest)))) (take-at done rest a l)
     ∙ ap (λ (t : List ℕ). done ++ (ys ++ drop k t)) (drop-at done rest a l)
     ∙ sym (append-assoc done ys (drop k rest))
-
--- the same, where the rest is what the room held before
-pub next : (a k : ℕ) (done before ys : List ℕ) → length done ≡ a → putMid a k (done ++ drop a before) ys ≡ (done ++ ys) ++ drop (a + k) before
-next a k done before ys l = behind a k done (drop a before) ys l ∙ ap (λ (r : List ℕ). (done ++ ys) ++ r) (drop-drop k a before)
 
 -- one more element is copied
 pub copy-more : (to from : List ℕ) (i : ℕ) → i < length to → i < length from → take i to ≡ take i from → take (i + 1) (set to i (getD from i 0)) ≡ take (i + 1) from

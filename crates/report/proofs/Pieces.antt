@@ -1,11 +1,13 @@
--- Laws of a list that is made of pieces, one for each of some numbers, all as long as each other. Assumes nothing.
-use Prim.Native.Nat.{ℕ, zero, suc, _+_, _*_, _<_}
+-- Laws of a list that is made of pieces, one for each of some numbers, each as long as the others. Assumes nothing.
+use Prim.Native.Nat.{ℕ, zero, suc, _+_, _*_, _-_, _<_}
 use mathlib.Core.List.{List, [], _∷_, _++_, append-assoc, append-nil, flatMap}
 use mathlib.Core.Path.{_≡_, ap, _∙_, sym}
-use native.Mathlib.Nat.{mul-zero, mul-suc, add-comm}
+use native.Mathlib.Nat.{add-comm, add-sub-cancel-left, mul-suc, mul-zero}
 use native.Mathlib.Omega.{arith}
+use borrow.Rule.Slice.PartMut.{putMid}
 use lib.ListN.{length, take, drop, getD, length-append}
 use lib.Seq.{take-at, drop-at, drop-drop}
+use Rattle.report.proofs.Parts.{behind}
 
 module _ (f : ℕ → List ℕ) where
   -- the piece of one number more
@@ -47,3 +49,14 @@ module _ (f : ℕ → List ℕ) where
         ∙ ap (λ (l : List ℕ). take w l) (sym (drop-drop (w * k) w (f x ++ (flatMap f xs ++ t))))
         ∙ ap (λ (l : List ℕ). take w (drop (w * k) l)) (drop-at (f x) (flatMap f xs ++ t) w (e 0 (omega arith)))
         ∙ piece-at xs t k (tail-even x xs e) (omega arith)
+
+    -- a room that begins with the pieces of some numbers, and then with the piece of one number more: the rest is as it was before
+    pub next-piece : (xs : List ℕ) (x at : ℕ) (room before piece : List ℕ) → length (flatMap f xs) ≡ at → room ≡ flatMap f xs ++ drop at before → piece ≡ f x
+        → putMid at (at + w - at) room piece ≡ flatMap f (xs ++ x ∷ []) ++ drop (at + w) before
+    next-piece xs x at room before piece l e g =
+        ap (λ (k : ℕ). putMid at k room piece) (add-sub-cancel-left at w)
+        ∙ ap (λ (r : List ℕ). putMid at w r piece) e
+        ∙ behind at w (flatMap f xs) (drop at before) piece l
+        ∙ ap (λ (r : List ℕ). (flatMap f xs ++ piece) ++ r) (drop-drop w at before)
+        ∙ ap (λ (p : List ℕ). (flatMap f xs ++ p) ++ drop (at + w) before) g
+        ∙ ap (λ (r : List ℕ). r ++ drop (at + w) before) (sym (flatMap-last xs x))

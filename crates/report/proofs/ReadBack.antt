@@ -1,5 +1,5 @@
--- What a report's reader may rely on: how long it is, which line is which row's, which digits are which number's, and that reports
--- with the same text have the same rows. Assumes nothing.
+-- What a reader may rely on. Of a report: how long it is, which line is which row's, which digits are which number's, and that
+-- reports with the same text have the same rows. Of a refusal: its number and its line. Assumes nothing.
 use Prim.Native.Nat.{ℕ, _+_, _*_, _/_, _%_, _^_, _≤_, _<_}
 use mathlib.Core.List.{List, [], _∷_, _++_, append-nil, flatMap}
 use mathlib.Core.Path.{_≡_, ap, _∙_, sym}
@@ -11,6 +11,7 @@ use Rattle.digits.proofs.Laws.{digits-number}
 use Rattle.digits.proofs.Writing.{digits-length}
 use Rattle.report.specs.Rows.{columns, numbersOf, lineOf, rowLine, width}
 use Rattle.report.specs.Report.{text}
+use Rattle.report.specs.Refusal.{refusalText}
 use Rattle.report.proofs.Lines.{number-at, row-length, lines-length, line-at, lines-front}
 
 -- line r of a text; and what stands in a line, its row and its number k
@@ -89,3 +90,14 @@ module _ (rows others : List ℕ) (count sites : ℕ) (a : Rows rows count) (b :
       let lm : length (take m others) ≡ m = length-take-le m others (b .enough) in
       ext-getD 0 (take n rows) (take m others) (omega (arith, same-count))
       (λ i h. let l : i < n = rw ln at h in getD-take n rows i 0 l ∙ same-number i l ∙ sym (getD-take m others i 0 (omega (arith, same-count))))
+
+-- a printed refusal says its number and its line
+pub refusal-number : (n line : ℕ) → n ≤ 255 → number (take 2 (drop 2 (refusalText n line))) ≡ n
+refusal-number n line h = digits-number 2 n (omega arith)
+
+pub refusal-line : (n line : ℕ) → line ≤ 4294967295 → number (take 8 (drop 4 (refusalText n line))) ≡ line
+refusal-line n line h = digits-number 8 line (omega arith)
+
+-- and is no report
+pub no-report : (rows : List ℕ) (count n line : ℕ) → Rows rows count → text rows count ≡ refusalText n line → ⊥
+no-report rows count n line given e = omega (arith, text-length rows count given, ap length e)

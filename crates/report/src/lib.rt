@@ -10,12 +10,13 @@ ghost use Rattle.report.specs.Rows.{columns, lineOf, width};
 ghost use Rattle.report.specs.Report.{first, linesOf, report};
 ghost use Rattle.report.specs.Refusal.{refusalText, printRefusal};
 
-// "Five numbers a row", and the characters of a row's line.
+// "Five numbers a row."
 const COLUMNS: usize = 5;
 
+// A row's line: 4 digits, 16 for each number, and a line feed.
 const WIDTH: usize = 4 + 16 * COLUMNS + 1;
 
-// A row's line, built whole before it goes out.
+// A row's line, which is built whole before it goes out.
 pub struct ReportLine {
     pub row: u16,
     pub chars: [u8; WIDTH],
@@ -56,7 +57,7 @@ fn copy(to: &mut [u8], from: &[u8])
     }
 }
 
-// A line goes out to its part of the output.
+// A line goes out to its part of the output. An array in a struct has no known length, so both lengths are asked.
 fn put_line(part: &mut [u8], line: ReportLine)
     requires { ⌜ (length (now part) ≡ width) × (length (line .chars) ≡ width) ⌝ }
     ensures { λ _. ⌜ now (part .exit) ≡ line .chars ⌝ }
@@ -65,7 +66,7 @@ fn put_line(part: &mut [u8], line: ReportLine)
     copy(part, &chars);
 }
 
-// Writes the lines of the first n rows to the front of the output: how many characters they are.
+// Writes the lines of the first n rows to the front of the output, and answers how many characters they are.
 fn put_rows(rows: &[u64], n: usize, out: &mut [u8]) -> usize
     requires { ⌜ (n ≤ 256) × (columns * n ≤ length (now rows)) × (width * n ≤ length (now out)) ⌝ }
     ensures { λ r. ⌜ (r ≡ width * n) × (now (out .exit) ≡ linesOf (now (rows .entry)) (first n) ++ drop (width * n) (now (out .entry))) ⌝ }
@@ -81,7 +82,7 @@ fn put_rows(rows: &[u64], n: usize, out: &mut [u8]) -> usize
     at
 }
 
-// Writes the report of the rows of the root and of `count` sites.
+// Writes a line for the root's row and for each site's, or refuses: 1 for a count above 255, then 4 for rows or output too short.
 pub fn write_report(rows: &[u64], count: usize, out: &mut [u8]) -> Wrote
     ensures { λ r. ⌜ Writes (report (now (rows .entry)) count (length (now (out .entry)))) r (now (out .entry)) (now (out .exit)) ⌝ }
 {
@@ -97,7 +98,7 @@ pub fn write_report(rows: &[u64], count: usize, out: &mut [u8]) -> Wrote
     Wrote::Chars(put_rows(rows, count + 1, out))
 }
 
-// The line of a refusal.
+// A refusal's line, built whole.
 fn refusal_line(number: u64, line: u64) -> [u8; 13]
     ensures { λ r. ⌜ r ≡ refusalText number line ⌝ }
 {
@@ -108,7 +109,7 @@ fn refusal_line(number: u64, line: u64) -> [u8; 13]
     chars
 }
 
-// Writes a refusal's line.
+// Writes a refusal's line, or refuses: 1 where its number or line has no room in the digits, then 4 for output too short.
 pub fn write_refusal(number: u64, line: u64, out: &mut [u8]) -> Wrote
     ensures { λ r. ⌜ Writes (printRefusal number line (length (now (out .entry)))) r (now (out .entry)) (now (out .exit)) ⌝ }
 {

@@ -10,7 +10,7 @@ use borrow.Rule.Slice.PartMut.{midOf, mid-len, same-len-mid}
 use lib.ListN.{length, drop, length-take, length-drop}
 use Rattle.report.specs.Rows.{columns, lineOf, width}
 use Rattle.report.specs.Report.{first, linesOf}
-use Rattle.report.proofs.Lines.{line-length, lines-length, lines-put}
+use Rattle.report.proofs.Lines.{line-length, lines-length, lines-more}
 use Rattle.report.proofs.put_rows.Statement.{statement}
 use Rattle.report.proofs.put_rows.Tie as tie
 
@@ -92,7 +92,7 @@ loop-again c =
       omega arith,
       omega arith,
       same-len-mid (l .at) (l .at + width - l .at) (l .out) (p .last .0) (p .kept .0) ∙ l .inv .2,
-      lines-put rows (a .args .out .now) (l .out) (p .last .0) (l .row) (l .at)
+      lines-more rows (a .args .out .now) (l .out) (p .last .0) (l .row) (l .at)
           (lines-length rows (l .row) (omega (arith, a .pre .1)) ∙ sym (l .inv .1))
           (l .inv .3)
           (p .ensures ∙ r .ensures .1 ∙ ap (λ (k : ℕ). lineOf (l .row) (midOf (columns * l .row) k rows)) (add-sub-cancel-left (columns * l .row) columns)),
