@@ -1,2 +1,11 @@
-pub mod Twelve
+pub mod Basics
+pub mod Tree
+pub mod Scan
+pub mod Levels
+pub mod Apart
+pub mod Recurrence
+pub mod Open
+pub mod Parallels
+pub mod Context
+pub mod Chains
 pub mod Further
