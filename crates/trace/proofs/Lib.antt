@@ -8,4 +8,9 @@ pub mod Open
 pub mod Parallels
 pub mod Context
 pub mod Chains
+pub mod Sites
+pub mod Parse
+pub mod Sums
+pub mod Bounds
+pub mod Accept
 pub mod Further
