@@ -49,6 +49,9 @@ pick-heaviest p o c h = parted-max p c (parted p o c h)
 positive-on : (p : Plan) → Positive p → (c : List CostLine) → All (On p) c → All Worth c
 positive-on p h c k = all-map (λ x m. all-at Worth (costs p) h m) c k
 
+pub pick-worth : (p : Plan) → Positive p → All Worth (pick p)
+pick-worth p h = positive-on p h (pick p) (parted-on p (pick p) (pick-parted p))
+
 -- chains of the same weight, the first all before the second
 left-first : (a b : Plan) → Ordered (par a b) → Positive (par a b) → (c d : List CostLine) → Parted a c → Parted b d → weight d ≡ weight c → (d ≡ c) ⊎ Before c d
 left-first a b o q c d h k e =
