@@ -41,6 +41,7 @@ fn run(cases: u64, seed: u64, others: &[(&'static str, &dyn Library)]) -> ExitCo
     for (passed, case) in (0..).zip(fixed.into_iter().chain(generated)) {
         progress.tell(passed, all);
         if differs(&case, &expected, others) {
+            println!("found as case {passed} of seed {seed}");
             println!("{passed} passed, 1 failed");
             return ExitCode::FAILURE;
         }

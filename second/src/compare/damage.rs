@@ -10,11 +10,20 @@ use std::ops::Range;
 pub fn some(rng: &mut Rng, trace: &mut Vec<u8>, limits: &mut Limits, spare: &mut Spare) {
     let times = rng.pick(&[1, 1, 1, 2, 3]);
     for _ in 0..times {
-        match rng.below(10) {
+        match rng.below(13) {
             0 => wrong_limits(rng, limits),
             1 => too_little_room(rng, spare),
             2 => cut(rng, trace),
-            _ => rng.pick(&LINES)(rng, trace),
+            3 => swap(rng, trace),
+            4 => double(rng, trace),
+            5 => drop(rng, trace),
+            6 => wrong_character(rng, trace),
+            7 => wrong_kind(rng, trace),
+            8 => wrong_field(rng, trace),
+            9 => zero_field(rng, trace),
+            10 => another_line(rng, trace),
+            11 => line_after(rng, trace),
+            _ => copy_place(rng, trace),
         }
     }
 }
@@ -60,10 +69,6 @@ fn cut(rng: &mut Rng, trace: &mut Vec<u8>) {
     trace.truncate(kept);
 }
 
-/// Ways to damage lines.
-const LINES: [fn(&mut Rng, &mut Vec<u8>); 10] =
-    [swap, double, drop, wrong_character, wrong_kind, wrong_field, zero_field, another_line, line_after, copy_place];
-
 /// The characters of some line, if there is one.
 fn any_line(rng: &mut Rng, trace: &[u8]) -> Option<Range<usize>> {
     let lines = trace.len() / CHARS;
@@ -71,7 +76,7 @@ fn any_line(rng: &mut Rng, trace: &[u8]) -> Option<Range<usize>> {
 }
 
 /// Two lines in each other's place.
-fn swap(rng: &mut Rng, trace: &mut Vec<u8>) {
+fn swap(rng: &mut Rng, trace: &mut [u8]) {
     if let (Some(one), Some(other)) = (any_line(rng, trace), any_line(rng, trace)) {
         (0..CHARS).for_each(|n| trace.swap(one.start + n, other.start + n));
     }
@@ -93,14 +98,14 @@ fn drop(rng: &mut Rng, trace: &mut Vec<u8>) {
 }
 
 /// A wrong character in a line.
-fn wrong_character(rng: &mut Rng, trace: &mut Vec<u8>) {
+fn wrong_character(rng: &mut Rng, trace: &mut [u8]) {
     if let Some(line) = any_line(rng, trace) {
         character(rng, &mut trace[line]);
     }
 }
 
 /// Another kind for a line, known or not.
-fn wrong_kind(rng: &mut Rng, trace: &mut Vec<u8>) {
+fn wrong_kind(rng: &mut Rng, trace: &mut [u8]) {
     if let Some(line) = any_line(rng, trace) {
         let kind = rng.pick(&[b"00", b"01", b"02", b"03", b"04", b"05", b"06", b"07", b"12", b"ff"]);
         trace[line][..2].copy_from_slice(kind);
@@ -108,7 +113,7 @@ fn wrong_kind(rng: &mut Rng, trace: &mut Vec<u8>) {
 }
 
 /// Another digit in a line.
-fn wrong_field(rng: &mut Rng, trace: &mut Vec<u8>) {
+fn wrong_field(rng: &mut Rng, trace: &mut [u8]) {
     if let Some(line) = any_line(rng, trace) {
         let place = line.start + rng.index(CHARS - 1);
         trace[place] = rng.pick(b"0123456789abcdef");
@@ -116,7 +121,7 @@ fn wrong_field(rng: &mut Rng, trace: &mut Vec<u8>) {
 }
 
 /// Zero for the site, the value, the file or the column of a line.
-fn zero_field(rng: &mut Rng, trace: &mut Vec<u8>) {
+fn zero_field(rng: &mut Rng, trace: &mut [u8]) {
     if let Some(line) = any_line(rng, trace) {
         let field = rng.pick(&[(2, 6), (6, 14), (14, 18), (18, 22)]);
         trace[line][field.0..field.1].fill(b'0');
@@ -136,7 +141,7 @@ fn line_after(rng: &mut Rng, trace: &mut Vec<u8>) {
 }
 
 /// The place of one line for another.
-fn copy_place(rng: &mut Rng, trace: &mut Vec<u8>) {
+fn copy_place(rng: &mut Rng, trace: &mut [u8]) {
     if let (Some(one), Some(other)) = (any_line(rng, trace), any_line(rng, trace)) {
         trace.copy_within(one.start + 6..one.end, other.start + 6);
     }

@@ -1,6 +1,6 @@
 //! A case and a difference in words.
 
-use super::case::{Case, Outcome, Question, Room, STRIP};
+use super::case::{Case, Outcome, Question, Room, Spare, STRIP};
 use super::Difference;
 use crate::line::CHARS;
 use crate::trace::events;
@@ -22,7 +22,7 @@ impl Display for Case {
         match &self.question {
             Question::Engines { trace, limits, spare } => {
                 let (depth, sites) = (limits.depth, limits.sites);
-                writeln!(f, "D = {depth}, M = {sites}, lent beyond what is needed: {spare:?}")?;
+                writeln!(f, "D = {depth}, M = {sites}{spare}")?;
                 writeln!(f, "a trace of {} characters{}:", trace.len(), told_events(trace))?;
                 trace.chunks(CHARS).enumerate().try_for_each(|(n, line)| writeln!(f, "{n:6}  {}", shown(line)))
             }
@@ -39,9 +39,18 @@ impl Display for Case {
     }
 }
 
+/// What is lent beyond or below what is needed, each slice after a comma.
+impl Display for Spare {
+    fn fmt(&self, f: &mut Formatter) -> Result {
+        let spares = [("scratch", self.scratch), ("rows", self.rows), ("answer", self.answer), ("marks", self.marks)];
+        let told = spares.into_iter().filter(|(_, spare)| *spare != 0);
+        told.into_iter().try_for_each(|(name, spare)| write!(f, ", {name} {spare:+}"))
+    }
+}
+
 /// The events of a trace that is good and not too long to read.
 fn told_events(trace: &[u8]) -> String {
-    let short = events(trace).filter(|text| text.len() <= 200);
+    let short = events(trace).filter(|text| (1..200).contains(&text.len()));
     short.map_or(String::new(), |text| format!(" ({text})"))
 }
 
