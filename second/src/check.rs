@@ -69,24 +69,30 @@ impl Lent {
 /// The shape of a trace, or the refusal: "Checks 1 to 4 run in that order. Then the first faulty line decides, and
 /// within it the smallest number. 14 comes last."
 pub fn trace(chars: &[u8], limits: Limits, lent: &Lent) -> Result<Shape, Refusal> {
-    let lines = chars.len() / CHARS;
-    if !limits.in_range() {
-        return Err(Ground::Limits.at(0));
-    }
-    if chars.len() % CHARS != 0 {
-        return Err(Ground::Length.at(0));
-    }
-    if lines > MOST_LINES {
-        return Err(Ground::Lines.at(0));
-    }
-    if lent.is_short(limits, lines) {
-        return Err(Ground::Room.at(0));
-    }
+    let lines = before_lines(chars, limits, lent).map_err(|ground| ground.at(0))?;
     let mut walk = Walk::new(limits);
     for (number, chars) in chars.chunks(CHARS).enumerate() {
         walk.step(chars).map_err(|ground| ground.at(number))?;
     }
     walk.finish().ok_or(Ground::Unfinished.at(lines))
+}
+
+/// Checks 1 to 4, and how many lines there are.
+pub fn before_lines(chars: &[u8], limits: Limits, lent: &Lent) -> Result<usize, Ground> {
+    let lines = chars.len() / CHARS;
+    if !limits.in_range() {
+        return Err(Ground::Limits);
+    }
+    if chars.len() % CHARS != 0 {
+        return Err(Ground::Length);
+    }
+    if lines > MOST_LINES {
+        return Err(Ground::Lines);
+    }
+    if lent.is_short(limits, lines) {
+        return Err(Ground::Room);
+    }
+    Ok(lines)
 }
 
 /// What stands after some lines, each of them good.

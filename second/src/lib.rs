@@ -15,6 +15,7 @@ pub mod compare;
 pub mod graph;
 pub mod library;
 pub mod line;
+pub mod plain;
 pub mod program;
 pub mod refusal;
 pub mod report;
