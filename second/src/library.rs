@@ -1,6 +1,8 @@
 //! The six functions of the C interface, and the second program behind them.
 //!
-//! Each answers 0 for accepted and otherwise number + 256 · line, and a refusal leaves everything lent as it was.
+//! Each answers 0 for accepted and otherwise number + 256 · line, and a refusal leaves everything lent as it was. The
+//! interface lends some slices that the rules do not speak of: the answer, the frame, the count of characters written.
+//! One that is too short is refusal 4, in the order of the numbers: after 1, 2 and 3, before 5 and 6.
 
 use crate::chain::{self, Chains};
 use crate::check::{self, Lent, Limits};

@@ -16,6 +16,7 @@ pub fn profile(trace: &[u8], limits: Limits, lent: &Lent) -> Result<Profile, Ref
     let lines = before_lines(trace, limits, lent).map_err(|ground| ground.at(0))?;
     let mut engine = Engine::new(limits, lines);
     for (number, chars) in trace.chunks_exact(CHARS).enumerate() {
+        let chars = chars.try_into().expect("a whole line");
         engine.line(number as u32, chars).map_err(|ground| ground.at(number))?;
     }
     engine.finish().ok_or(Ground::Unfinished.at(lines))
@@ -39,54 +40,59 @@ const WORTH: [u8; 256] = {
     worth
 };
 
-/// The fields of a line, put together as they stand in it.
+/// The fields of a line.
 struct Fields {
     kind: u8,
     site: u16,
     value: u32,
-    /// File and column, each of 16 bits.
-    ends: u32,
+    file: u16,
+    column: u16,
 }
 
 impl Fields {
     /// Refusals 5 and 6.
-    fn read(chars: &[u8]) -> Result<Fields, Ground> {
+    fn read(chars: &[u8; CHARS]) -> Result<Fields, Ground> {
         let mut all = 0;
-        let head = number(&chars[..14], &mut all);
-        let ends = number(&chars[14..22], &mut all) as u32;
+        let mut field = |digits: &[u8]| number(digits, &mut all);
+        let fields = Fields {
+            kind: field(&chars[..2]) as u8,
+            site: field(&chars[2..6]) as u16,
+            value: field(&chars[6..14]),
+            file: field(&chars[14..18]) as u16,
+            column: field(&chars[18..22]) as u16,
+        };
         if all > 15 || chars[22] != b'\n' {
             return Err(Ground::Character);
         }
-        let fields = Fields { kind: (head >> 48) as u8, site: (head >> 32) as u16, value: head as u32, ends };
-        if fields.keep_to_the_table() {
-            Ok(fields)
-        } else {
-            Err(Ground::Table)
+        if !fields.keep_to_the_table() {
+            return Err(Ground::Table);
         }
+        Ok(fields)
     }
 
     fn keep_to_the_table(&self) -> bool {
-        match self.kind {
-            SITE => self.value > 0 && self.ends >> 16 > 0 && self.ends & 0xffff > 0,
-            CALL | SPAWN => self.value == 0 && self.ends == 0,
-            SYNC | RETURN => self.site == 0 && self.value == 0 && self.ends == 0,
-            COST => self.site == 0 && self.value > 0 && self.ends == 0,
+        let Fields { kind, site, value, file, column } = *self;
+        match kind {
+            SITE => value > 0 && file > 0 && column > 0,
+            CALL | SPAWN => value == 0 && file == 0 && column == 0,
+            SYNC | RETURN => site == 0 && value == 0 && file == 0 && column == 0,
+            COST => site == 0 && value > 0 && file == 0 && column == 0,
             _ => false,
         }
     }
 
     /// File, line and column in 64 bits.
     fn place(&self) -> u64 {
-        u64::from(self.value) << 32 | u64::from(self.ends)
+        u64::from(self.value) << 32 | u64::from(self.file) << 16 | u64::from(self.column)
     }
 }
 
-/// The number that digits show; `all` gathers the bits of their worths.
-fn number(digits: &[u8], all: &mut u8) -> u64 {
+/// The number that at most eight digits show; `all` gathers the bits of their worths.
+fn number(digits: &[u8], all: &mut u8) -> u32 {
     digits.iter().fold(0, |number, &c| {
         let worth = WORTH[usize::from(c)];
         *all |= worth;
-        number << 4 | u64::from(worth & 15)
+        number << 4 | u32::from(worth & 15)
     })
 }
 
@@ -147,7 +153,7 @@ impl Engine {
 
     /// Takes one line, or gives the smallest number that it is refused with. Refusal 13 needs no test: 65,536 values
     /// below 2^32, each counted at most 64 times in a row, stay below 2^54.
-    fn line(&mut self, line: u32, chars: &[u8]) -> Result<(), Ground> {
+    fn line(&mut self, line: u32, chars: &[u8; CHARS]) -> Result<(), Ground> {
         let fields = Fields::read(chars)?;
         let own = self.open.last_mut().ok_or(Ground::AfterEnd)?;
         let mut step = Step { next: line + 1, cost: 0, row: own.row };

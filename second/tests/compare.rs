@@ -2,9 +2,10 @@
 
 use second::chain::Chains;
 use second::check::Limits;
-use second::compare::case::Question;
-use second::compare::fixed::{TWELVE, TWELVE_LIMITS};
+use second::compare::case::{Case, Question};
+use second::compare::fixed::{self, TWELVE, TWELVE_LIMITS};
 use second::compare::{compare, generate, Difference};
+use second::graph;
 use second::library::{Library, Second};
 use second::line::{Kind, CHARS};
 use second::shape::{Invocation, Shape, Start};
@@ -126,6 +127,17 @@ fn taking_the_later_of_two_equal_chains() {
     let told = first_difference(&wrong).to_string();
     assert!(told.contains("marks engine's marks, number 2: second 1, the stand-in 0"), "{told}");
     assert_eq!(smallest_events(&wrong), "spawn 1 {1}, 1");
+}
+
+#[test]
+fn a_long_trace_shrinks_as_far() {
+    let wrong = Second { search: |shape| Chains { chosen: vec![], ..graph::search(shape) } };
+    let cases = fixed::cases();
+    let long =
+        |case: &&Case| matches!(&case.question, Question::Engines { trace, .. } if trace.len() == 65_536 * CHARS);
+    let case = cases.iter().find(long).expect("a case of 65,536 lines");
+    let found = compare(case, &Second::new(), &[("the stand-in", &wrong)]).expect("a difference");
+    assert!(found.to_string().contains("a trace of 46 characters (1):"), "{found}");
 }
 
 /// The second program with something done wrong before or after it.

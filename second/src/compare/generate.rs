@@ -21,6 +21,31 @@ pub fn case(seed: u64, number: u64) -> Case {
     Case { question, rubbish: rng.number() }
 }
 
+/// Every trace that begins with a site line and has so many lines after it, each one of six: costs of 1 and 2, a sync, a
+/// call, a spawn and a return.
+pub fn every(lines: u32) -> impl Iterator<Item = Case> {
+    let of = move |number: u64| {
+        let mut trace = Trace::with_sites(1);
+        (0..lines).for_each(|place| one_of_six(&mut trace, number / 6_u64.pow(place) % 6));
+        let question = Question::Engines { trace: trace.chars, limits: SMALL, spare: Spare::default() };
+        Case { question, rubbish: number }
+    };
+    (0..6_u64.pow(lines)).map(of)
+}
+
+/// Limits that some of those traces break.
+const SMALL: Limits = Limits { depth: 3, sites: 1 };
+
+fn one_of_six(trace: &mut Trace, which: u64) {
+    match which {
+        0 | 1 => trace.cost(which + 1),
+        2 => trace.sync(),
+        3 => trace.call(1),
+        4 => trace.spawn(1),
+        _ => trace.leave(),
+    };
+}
+
 /// A trace for the engines: as often good with enough room as damaged in some way.
 fn engines(rng: &mut Rng) -> Question {
     let mut trace = trace(rng);

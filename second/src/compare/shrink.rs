@@ -5,23 +5,23 @@ use crate::check::Limits;
 use crate::line::{chars, read, Fields, Kind, CHARS};
 use std::ops::Range;
 
-/// The most smaller cases that are tried for one case.
-const MOST_TRIALS: usize = 20_000;
+/// How much is tried for one case, counted in lines of all smaller cases together; a case counts as no less than 100.
+const MOST_TRIED: usize = 40_000_000;
 
 /// How many items in a row are left out at once, the most first.
 const RUNS: [usize; 7] = [4096, 1024, 256, 64, 16, 4, 1];
 
 /// The smallest case that was found to differ still; the case itself if nothing can be left out.
 pub fn smallest(case: &Case, differs: impl Fn(&Case) -> bool) -> Case {
-    let mut shrinker = Shrinker { case: case.clone(), differs, trials: 0 };
-    while shrinker.pass() && shrinker.trials < MOST_TRIALS {}
+    let mut shrinker = Shrinker { case: case.clone(), differs, tried: 0 };
+    while shrinker.pass() {}
     shrinker.case
 }
 
 struct Shrinker<D> {
     case: Case,
     differs: D,
-    trials: usize,
+    tried: usize,
 }
 
 impl<D: Fn(&Case) -> bool> Shrinker<D> {
@@ -39,8 +39,8 @@ impl<D: Fn(&Case) -> bool> Shrinker<D> {
     /// Keeps a smaller case if it still differs.
     fn keep(&mut self, question: Question) -> bool {
         let case = Case { question, rubbish: self.case.rubbish };
-        self.trials += 1;
-        let kept = self.trials <= MOST_TRIALS && case != self.case && (self.differs)(&case);
+        self.tried += self.trace().map_or(0, |trace| trace.len() / CHARS).max(100);
+        let kept = self.tried <= MOST_TRIED && case != self.case && (self.differs)(&case);
         if kept {
             self.case = case;
         }
@@ -176,28 +176,26 @@ fn lower_fields(fields: Fields) -> Vec<Fields> {
 /// The question with lower limits, less room or fewer numbers, in each way that is tried.
 fn lower_questions(question: &Question) -> Vec<Question> {
     match question {
-        Question::Engines { trace, limits, spare } => lower_limits(*limits)
-            .into_iter()
-            .map(|limits| (limits, *spare))
-            .chain(lower_spares(*spare).map(|spare| (*limits, spare)))
-            .map(|(limits, spare)| Question::Engines { trace: trace.clone(), limits, spare })
-            .collect(),
+        Question::Engines { trace, limits, spare } => {
+            let of = |limits, spare| Question::Engines { trace: trace.clone(), limits, spare };
+            let lower = lower_limits(*limits).map(|limits| of(limits, *spare));
+            lower.chain(lower_spares(*spare).map(|spare| of(*limits, spare))).collect()
+        }
         Question::ReadLine { .. } | Question::WriteLine { .. } | Question::Refusal { .. } => vec![],
         Question::Report { rows, count, out, written } => {
-            let half = rows.len() / 2;
-            let fewer =
-                |rows: &[u64], count| Question::Report { rows: rows.to_vec(), count, out: *out, written: *written };
-            vec![fewer(&rows[..half], count / 2), fewer(rows, count / 2), fewer(&vec![0; rows.len()], *count)]
+            let (out, written) = (*out, *written);
+            let of = |rows: &[u64], count| Question::Report { rows: rows.to_vec(), count, out, written };
+            vec![of(&rows[..rows.len() / 2], count / 2), of(rows, count / 2), of(&vec![0; rows.len()], *count)]
         }
     }
 }
 
 /// Limits with one of the two lower.
-fn lower_limits(limits: Limits) -> Vec<Limits> {
+fn lower_limits(limits: Limits) -> impl Iterator<Item = Limits> {
     let depths = [1, limits.depth / 2, limits.depth.saturating_sub(1)].map(|depth| Limits { depth, ..limits });
     let sites = [0, limits.sites / 2, limits.sites.saturating_sub(1)].map(|sites| Limits { sites, ..limits });
-    let lower = |new: &Limits| new.depth < limits.depth || new.sites < limits.sites;
-    depths.into_iter().chain(sites).filter(lower).collect()
+    let lower = move |new: &Limits| new.depth < limits.depth || new.sites < limits.sites;
+    depths.into_iter().chain(sites).filter(lower)
 }
 
 /// Room with one of the slices as long as needed and no longer.

@@ -43,8 +43,8 @@ impl Display for Case {
 impl Display for Spare {
     fn fmt(&self, f: &mut Formatter) -> Result {
         let spares = [("scratch", self.scratch), ("rows", self.rows), ("answer", self.answer), ("marks", self.marks)];
-        let told = spares.into_iter().filter(|(_, spare)| *spare != 0);
-        told.into_iter().try_for_each(|(name, spare)| write!(f, ", {name} {spare:+}"))
+        let mut told = spares.into_iter().filter(|(_, spare)| *spare != 0);
+        told.try_for_each(|(name, spare)| write!(f, ", {name} {spare:+}"))
     }
 }
 
@@ -66,10 +66,10 @@ fn differing(f: &mut Formatter, name: &str, expected: &Outcome, found: &Outcome)
     for ((of, right), (_, other)) in expected.codes.iter().zip(&found.codes).filter(|(right, other)| right != other) {
         writeln!(f, "  {of}: second {}, {name} {}", verdict(*right), verdict(*other))?;
     }
-    let bytes = expected.bytes.iter().zip(&found.bytes);
-    bytes.clone().try_for_each(|(right, other)| differing_room(f, name, right, other))?;
-    let numbers = expected.numbers.iter().zip(&found.numbers);
-    numbers.clone().try_for_each(|(right, other)| differing_room(f, name, right, other))
+    let mut bytes = expected.bytes.iter().zip(&found.bytes);
+    bytes.try_for_each(|(right, other)| differing_room(f, name, right, other))?;
+    let mut numbers = expected.numbers.iter().zip(&found.numbers);
+    numbers.try_for_each(|(right, other)| differing_room(f, name, right, other))
 }
 
 /// The first places at which two rooms differ.
