@@ -5,6 +5,7 @@ pub mod damage;
 pub mod fixed;
 pub mod generate;
 pub mod rng;
+pub mod shapes;
 pub mod shrink;
 pub mod tell;
 

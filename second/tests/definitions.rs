@@ -2,8 +2,8 @@
 
 use second::chain::{self, Chains};
 use second::check::{self, Limits};
-use second::compare::generate;
 use second::compare::rng::Rng;
+use second::compare::shapes;
 use second::graph::{self, Graph};
 use second::rows::profile;
 use second::shape::Shape;
@@ -12,10 +12,10 @@ use std::ops::Range;
 
 const LIMITS: Limits = Limits { depth: 64, sites: 255 };
 
-/// Shapes of generated traces with at most so many cost lines.
-fn shapes(seed: u64, count: u64, costs: usize) -> impl Iterator<Item = Shape> {
+/// The shapes of generated traces with at most so many cost lines.
+fn some(seed: u64, count: u64, costs: usize) -> impl Iterator<Item = Shape> {
     let shape = move |case| {
-        let trace = generate::trace(&mut Rng::of_case(seed, case));
+        let trace = shapes::trace(&mut Rng::of_case(seed, case));
         check::trace(&trace.chars, LIMITS, &LIMITS.for_tables()).expect("a good trace")
     };
     (0..count).map(shape).filter(move |shape| shape.cost_lines().len() <= costs)
@@ -50,7 +50,7 @@ fn by_sets(shape: &Shape) -> Chains {
 #[test]
 fn both_ways_find_what_trying_every_set_finds() {
     let mut tried = 0;
-    for shape in shapes(1, 3000, 8) {
+    for shape in some(1, 3000, 8) {
         let right = by_sets(&shape);
         assert_eq!(chain::search(&shape), right);
         assert_eq!(graph::search(&shape), right);
@@ -61,14 +61,14 @@ fn both_ways_find_what_trying_every_set_finds() {
 
 #[test]
 fn the_two_ways_agree_on_longer_traces() {
-    for shape in shapes(2, 3000, 150) {
+    for shape in some(2, 3000, 150) {
         assert_eq!(chain::search(&shape), graph::search(&shape));
     }
 }
 
 #[test]
 fn series_is_transitive() {
-    for shape in shapes(3, 1000, 25) {
+    for shape in some(3, 1000, 25) {
         let costs = shape.cost_lines();
         for (n, &i) in costs.iter().enumerate() {
             for (m, &j) in costs.iter().enumerate().skip(n + 1).filter(|(_, &j)| shape.series(i, j)) {
@@ -92,7 +92,7 @@ fn reached(graph: &Graph, from: usize, end: usize) -> Vec<bool> {
 
 #[test]
 fn series_is_a_path_in_the_graph() {
-    for shape in shapes(4, 1000, 40) {
+    for shape in some(4, 1000, 40) {
         let graph = Graph::new(&shape);
         let costs = shape.cost_lines();
         for (n, &i) in costs.iter().enumerate() {
@@ -104,7 +104,7 @@ fn series_is_a_path_in_the_graph() {
 
 #[test]
 fn column_4_adds_up_to_the_total_work_and_column_5_to_the_total_span() {
-    for shape in shapes(5, 1000, usize::MAX) {
+    for shape in some(5, 1000, usize::MAX) {
         let profile = profile(&shape, &graph::search(&shape));
         let column = |n: usize| profile.rows.iter().map(|row| row[n]).sum::<u64>();
         assert_eq!([column(3), column(4)], profile.answer[..2]);
