@@ -2,7 +2,7 @@
 -- Assumes nothing.
 use Prim.Native.Nat.{ℕ, _+_, _*_, _-_, _/_, _^_, _≤_, _<_}
 use mathlib.Core.Bool.{Bool, true, false, cond, _&&_}
-use mathlib.Core.List.{List, [], _∷_, _++_}
+use mathlib.Core.List.{List, []}
 use mathlib.Core.Path.{_≡_, refl, ap, _∙_, sym}
 use native.Mathlib.Nat.{one-le-pow, pow-le-pow-right}
 use native.Mathlib.Omega.{arith}
@@ -12,11 +12,11 @@ use lib.ListN.{length, take, drop, length-take, length-drop}
 use lib.Seq.{length-take-le, take-add, take-take, drop-at, drop-drop}
 use Rattle.digits.specs.Digits.{allDigits, number}
 use Rattle.digits.specs.Read.{reading}
-use Rattle.digits.proofs.Laws.{number-below, and-left, and-right}
+use Rattle.digits.proofs.Laws.{number-below}
 use Rattle.digits.proofs.Reading.{reading-value}
 use Rattle.line.specs.Read.{lineAt}
 use Rattle.line.specs.At.{charsAt, fieldAt}
-use Rattle.line.proofs.Lines.{whole, not-whole, part-length}
+use Rattle.line.proofs.Lines.{whole, not-whole}
 
 -- a part of a long enough front is that part of the whole
 front-part : (l : List ℕ) (k from size : ℕ) → from + size ≤ k → k ≤ length l → take size (drop from (take k l)) ≡ take size (drop from l)

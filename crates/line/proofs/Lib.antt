@@ -1,2 +1,4 @@
 pub mod Lines
 pub mod At
+pub mod Filled
+pub mod Writable
