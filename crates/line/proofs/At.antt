@@ -1,4 +1,4 @@
--- The fields of one line of a text, each by itself: what the reader of one field rests on, and that it gives the fields of an accepted line.
+-- The fields of one line of a text, each by itself: what the reader of one field rests on.
 -- Assumes nothing.
 use Prim.Native.Nat.{ℕ, _+_, _*_, _-_, _/_, _^_, _≤_, _<_}
 use mathlib.Core.Bool.{Bool, true, false, cond, _&&_}
@@ -30,7 +30,7 @@ front-part l k from size h g =
     e = omega arith
 
 module _ (s : List ℕ) (n from size : ℕ) where
-  field-of : (a b : Bool) → eqb (length (lineAt s n)) 23 ≡ a → allDigits (charsAt s n from size) ≡ b → fieldAt s n from size ≡ cond (a && b) (number (charsAt s n from size)) 0
+  pub field-of : (a b : Bool) → eqb (length (lineAt s n)) 23 ≡ a → allDigits (charsAt s n from size) ≡ b → fieldAt s n from size ≡ cond (a && b) (number (charsAt s n from size)) 0
   field-of a b e f = ap (λ (x : Bool). cond (x && allDigits (charsAt s n from size)) (number (charsAt s n from size)) 0) e ∙ ap (λ (x : Bool). cond (a && x) (number (charsAt s n from size)) 0) f
 
   pub field-none : length s / 23 ≤ n → fieldAt s n from size ≡ 0

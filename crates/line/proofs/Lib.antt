@@ -1,4 +1,7 @@
 pub mod Lines
+pub mod Cases
 pub mod At
 pub mod Filled
 pub mod Writable
+pub mod RoundTrip
+pub mod Items
