@@ -5,3 +5,4 @@ pub mod Filled
 pub mod Writable
 pub mod RoundTrip
 pub mod Items
+mod Examples
