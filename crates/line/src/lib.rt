@@ -49,7 +49,7 @@ fn listed(fit: bool, f: Frame, n: usize) -> Read
 }
 
 // The frame that five fields are by the table of kinds, else refusal 6.
-fn framed(kind: u32, site: u16, value: u32, file: u16, column: u16, n: usize) -> Read
+pub fn framed(kind: u32, site: u16, value: u32, file: u16, column: u16, n: usize) -> Read
     ensures { λ r. ⌜ r ≡ tabled (table (record { kind = kind; site = site; value = value; file = file; column = column })) n ⌝ }
 {
     match kind {

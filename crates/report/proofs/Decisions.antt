@@ -6,7 +6,7 @@ use borrow.Author.Tests.{lt-ltb, le-ltb}
 use lib.ListN.{length, drop}
 use Rattle.line.specs.declared.Wrote.{Wrote}
 use Rattle.line.specs.declared.Wrote.the-variants.{Chars, Refused}
-use Rattle.report.specs.Room.{Decision, write, refuse, answer, leave, Writes}
+use Rattle.report.specs.Room.{Decision, write, refuse, fitting, answer, leave, Writes}
 use Rattle.report.specs.Rows.{columns, width}
 use Rattle.report.specs.Report.{text, report}
 use Rattle.report.specs.Refusal.{refusalText, printRefusal}
@@ -26,6 +26,13 @@ written s before after n e l f =
 -- one answer and one room for each decision
 pub one-outcome : {d : Decision} {r q : Wrote} {before after other : List ℕ} → Writes d r before after → Writes d q before other → (r ≡ q) × (after ≡ other)
 one-outcome w v = (w .answered ∙ sym (v .answered), w .left ∙ sym (v .left))
+
+module _ (s : List ℕ) (room : ℕ) where
+  pub fitting-4 : room < length s → fitting s room ≡ refuse 4 0
+  fitting-4 h = simp (lt-ltb _ _ h)
+
+  pub fitting-text : length s ≤ room → fitting s room ≡ write s
+  fitting-text h = simp (le-ltb _ _ h)
 
 module _ (rows : List ℕ) (count room : ℕ) where
   pub report-1 : 255 < count → report rows count room ≡ refuse 1 0
@@ -50,9 +57,5 @@ module _ (number line room : ℕ) where
     pub print-1-line : 4294967295 < line → printRefusal number line room ≡ refuse 1 0
     print-1-line h = simp (le-ltb _ _ fits, lt-ltb _ _ h)
 
-    module _ (fits′ : line ≤ 4294967295) where
-      pub print-4 : room < 13 → printRefusal number line room ≡ refuse 4 0
-      print-4 h = simp (le-ltb _ _ fits, le-ltb _ _ fits′, lt-ltb _ _ h)
-
-      pub print-text : 13 ≤ room → printRefusal number line room ≡ write (refusalText number line)
-      print-text h = simp (le-ltb _ _ fits, le-ltb _ _ fits′, le-ltb _ _ h)
+    pub print-fitting : line ≤ 4294967295 → {s : List ℕ} → s ≡ refusalText number line → printRefusal number line room ≡ fitting s room
+    print-fitting fits′ e = simp (le-ltb _ _ fits, le-ltb _ _ fits′) (sym (ap (λ (s : List ℕ). fitting s room) e))

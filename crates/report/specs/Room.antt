@@ -1,7 +1,9 @@
 -- What every writer of text into lent room answers and leaves there, once it is decided what it writes.
 use Prim.Native.Nat.{ℕ}
+use mathlib.Core.Bool.{cond}
 use mathlib.Core.List.{List, _++_}
 use mathlib.Core.Path.{_≡_}
+use lib.Dec.{ltb}
 use lib.ListN.{length, drop}
 use Rattle.line.specs.declared.Wrote.{Wrote}
 use Rattle.line.specs.declared.Wrote.the-variants.{Chars, Refused}
@@ -10,6 +12,10 @@ use Rattle.line.specs.declared.Wrote.the-variants.{Chars, Refused}
 pub data Decision : Type 0 where
   write : List ℕ → Decision
   refuse : ℕ → ℕ → Decision
+
+-- a text as it is, and 4 where the room is shorter
+abbrev pub fitting : List ℕ → ℕ → Decision
+fitting s room = cond (ltb room (length s)) (refuse 4 0) (write s)
 
 -- "The writer answers how many characters it wrote"; "Refused: a number and a line."
 abbrev pub answer : Decision → Wrote

@@ -5,7 +5,7 @@ ghost use Prim.Native.Nat.{_+_, _*_, _≤_, _<_};
 ghost use mathlib.Core.List.{_++_, flatMap};
 ghost use lib.ListN.{length, drop};
 ghost use Rattle.digits.specs.Digits.{digits};
-ghost use Rattle.report.specs.Room.{Writes};
+ghost use Rattle.report.specs.Room.{fitting, Writes};
 ghost use Rattle.report.specs.Rows.{columns, lineOf, width};
 ghost use Rattle.report.specs.Report.{first, linesOf, report};
 ghost use Rattle.report.specs.Refusal.{refusalText, printRefusal};
@@ -55,6 +55,18 @@ fn copy(to: &mut [u8], from: &[u8])
         to[i] = from[i];
         i += 1;
     }
+}
+
+// Writes a text to the front of the output, or refuses: 4 for output too short.
+pub fn put_text(text: &[u8], out: &mut [u8]) -> Wrote
+    ensures { λ r. ⌜ Writes (fitting (now (text .entry)) (length (now (out .entry)))) r (now (out .entry)) (now (out .exit)) ⌝ }
+{
+    let n = text.len();
+    if out.len() < n {
+        return Wrote::Refused(4, 0);
+    }
+    copy(&mut out[0..n], text);
+    Wrote::Chars(n)
 }
 
 // A line goes out to its part of the output. An array in a struct has no known length, so both lengths are asked.
@@ -119,10 +131,6 @@ pub fn write_refusal(number: u64, line: u64, out: &mut [u8]) -> Wrote
     if 4294967295 < line {
         return Wrote::Refused(1, 0);
     }
-    if out.len() < 13 {
-        return Wrote::Refused(4, 0);
-    }
     let chars = refusal_line(number, line);
-    copy(&mut out[0..13], &chars);
-    Wrote::Chars(13)
+    put_text(&chars, out)
 }
