@@ -28,7 +28,7 @@ pub record Narrow (x : Fields) : Type 0 where
   pub file : x .file < 16 ^ 4
   pub column : x .column < 16 ^ 4
 
-narrow-fits : (x : Fields) → narrow x ≡ true → Narrow x
+pub narrow-fits : (x : Fields) → narrow x ≡ true → Narrow x
 narrow-fits x e =
     let four = and-left (ltb (x .kind) 256 && ltb (x .site) 65536 && ltb (x .value) 4294967296 && ltb (x .file) 65536) (ltb (x .column) 65536) e in
     let three = and-left (ltb (x .kind) 256 && ltb (x .site) 65536 && ltb (x .value) 4294967296) (ltb (x .file) 65536) four in

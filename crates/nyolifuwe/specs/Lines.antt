@@ -7,7 +7,7 @@ use lib.ListN.{length, getD}
 use Rattle.line.specs.declared.Read.{Read}
 use Rattle.line.specs.declared.Read.the-variants.{Line, Refused}
 use Rattle.line.specs.Table.{Fields, table, fieldsOf}
-use Rattle.line.specs.Read.{tabled, readLine}
+use Rattle.line.specs.Read.{readLine}
 use Rattle.line.specs.Write.{chars, narrow, isFrame}
 use Rattle.report.specs.Room.{Decision, write, refuse}
 
@@ -33,7 +33,3 @@ writeFrame n room =
     cond (ltb (length n) 5 || ltb room 23) (refuse 4 0)
     (cond (narrow (fieldsIn n) && isFrame (table (fieldsIn n))) (write (chars (fieldsIn n)))
     (refuse 6 0))
-
--- For proofs: the frame that five fields are, refusal 6 where they have no room in their digits or are not as the table has them.
-abbrev pub framedBy : Fields → Read
-framedBy x = cond (narrow x) (tabled (table x) 0) (Refused 6 0)

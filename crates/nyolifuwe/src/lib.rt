@@ -4,16 +4,16 @@ use line::Frame;
 use line::Read;
 use line::Wrote;
 ghost use mathlib.Core.Path.{_≡_};
-ghost use Prim.Native.Nat.{_+_, _*_, _≤_, _<_};
+ghost use Prim.Native.Nat.{_≤_};
 ghost use mathlib.Core.List.{_++_};
 ghost use lib.ListN.{length, drop};
-ghost use Rattle.line.specs.Table.{table, fieldsOf};
-ghost use Rattle.line.specs.Read.{tabled};
+ghost use Rattle.line.specs.Table.{fieldsOf};
 ghost use Rattle.report.specs.Report.{report};
 ghost use Rattle.report.specs.Refusal.{printRefusal};
 ghost use Rattle.nyolifuwe.specs.Code.{coded, Gives};
-ghost use Rattle.nyolifuwe.specs.Lines.{numbers, fieldsIn, framedBy, readFrame, writeFrame};
+ghost use Rattle.nyolifuwe.specs.Lines.{numbers, readFrame, writeFrame};
 ghost use Rattle.nyolifuwe.specs.Texts.{counted, Tells};
+ghost use Rattle.nyolifuwe.specs.Inside.{framedBy, told, lineOf, noted};
 
 // "kind, site, value, file, column"
 const FIELDS: usize = 5;
@@ -83,19 +83,12 @@ pub extern "C" fn nyo_read_line(line: &[u8], frame: &mut [u64]) -> u64
 fn frame_of(kind: u64, site: u64, value: u64, file: u64, column: u64) -> Read
     ensures { λ r. ⌜ r ≡ framedBy (record { kind = kind; site = site; value = value; file = file; column = column }) ⌝ }
 {
-    if 255 < kind {
-        return Read::Refused(6, 0);
-    }
-    if 65535 < site {
-        return Read::Refused(6, 0);
-    }
-    if 4294967295 < value {
-        return Read::Refused(6, 0);
-    }
-    if 65535 < file {
-        return Read::Refused(6, 0);
-    }
-    if 65535 < column {
+    let narrow = (kind < 256)
+        & (site < 65536)
+        & (value < 4294967296)
+        & (file < 65536)
+        & (column < 65536);
+    if !narrow {
         return Read::Refused(6, 0);
     }
     line::framed(
@@ -106,4 +99,71 @@ fn frame_of(kind: u64, site: u64, value: u64, file: u64, column: u64) -> Read
         column as u16,
         0,
     )
+}
+
+// Writes one line from the five numbers of its frame: 23 characters go to `out`, or refusal 4 or 6.
+#[no_mangle]
+pub extern "C" fn nyo_write_line(frame: &[u64], out: &mut [u8]) -> u64
+    ensures { λ r. ⌜ Gives (writeFrame (now (frame .entry)) (length (now (out .entry)))) r (now (out .entry)) (now (out .exit)) ⌝ }
+{
+    if frame.len() < FIELDS {
+        return 4;
+    }
+    if out.len() < 23 {
+        return 4;
+    }
+    match frame_of(frame[0], frame[1], frame[2], frame[3], frame[4]) {
+        Read::Line(_, f) => {
+            let written = line::write_line(f);
+            let chars = written.chars;
+            report::put_text(&chars, out);
+            0
+        }
+        Read::Refused(number, at) => code(number, at),
+    }
+}
+
+// What a writer of text answered, in one number; how many characters it wrote goes to `written`.
+fn tell(wrote: Wrote, written: &mut [u64]) -> u64
+    requires { ⌜ (lineOf wrote ≤ 65536) × (1 ≤ length (now written)) ⌝ }
+    ensures { λ r. ⌜ (r ≡ told wrote) × (now (written .exit) ≡ noted wrote (now (written .entry))) ⌝ }
+{
+    match wrote {
+        Wrote::Chars(n) => {
+            written[0] = n as u64;
+            0
+        }
+        Wrote::Refused(number, at) => code(number, at),
+    }
+}
+
+// Writes the report of `count` sites from their rows: its text goes to `out`, or refusal 1 or 4.
+#[no_mangle]
+pub extern "C" fn nyo_report(rows: &[u64], count: u64, out: &mut [u8], written: &mut [u64]) -> u64
+    ensures { λ r. ⌜ Tells (counted (report (now (rows .entry)) count (length (now (out .entry)))) (length (now (written .entry)))) r (now (out .entry)) (now (out .exit)) (now (written .entry)) (now (written .exit)) ⌝ }
+{
+    if 255 < count {
+        return 1;
+    }
+    if written.len() < 1 {
+        return 4;
+    }
+    tell(report::write_report(rows, count as usize, out), written)
+}
+
+// Writes a refusal's line: its text goes to `out`, or refusal 1 or 4.
+#[no_mangle]
+pub extern "C" fn nyo_refusal(number: u64, line: u64, out: &mut [u8], written: &mut [u64]) -> u64
+    ensures { λ r. ⌜ Tells (counted (printRefusal number line (length (now (out .entry)))) (length (now (written .entry)))) r (now (out .entry)) (now (out .exit)) (now (written .entry)) (now (written .exit)) ⌝ }
+{
+    if 255 < number {
+        return 1;
+    }
+    if 4294967295 < line {
+        return 1;
+    }
+    if written.len() < 1 {
+        return 4;
+    }
+    tell(report::write_refusal(number, line, out), written)
 }

@@ -1,0 +1,191 @@
+-- When each decision of the interface is taken, what it then promises, and that a code tells its refusal. Assumes nothing.
+use Prim.Native.Nat.{ℕ, _+_, _*_, _≤_, _<_}
+use mathlib.Core.Bool.{Bool, true, false, cond, _&&_, _||_}
+use mathlib.Core.List.{List, [], _∷_, _++_}
+use mathlib.Core.Path.{_≡_, refl, ap, _∙_, sym}
+use native.Mathlib.Omega.{arith}
+use borrow.Author.Tests.{eq-eqb, ne-eqb, lt-ltb, le-ltb}
+use lib.Dec.{ltb}
+use lib.ListN.{length, drop, replicate}
+use Rattle.line.specs.declared.Frame.{Frame}
+use Rattle.line.specs.declared.Read.{Read}
+use Rattle.line.specs.declared.Read.the-variants.{Line, Refused}
+use Rattle.line.specs.declared.Wrote.{Wrote}
+use Rattle.line.specs.declared.Wrote.the-variants.{Chars}
+use Rattle.line.specs.Table.{Fields, Entry, frame, none, table, fieldsOf}
+use Rattle.line.specs.Read.{tabled, readLine}
+use Rattle.line.specs.Write.{chars, narrow, isFrame, writable, writeChars}
+use Rattle.line.proofs.Cases.{Case, long, wrongs, unlisted, listed, line-case}
+use Rattle.line.proofs.RoundTrip.{written, table-fields}
+use Rattle.report.specs.Room.{Decision, write, refuse, answer, leave, Writes}
+use Rattle.report.specs.Rows.{columns, width}
+use Rattle.report.specs.Report.{text, report}
+use Rattle.report.specs.Refusal.{refusalText, printRefusal}
+use Rattle.nyolifuwe.specs.Code.{coded, code, Gives}
+use Rattle.nyolifuwe.specs.Lines.{numbers, fieldsIn, framed, readFrame, writeFrame}
+use Rattle.nyolifuwe.specs.Texts.{counted, count, Tells}
+use Rattle.nyolifuwe.specs.Inside.{framedBy, told, lineOf, noted}
+
+-- no two refusals have one code, and none has the code of acceptance
+pub code-tells : (number number′ line line′ : ℕ) → number < 256 → number′ < 256 → coded number line ≡ coded number′ line′ → (number ≡ number′) × (line ≡ line′)
+code-tells number number′ line line′ h h′ e = (omega arith, omega arith)
+
+pub code-not-0 : (number line : ℕ) → 1 ≤ number → coded number line ≡ 0 → ⊥
+code-not-0 number line h e = omega arith
+
+-- a refusal that is given, with the room as it was
+pub refused : {d : Decision} (number line : ℕ) (room : List ℕ) → d ≡ refuse number line → Gives d (coded number line) room room
+refused number line room e = record { answered = sym (ap code e); left = sym (ap (λ (d : Decision). leave d room) e) }
+
+-- what is put over the front of the room
+pub given : {d : Decision} (s before after : List ℕ) → d ≡ write s → after ≡ s ++ drop (length s) before → Gives d 0 before after
+given s before after e f = record { answered = sym (ap code e); left = f ∙ sym (ap (λ (d : Decision). leave d before) e) }
+
+-- the line reader
+module _ (s : List ℕ) (room : ℕ) where
+  pub read-2 : (length s ≡ 23 → ⊥) → readFrame s room ≡ refuse 2 0
+  read-2 h = simp (ne-eqb _ _ h)
+
+  pub read-4 : length s ≡ 23 → room < 5 → readFrame s room ≡ refuse 4 0
+  read-4 h few = simp (eq-eqb _ _ h, lt-ltb _ _ few)
+
+  pub read-as : {r : Read} → length s ≡ 23 → 5 ≤ room → readLine s 0 ≡ r → readFrame s room ≡ framed r
+  read-as h enough e =
+      ap (λ (b : Bool). cond b (cond (ltb room 5) (refuse 4 0) (framed (readLine s 0))) (refuse 2 0)) (eq-eqb _ _ h)
+      ∙ ap (λ (b : Bool). cond b (refuse 4 0) (framed (readLine s 0))) (le-ltb _ _ enough)
+      ∙ ap framed e
+
+pub read-at-0 : (s : List ℕ) (number line : ℕ) → readLine s 0 ≡ Refused number line → line ≤ 65536
+read-at-0 s number line e = go (line-case s 0)
+  where
+    go : Case s 0 (readLine s 0) → line ≤ 65536
+    go (long h r) = let z : line ≡ 0 = cc in omega arith
+    go (wrongs h w r) = let z : line ≡ 0 = cc in omega arith
+    go (unlisted h w t r) = let z : line ≡ 0 = cc in omega arith
+    go (listed h w f t r) = absurd (let z : _≡_ {A = ℕ} 0 1 = cc in omega arith)
+
+-- five fields that are a frame, and that are not
+pub data Framed (x : Fields) (r : Read) : Type 0 where
+  as-frame : (f : Frame) → narrow x ≡ true → table x ≡ frame f → r ≡ Line 0 f → Framed x r
+  as-none : (narrow x && isFrame (table x)) ≡ false → r ≡ Refused 6 0 → Framed x r
+
+framed-case : (x : Fields) → Framed x (framedBy x)
+framed-case x = go (narrow x) (table x) refl refl
+  where
+    go : (b : Bool) (e : Entry) → narrow x ≡ b → table x ≡ e → Framed x (framedBy x)
+    go false e hb he = as-none (simp hb) (simp hb)
+    go true none hb he = as-none (simp (hb, he)) (simp hb (ap (λ (y : Entry). tabled y 0) he))
+    go true (frame f) hb he = as-frame f hb he (simp hb (ap (λ (y : Entry). tabled y 0) he))
+
+pub framed-narrow : (x : Fields) → narrow x ≡ true → tabled (table x) 0 ≡ framedBy x
+framed-narrow x e = sym (ap (λ (b : Bool). cond b (tabled (table x) 0) (Refused 6 0)) e)
+
+pub framed-wide : (x : Fields) → narrow x ≡ false → Refused 6 0 ≡ framedBy x
+framed-wide x e = sym (ap (λ (b : Bool). cond b (tabled (table x) 0) (Refused 6 0)) e)
+
+-- the line writer
+module _ (n : List ℕ) (room : ℕ) where
+  pub write-4-frame : length n < 5 → writeFrame n room ≡ refuse 4 0
+  write-4-frame h = simp (lt-ltb _ _ h)
+
+  module _ (five : 5 ≤ length n) where
+    pub write-4-out : room < 23 → writeFrame n room ≡ refuse 4 0
+    write-4-out h = simp (le-ltb _ _ five, lt-ltb _ _ h)
+
+    module _ (enough : 23 ≤ room) where
+      on : {b : Bool} → (narrow (fieldsIn n) && isFrame (table (fieldsIn n))) ≡ b → writeFrame n room ≡ cond b (write (chars (fieldsIn n))) (refuse 6 0)
+      on e = simp (le-ltb _ _ five, le-ltb _ _ enough) (ap (λ (b : Bool). cond b (write (chars (fieldsIn n))) (refuse 6 0)) e)
+
+      pub write-refused : (number line : ℕ) → framedBy (fieldsIn n) ≡ Refused number line → writeFrame n room ≡ refuse number line
+      write-refused number line e = go (framed-case (fieldsIn n))
+        where
+          go : Framed (fieldsIn n) (framedBy (fieldsIn n)) → writeFrame n room ≡ refuse number line
+          go (as-none h r) = let d = on h in cc
+          go (as-frame f h t r) = absurd (let z : _≡_ {A = ℕ} 0 1 = cc in omega arith)
+
+      pub write-framed : (k : ℕ) (f : Frame) → framedBy (fieldsIn n) ≡ Line k f → writeFrame n room ≡ write (writeChars f)
+      write-framed k f e = go (framed-case (fieldsIn n))
+        where
+          go : Framed (fieldsIn n) (framedBy (fieldsIn n)) → writeFrame n room ≡ write (writeChars f)
+          go (as-none h r) = absurd (let z : _≡_ {A = ℕ} 0 1 = cc in omega arith)
+          go (as-frame g h t r) =
+              let same : g ≡ f = cc in
+              let x = table-fields (fieldsIn n) f (t ∙ ap frame same) in
+              let is : (narrow (fieldsIn n) && isFrame (table (fieldsIn n))) ≡ true = simp (h, t) in
+              let w : writable f ≡ true = ap (λ (y : Fields). narrow y && isFrame (table y)) x ∙ is in
+              on is ∙ ap write (ap chars (sym x) ∙ sym (written f w))
+
+pub framed-at-0 : (x : Fields) (number line : ℕ) → framedBy x ≡ Refused number line → line ≤ 65536
+framed-at-0 x number line e = go (framed-case x)
+  where
+    go : Framed x (framedBy x) → line ≤ 65536
+    go (as-none h r) = let z : line ≡ 0 = cc in omega arith
+    go (as-frame f h t r) = absurd (let z : _≡_ {A = ℕ} 0 1 = cc in omega arith)
+
+pub chars-length : (f : Frame) → length (writeChars f) ≡ 23
+chars-length f = go (writable f)
+  where
+    go : (b : Bool) → length (cond b (chars (fieldsOf f)) (replicate 23 0)) ≡ 23
+    go true = refl
+    go false = refl
+
+-- the writers of text: a refusal that is given, with both rooms as they were
+pub untold : {d : Decision} (number line : ℕ) (text written : List ℕ) → d ≡ refuse number line → Tells d (coded number line) text text written written
+untold number line text written e =
+    record {
+      answered = sym (ap code e);
+      text-left = sym (ap (λ (d : Decision). leave d text) e);
+      count-left = sym (ap (λ (d : Decision). leave (count d) written) e);
+    }
+
+-- room for the count is enough, and a decision that is told of is the writer's
+pub counted-is : (d : Decision) (room : ℕ) → 1 ≤ room → counted d room ≡ d
+counted-is (write s) room h = simp (le-ltb _ _ h)
+counted-is (refuse number line) room h = refl
+
+pub tells : (d : Decision) {r : Wrote} {given : ℕ} {text text′ written written′ : List ℕ} → Writes d r text text′ → given ≡ told r → written′ ≡ noted r written → Tells d given text text′ written written′
+tells (write s) {written = written} w g n = record { answered = g ∙ ap told (w .answered); text-left = w .left; count-left = n ∙ ap (λ (r : Wrote). noted r written) (w .answered) }
+tells (refuse number line) {written = written} w g n = record { answered = g ∙ ap told (w .answered); text-left = w .left; count-left = n ∙ ap (λ (r : Wrote). noted r written) (w .answered) }
+
+-- the report
+module _ (rows : List ℕ) (number room : ℕ) where
+  pub report-1 : (w : ℕ) → 255 < number → counted (report rows number room) w ≡ refuse 1 0
+  report-1 w h = simp (lt-ltb _ _ h)
+
+  pub report-4 : (w : ℕ) → number ≤ 255 → w < 1 → counted (report rows number room) w ≡ refuse 4 0
+  report-4 w h few = simp (le-ltb _ _ h) (go (ltb (length rows) (columns * (number + 1)) || ltb room (width * (number + 1))))
+    where
+      go : (b : Bool) → counted (cond b (refuse 4 0) (write (text rows number))) w ≡ refuse 4 0
+      go true = refl
+      go false = simp (lt-ltb _ _ few)
+
+  pub report-at-0 : {r : Wrote} → r ≡ answer (report rows number room) → lineOf r ≤ 65536
+  report-at-0 e = let z = ap lineOf e ∙ go (ltb 255 number) (ltb (length rows) (columns * (number + 1)) || ltb room (width * (number + 1))) in omega arith
+    where
+      go : (a b : Bool) → lineOf (answer (cond a (refuse 1 0) (cond b (refuse 4 0) (write (text rows number))))) ≡ 0
+      go true b = refl
+      go false true = refl
+      go false false = refl
+
+-- the line of a refusal
+module _ (number line room : ℕ) where
+  pub print-1-number : (w : ℕ) → 255 < number → counted (printRefusal number line room) w ≡ refuse 1 0
+  print-1-number w h = simp (lt-ltb _ _ h)
+
+  pub print-1-line : (w : ℕ) → number ≤ 255 → 4294967295 < line → counted (printRefusal number line room) w ≡ refuse 1 0
+  print-1-line w h h′ = simp (le-ltb _ _ h, lt-ltb _ _ h′)
+
+  pub print-4 : (w : ℕ) → number ≤ 255 → line ≤ 4294967295 → w < 1 → counted (printRefusal number line room) w ≡ refuse 4 0
+  print-4 w h h′ few = simp (le-ltb _ _ h, le-ltb _ _ h′) (go (ltb room 13))
+    where
+      go : (b : Bool) → counted (cond b (refuse 4 0) (write (refusalText number line))) w ≡ refuse 4 0
+      go true = refl
+      go false = simp (lt-ltb _ _ few)
+
+  pub print-at-0 : {r : Wrote} → r ≡ answer (printRefusal number line room) → lineOf r ≤ 65536
+  print-at-0 e = let z = ap lineOf e ∙ go (ltb 255 number || ltb 4294967295 line) (ltb room 13) in omega arith
+    where
+      go : (a b : Bool) → lineOf (answer (cond a (refuse 1 0) (cond b (refuse 4 0) (write (refusalText number line))))) ≡ 0
+      go true b = refl
+      go false true = refl
+      go false false = refl

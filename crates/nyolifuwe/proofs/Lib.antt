@@ -1,0 +1,2 @@
+mod Front
+mod Decided

@@ -1,0 +1,103 @@
+-- `nyolifuwe::nyo_write_line` meets its contract: each answer is what is decided by the tests that led to it. Assumes nothing.
+use Prim.Native.Nat.{ℕ, _≤_}
+use mathlib.Core.List.{List, _++_}
+use mathlib.Core.Path.{_≡_, ap, _∙_, sym}
+use native.Mathlib.Omega.{arith}
+use lib.ListN.{length, drop}
+use Rattle.line.specs.Write.{writeChars}
+use Rattle.report.specs.Room.{Decision, leave}
+use Rattle.report.proofs.Decisions.{fitting-text}
+use Rattle.nyolifuwe.specs.Lines.{fieldsIn}
+use Rattle.nyolifuwe.proofs.Decided.{refused, given, write-4-frame, write-4-out, write-framed, write-refused, framed-at-0, chars-length}
+use borrow.Author.Needs.{needs}
+use Rattle.nyolifuwe.proofs.nyo_write_line.Statement.{statement}
+use Rattle.nyolifuwe.proofs.nyo_write_line.Tie as tie
+
+returns : tie.Need-returns
+returns c =
+    let a = c .before .before .before .args in
+    refused 4 0 (a .out .now) (write-4-frame (a .frame .now) (length (a .out .now)) (c .if1 .taken))
+
+returns-2 : tie.Need-returns-2
+returns-2 c =
+    let a = c .before .before .before .before .args in
+    refused 4 0 (a .out .now) (write-4-out (a .frame .now) (length (a .out .now)) (c .before .if1 .left) (c .if2 .taken))
+
+shared-slice-read-frame-of : tie.Need-shared-slice-read-frame-of
+shared-slice-read-frame-of c = search needs
+
+shared-slice-read-frame-of-2 : tie.Need-shared-slice-read-frame-of-2
+shared-slice-read-frame-of-2 c = search needs
+
+shared-slice-read-frame-of-3 : tie.Need-shared-slice-read-frame-of-3
+shared-slice-read-frame-of-3 c = search needs
+
+shared-slice-read-frame-of-4 : tie.Need-shared-slice-read-frame-of-4
+shared-slice-read-frame-of-4 c = search needs
+
+shared-slice-read-frame-of-5 : tie.Need-shared-slice-read-frame-of-5
+shared-slice-read-frame-of-5 c = search needs
+
+frame-of-requires : tie.Need-frame-of-requires
+frame-of-requires c κs = search needs
+
+enum-known-f : tie.Need-enum-known-f
+enum-known-f c = search needs
+
+write-line-requires : tie.Need-write-line-requires
+write-line-requires c κs = search needs
+
+slice-aggregate-put-text : tie.Need-slice-aggregate-put-text
+slice-aggregate-put-text c = search needs
+
+put-text-requires : tie.Need-put-text-requires
+put-text-requires c κs = search needs
+
+enum-known-number : tie.Need-enum-known-number
+enum-known-number c = search needs
+
+code-requires : tie.Need-code-requires
+code-requires c κs = framed-at-0 (fieldsIn (c .before .before .before .before .before .before .before .before .before .before .before .before .before .args .frame .now)) _ _ (sym (c .before .before .before .frame-of .ensures) ∙ c .before .number .given .1)
+
+same-length : tie.Need-same-length
+same-length c = search needs
+
+returns-3 : tie.Need-returns-3
+returns-3 c =
+    let a = c .before .before .before .before .before .before .before .before .before .before .before .before .before .before .before .before .before .before .before .before .args in
+    let v = c .before .before .before .before .before .before .before .before .f .given in
+    let f = v .0 .1 .0 in
+    let decided = write-framed (a .frame .now) (length (a .out .now)) (c .before .before .before .before .before .before .before .before .before .before .before .before .before .before .before .before .before .if1 .left) (c .before .before .before .before .before .before .before .before .before .before .before .before .before .before .before .before .if2 .left) _ f (sym (c .before .before .before .before .before .before .before .before .before .before .frame-of .ensures) ∙ v .1) in
+    let s = c .before .before .before .before .before .before .write-line .result .chars in
+    let is : s ≡ writeChars f = c .before .before .before .before .before .before .write-line .ensures .1 in
+    let fit : length s ≤ length (a .out .now) = omega (arith, ap length is, chars-length f) in
+    given (writeChars f) (a .out .now) _ decided
+    (c .before .before .put-text .ensures .left ∙ ap (λ (d : Decision). leave d (a .out .now)) (fitting-text s (length (a .out .now)) fit) ∙ ap (λ (l : List ℕ). l ++ drop (length l) (a .out .now)) is)
+
+returns-4 : tie.Need-returns-4
+returns-4 c =
+    let a = c .before .before .before .before .before .before .before .before .before .before .before .before .before .before .args in
+    let decided = write-refused (a .frame .now) (length (a .out .now)) (c .before .before .before .before .before .before .before .before .before .before .before .if1 .left) (c .before .before .before .before .before .before .before .before .before .before .if2 .left) _ _ (sym (c .before .before .before .before .frame-of .ensures) ∙ c .before .before .number .given .1) in
+    rw (c .code .ensures) (refused _ _ (a .out .now) decided)
+
+pub nyo-write-line-spec : {M : Type 1} → statement M
+nyo-write-line-spec =
+    tie.close
+    (tie.spec
+    returns
+    returns-2
+    shared-slice-read-frame-of
+    shared-slice-read-frame-of-2
+    shared-slice-read-frame-of-3
+    shared-slice-read-frame-of-4
+    shared-slice-read-frame-of-5
+    frame-of-requires
+    enum-known-f
+    write-line-requires
+    slice-aggregate-put-text
+    put-text-requires
+    enum-known-number
+    code-requires
+    same-length
+    returns-3
+    returns-4)

@@ -1,0 +1,30 @@
+-- For proofs, not for the reader of the interface: what its private functions give.
+use Prim.Native.Nat.{ℕ}
+use mathlib.Core.Bool.{cond}
+use mathlib.Core.List.{List, _∷_}
+use lib.ListN.{drop}
+use Rattle.line.specs.declared.Read.{Read}
+use Rattle.line.specs.declared.Read.the-variants.{Refused as Unread}
+use Rattle.line.specs.declared.Wrote.{Wrote}
+use Rattle.line.specs.declared.Wrote.the-variants.{Chars, Refused}
+use Rattle.line.specs.Table.{Fields, table}
+use Rattle.line.specs.Read.{tabled}
+use Rattle.line.specs.Write.{narrow}
+use Rattle.nyolifuwe.specs.Code.{coded}
+
+-- the frame that five fields are, refusal 6 where one has no room in its digits or they are not as the table has them
+abbrev pub framedBy : Fields → Read
+framedBy x = cond (narrow x) (tabled (table x) 0) (Unread 6 0)
+
+-- a writer's answer: its code, the line in it, and what the room for the count then holds
+abbrev pub told : Wrote → ℕ
+told (Chars n) = 0
+told (Refused number line) = coded number line
+
+abbrev pub lineOf : Wrote → ℕ
+lineOf (Chars n) = 0
+lineOf (Refused number line) = line
+
+abbrev pub noted : Wrote → List ℕ → List ℕ
+noted (Chars n) written = n ∷ drop 1 written
+noted (Refused number line) written = written
