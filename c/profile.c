@@ -1,0 +1,110 @@
+/* profile [-d DEPTH] [-s SITES] [FILE]: prints the report of a trace, and on standard error a summary with the chosen
+ * chain. Without FILE it reads standard input. Ends with status 1 where the trace is refused, 2 where it cannot be read. */
+#include <errno.h>
+#include <inttypes.h>
+#include <stdio.h>
+#include <stdlib.h>
+#include <string.h>
+
+#include "nyolifuwe.h"
+
+static void fail(const char *what) {
+    fprintf(stderr, "profile: %s: %s\n", what, strerror(errno));
+    exit(2);
+}
+
+/* Memory for n elements of a size; never null. */
+static void *room(size_t n, size_t size) {
+    void *p = calloc(n + 1, size);
+    if (!p) fail("memory");
+    return p;
+}
+
+/* All of a file, and its length. */
+static uint8_t *read_all(FILE *file, const char *name, size_t *len) {
+    size_t most = 1 << 16;
+    uint8_t *text = room(most, 1);
+    *len = 0;
+    for (;;) {
+        *len += fread(text + *len, 1, most - *len, file);
+        if (*len < most) break;
+        most *= 2;
+        text = realloc(text, most);
+        if (!text) fail("memory");
+    }
+    if (ferror(file)) fail(name);
+    return text;
+}
+
+/* Prints a refusal as the report program does, and says on standard error what it is. */
+static int refuse(uint64_t answer) {
+    static const char *const why[] = {
+        [NYO_LIMITS] = "the depth limit is 1 to 64 and the site limit 0 to 255",
+        [NYO_LENGTH] = "the length is not a multiple of 23: a line is cut or has characters too many",
+        [NYO_TOO_MANY] = "there are more than 65,536 lines",
+        [NYO_ROOM] = "a lent slice is too short",
+        [NYO_CHARACTER] = "a character is not 0-9 or a-f, or the line feed is not the 23rd",
+        [NYO_TABLE] = "the kind is unknown, an unused field is not zero, or a value is outside the table",
+        [NYO_AFTER_END] = "the root has returned before this line",
+        [NYO_SITE_ORDER] = "site lines come first and are numbered 1, 2, 3 and on",
+        [NYO_SITE_LIMIT] = "the site's number is above the site limit: raise it with -s",
+        [NYO_PLACE] = "another site has the same file, line and column",
+        [NYO_UNDECLARED] = "the site that is called or spawned has no site line",
+        [NYO_DEPTH] = "more invocations are open than the depth limit: raise it with -d",
+        [NYO_OVERFLOW] = "a sum is beyond 64 bits",
+        [NYO_UNFINISHED] = "the lines end before the root's return",
+    };
+    uint8_t text[NYO_REFUSAL_CHARS];
+    uint64_t written = 0;
+    nyo_refusal(NYO_NUMBER(answer), NYO_LINE(answer), text, sizeof text, &written, 1);
+    fwrite(text, 1, written, stdout);
+    fprintf(stderr, "profile: refusal %u, line %" PRIu64 ": %s\n", NYO_NUMBER(answer), NYO_LINE(answer), why[NYO_NUMBER(answer)]);
+    return 1;
+}
+
+/* Prints the rows of an accepted trace, then what is on its chosen chain. */
+static void show(const uint64_t *rows, const uint64_t *answer, const uint8_t *marks) {
+    size_t most = NYO_REPORT_CHARS(answer[2]);
+    uint8_t *text = room(most, 1);
+    uint64_t written = 0;
+    nyo_report(rows, NYO_ROWS(answer[2]), answer[2], text, most, &written, 1);
+    fwrite(text, 1, written, stdout);
+    free(text);
+    fprintf(stderr, "work %" PRIu64 ", span %" PRIu64 ", %" PRIu64 " sites, %" PRIu64 " lines; on the chosen chain:", answer[0], answer[1], answer[2], answer[3]);
+    for (size_t line = 0; line < answer[3]; line++)
+        if (marks[line]) fprintf(stderr, " %zu", line);
+    fputc('\n', stderr);
+}
+
+int main(int argc, char **argv) {
+    uint64_t depth = 32, sites = 31, answer[NYO_ANSWER];
+    const char *name = "standard input";
+    FILE *file = stdin;
+    for (int i = 1; i < argc; i++) {
+        int limit = !strcmp(argv[i], "-d") || !strcmp(argv[i], "-s");
+        if (limit && i + 1 < argc) {
+            *(argv[i][1] == 'd' ? &depth : &sites) = strtoull(argv[i + 1], NULL, 10);
+            i++;
+        } else if (argv[i][0] == '-' || file != stdin) {
+            fprintf(stderr, "usage: profile [-d DEPTH] [-s SITES] [FILE]\n");
+            return 2;
+        } else if (!(file = fopen(name = argv[i], "rb"))) {
+            fail(name);
+        }
+    }
+    size_t len, lines;
+    uint8_t *trace = read_all(file, name, &len);
+    if (depth < 1 || depth > NYO_MOST_DEPTH || sites > NYO_MOST_SITES) return refuse(NYO_LIMITS);
+    lines = len / NYO_LINE_CHARS;
+    uint64_t *scratch = room(NYO_MARKS_SCRATCH(depth), sizeof *scratch), *rows = room(NYO_ROWS(sites), sizeof *rows);
+    uint8_t *marks = room(lines, 1);
+    uint64_t given = nyo_marks(trace, len, depth, sites, scratch, NYO_MARKS_SCRATCH(depth), marks, lines, rows,
+                               NYO_ROWS(sites), answer, NYO_ANSWER);
+    int status = 0;
+    if (given)
+        status = refuse(given);
+    else
+        show(rows, answer, marks);
+    free(trace), free(scratch), free(rows), free(marks);
+    return status;
+}

@@ -1,0 +1,237 @@
+/* Each exported function from C: what it answers, what it writes, and that nothing else that was lent or lies beside it
+ * changes. Expected numbers and texts are the rules' own. The last line printed is `N passed, 0 failed`. */
+#include <inttypes.h>
+#include <stdio.h>
+#include <string.h>
+
+#include "nyolifuwe.h"
+
+static unsigned passed, failed;
+
+static void check(int holds, const char *what, int line) {
+    if (holds) {
+        passed++;
+    } else {
+        failed++;
+        printf("test.c:%d: %s\n", line, what);
+    }
+}
+
+#define CHECK(holds) check(holds, #holds, __LINE__)
+
+/* Lent numbers or characters between two strips that are not lent, with what all of it held before. */
+enum { STRIP = 8, MOST = 4096 };
+
+typedef struct {
+    size_t len;
+    uint64_t now[STRIP + MOST + STRIP], before[STRIP + MOST + STRIP];
+} Numbers;
+
+typedef struct {
+    size_t len;
+    uint8_t now[STRIP + MOST + STRIP], before[STRIP + MOST + STRIP];
+} Chars;
+
+static uint64_t rubbish(void) {
+    static uint64_t x = 0x9e3779b97f4a7c15;
+    x ^= x << 13, x ^= x >> 7, x ^= x << 17;
+    return x;
+}
+
+static uint64_t *lend_numbers(Numbers *r, size_t len) {
+    r->len = len;
+    for (size_t i = 0; i < STRIP + MOST + STRIP; i++) r->now[i] = r->before[i] = rubbish();
+    return r->now + STRIP;
+}
+
+static uint8_t *lend_chars(Chars *r, size_t len) {
+    r->len = len;
+    for (size_t i = 0; i < STRIP + MOST + STRIP; i++) r->now[i] = r->before[i] = (uint8_t)rubbish();
+    return r->now + STRIP;
+}
+
+/* The room begins with these n numbers, and everything else is as it was. */
+static int numbers_are(const Numbers *r, const uint64_t *expected, size_t n) {
+    return !memcmp(r->now, r->before, STRIP * sizeof *r->now) && !memcmp(r->now + STRIP, expected, n * sizeof *expected) &&
+           !memcmp(r->now + STRIP + n, r->before + STRIP + n, (MOST + STRIP - n) * sizeof *r->now);
+}
+
+static int chars_are(const Chars *r, const void *expected, size_t n) {
+    return !memcmp(r->now, r->before, STRIP) && !memcmp(r->now + STRIP, expected, n) &&
+           !memcmp(r->now + STRIP + n, r->before + STRIP + n, MOST + STRIP - n);
+}
+
+static int numbers_unchanged(const Numbers *r) { return numbers_are(r, r->before + STRIP, 0); }
+
+static int chars_unchanged(const Chars *r) { return chars_are(r, r->before + STRIP, 0); }
+
+static const uint64_t zeros[MOST];
+
+#define TEXT(s) (const uint8_t *)(s), sizeof(s) - 1
+
+static Numbers frame, written, scratch, rows, answer;
+static Chars out, marks;
+
+static uint64_t read_line(const uint8_t *line, size_t len, size_t room) {
+    uint64_t *to = lend_numbers(&frame, room);
+    return nyo_read_line(line, len, to, room);
+}
+
+static void lines_are_read(void) {
+    CHECK(read_line(TEXT("0100020000001400010009\n"), 5) == 0);
+    CHECK(numbers_are(&frame, (const uint64_t[]){1, 2, 20, 1, 9}, 5));
+    CHECK(read_line(TEXT("060000ffffffff00000000\n"), 9) == 0);
+    CHECK(numbers_are(&frame, (const uint64_t[]){6, 0, 4294967295, 0, 0}, 5));
+    CHECK(read_line(TEXT("0500000000000000000000"), 5) == 2 && numbers_unchanged(&frame));
+    CHECK(read_line(TEXT("0500000000000000000000\n\n"), 0) == 2 && numbers_unchanged(&frame));
+    CHECK(read_line(TEXT("0g00000000000000000000\n"), 4) == 4 && numbers_unchanged(&frame));
+    CHECK(read_line(TEXT("0A00000000000000000000\n"), 5) == 5 && numbers_unchanged(&frame));
+    CHECK(read_line(TEXT("0700000000000000000000\n"), 5) == 6 && numbers_unchanged(&frame));
+    CHECK(read_line(TEXT("0600000000000000000000\n"), 5) == 6 && numbers_unchanged(&frame));
+}
+
+static uint64_t write_line(const uint64_t *numbers, size_t n, size_t room) {
+    uint8_t *to = lend_chars(&out, room);
+    return nyo_write_line(numbers, n, to, room);
+}
+
+static void lines_are_written(void) {
+    CHECK(write_line((const uint64_t[]){1, 2, 20, 1, 9}, 5, 23) == 0);
+    CHECK(chars_are(&out, "0100020000001400010009\n", 23));
+    CHECK(write_line((const uint64_t[]){3, 65535, 0, 0, 0, 77}, 6, 30) == 0);
+    CHECK(chars_are(&out, "03ffff0000000000000000\n", 23));
+    CHECK(write_line((const uint64_t[]){9, 0, 0, 0}, 4, 23) == 4 && chars_unchanged(&out));
+    CHECK(write_line((const uint64_t[]){9, 0, 0, 0, 0}, 5, 22) == 4 && chars_unchanged(&out));
+    CHECK(write_line((const uint64_t[]){2, 65536, 0, 0, 0}, 5, 23) == 6 && chars_unchanged(&out));
+    CHECK(write_line((const uint64_t[]){256 + 5, 0, 0, 0, 0}, 5, 23) == 6 && chars_unchanged(&out));
+    CHECK(write_line((const uint64_t[]){6, 0, UINT64_C(1) << 32, 0, 0}, 5, 23) == 6 && chars_unchanged(&out));
+    CHECK(write_line((const uint64_t[]){1, 1, 1, 1, 0}, 5, 23) == 6 && chars_unchanged(&out));
+}
+
+/* The example of the rules: call 1 {spawn 2 {7}, 1}, 2. */
+static const char case_i[] =
+    "0100010000000a00010005\n"
+    "0100020000001400010009\n"
+    "0200010000000000000000\n"
+    "0300020000000000000000\n"
+    "0600000000000700000000\n"
+    "0500000000000000000000\n"
+    "0600000000000100000000\n"
+    "0500000000000000000000\n"
+    "0600000000000200000000\n"
+    "0500000000000000000000\n";
+
+static const uint64_t case_i_rows[] = {1, 10, 9, 2, 2, 1, 8, 7, 1, 0, 1, 7, 7, 7, 7};
+
+static const char case_i_report[] =
+    "00000000000000000001000000000000000a000000000000000900000000000000020000000000000002\n"
+    "000100000000000000010000000000000008000000000000000700000000000000010000000000000000\n"
+    "000200000000000000010000000000000007000000000000000700000000000000070000000000000007\n";
+
+static uint64_t report(size_t n, uint64_t count, size_t room, size_t count_room) {
+    uint8_t *text = lend_chars(&out, room);
+    uint64_t *to = lend_numbers(&written, count_room);
+    return nyo_report(case_i_rows, n, count, text, room, to, count_room);
+}
+
+static int nothing_written(void) { return chars_unchanged(&out) && numbers_unchanged(&written); }
+
+static void reports_are_written(void) {
+    CHECK(report(15, 2, 255, 1) == 0);
+    CHECK(chars_are(&out, case_i_report, 255) && numbers_are(&written, (const uint64_t[]){255}, 1));
+    CHECK(report(15, 0, 300, 3) == 0);
+    CHECK(chars_are(&out, case_i_report, 85) && numbers_are(&written, (const uint64_t[]){85}, 1));
+    CHECK(report(15, 256, 0, 0) == 1 && nothing_written());
+    CHECK(report(15, UINT64_MAX, 255, 1) == 1 && nothing_written());
+    CHECK(report(14, 2, 255, 1) == 4 && nothing_written());
+    CHECK(report(15, 2, 254, 1) == 4 && nothing_written());
+    CHECK(report(15, 2, 255, 0) == 4 && nothing_written());
+}
+
+static uint64_t refusal(uint64_t number, uint64_t line, size_t room, size_t count_room) {
+    uint8_t *text = lend_chars(&out, room);
+    uint64_t *to = lend_numbers(&written, count_room);
+    return nyo_refusal(number, line, text, room, to, count_room);
+}
+
+static void refusals_are_written(void) {
+    CHECK(refusal(14, 65536, 13, 1) == 0);
+    CHECK(chars_are(&out, "ff0e00010000\n", 13) && numbers_are(&written, (const uint64_t[]){13}, 1));
+    CHECK(refusal(3, 0, 20, 2) == 0 && chars_are(&out, "ff0300000000\n", 13));
+    CHECK(refusal(256, 0, 0, 0) == 1 && nothing_written());
+    CHECK(refusal(14, UINT64_C(1) << 32, 13, 1) == 1 && nothing_written());
+    CHECK(refusal(14, 0, 12, 1) == 4 && nothing_written());
+    CHECK(refusal(14, 0, 13, 0) == 4 && nothing_written());
+}
+
+/* Both engines on a trace, with so many numbers less lent than needed for scratch, rows, answer and marks. */
+typedef struct {
+    size_t scratch, rows, answer, marks;
+} Short;
+
+static uint64_t tables(const char *trace, size_t len, uint64_t depth, uint64_t sites, Short less) {
+    size_t s = NYO_TABLES_SCRATCH(depth, sites) - less.scratch, r = NYO_ROWS(sites) - less.rows, a = NYO_ANSWER - less.answer;
+    uint64_t *to_scratch = lend_numbers(&scratch, s), *to_rows = lend_numbers(&rows, r), *to_answer = lend_numbers(&answer, a);
+    return nyo_tables((const uint8_t *)trace, len, depth, sites, to_scratch, s, to_rows, r, to_answer, a);
+}
+
+static uint64_t marked(const char *trace, size_t len, uint64_t depth, uint64_t sites, Short less) {
+    size_t s = NYO_MARKS_SCRATCH(depth) - less.scratch, r = NYO_ROWS(sites) - less.rows, a = NYO_ANSWER - less.answer;
+    size_t m = len / NYO_LINE_CHARS - less.marks;
+    uint64_t *to_scratch = lend_numbers(&scratch, s), *to_rows = lend_numbers(&rows, r), *to_answer = lend_numbers(&answer, a);
+    uint8_t *to_marks = lend_chars(&marks, m);
+    return nyo_marks((const uint8_t *)trace, len, depth, sites, to_scratch, s, to_marks, m, to_rows, r, to_answer, a);
+}
+
+static int numbers_kept(void) { return numbers_unchanged(&scratch) && numbers_unchanged(&rows) && numbers_unchanged(&answer); }
+
+/* Both engines refuse alike and change nothing. */
+static int both_refuse(const char *trace, size_t len, uint64_t depth, uint64_t sites, Short less, uint64_t expected) {
+    int kept = tables(trace, len, depth, sites, less) == expected && numbers_kept();
+    return kept && marked(trace, len, depth, sites, less) == expected && numbers_kept() && chars_unchanged(&marks);
+}
+
+static int profile_is(const uint64_t *expected_rows, size_t n, const uint64_t *expected_answer) {
+    return numbers_are(&rows, expected_rows, n) && numbers_are(&answer, expected_answer, NYO_ANSWER) &&
+           numbers_are(&scratch, zeros, scratch.len);
+}
+
+static void traces_are_profiled(void) {
+    const Short enough = {0, 0, 0, 0};
+    const uint64_t totals[] = {10, 9, 2, 10};
+    size_t len = sizeof case_i - 1;
+    CHECK(tables(case_i, len, 4, 3, enough) == 0 && profile_is(case_i_rows, 15, totals));
+    CHECK(marked(case_i, len, 4, 3, enough) == 0 && profile_is(case_i_rows, 15, totals));
+    CHECK(chars_are(&marks, "\0\0\0\0\1\0\0\0\1\0", 10));
+    const char lone[] = "0500000000000000000000\n";
+    CHECK(tables(lone, 23, 1, 0, enough) == 0 && profile_is((const uint64_t[]){1, 0, 0, 0, 0}, 5, (const uint64_t[]){0, 0, 0, 1}));
+    CHECK(marked(lone, 23, 1, 0, enough) == 0 && profile_is((const uint64_t[]){1, 0, 0, 0, 0}, 5, (const uint64_t[]){0, 0, 0, 1}));
+}
+
+static void traces_are_refused(void) {
+    const Short enough = {0, 0, 0, 0};
+    size_t len = sizeof case_i - 1;
+    CHECK(both_refuse(case_i, len, 0, 2, enough, 1));
+    CHECK(both_refuse(case_i, len, 65, 2, enough, 1));
+    CHECK(both_refuse(case_i, len, 4, 256, enough, 1));
+    CHECK(both_refuse(case_i, len - 1, 4, 2, (Short){1, 0, 0, 0}, 2));
+    CHECK(both_refuse(case_i, len, 4, 2, (Short){1, 0, 0, 0}, 4));
+    CHECK(both_refuse(case_i, len, 4, 2, (Short){0, 1, 0, 0}, 4));
+    CHECK(both_refuse(case_i, len, 4, 2, (Short){0, 0, 1, 0}, 4));
+    CHECK(marked(case_i, len, 4, 2, (Short){0, 0, 0, 1}) == 4 && numbers_kept() && chars_unchanged(&marks));
+    CHECK(both_refuse(case_i, len, 4, 1, enough, 9 + 256 * 1));
+    CHECK(both_refuse(case_i, len, 2, 2, enough, 12 + 256 * 3));
+    CHECK(both_refuse(case_i, len - 23, 4, 2, enough, 14 + 256 * 9));
+    CHECK(both_refuse(case_i, 0, 4, 2, enough, 14));
+}
+
+int main(void) {
+    lines_are_read();
+    lines_are_written();
+    reports_are_written();
+    refusals_are_written();
+    traces_are_profiled();
+    traces_are_refused();
+    printf("%u passed, %u failed\n", passed, failed);
+    return failed != 0;
+}

@@ -1,0 +1,125 @@
+/* Nyolifuwe: work, span and the chosen chain of a fork-join trace, by a proved library.
+ *
+ * A trace is text: lines of 23 characters, each 22 digits (0-9, a-f) and a line feed. The digits are five fields, most
+ * significant digit first: kind (2), site (4), value (8), file (4), column (4). Unused fields are zero.
+ *
+ *     kind  meaning  used fields
+ *     01    site     site; value = source line; file; column, the last three each at least 1
+ *     02    call     site
+ *     03    spawn    site
+ *     04    sync     none
+ *     05    return   none
+ *     06    cost     value, at least 1
+ *
+ * Every function answers 0 where it accepts, and otherwise a refusal: its number + 256 times its line, lines numbered
+ * from 0. A refusal changes nothing that was lent. Where several refusals apply, the one with the smallest number is
+ * given, except that refusals 5 and above of a trace are those of its first faulty line.
+ *
+ * All memory is the caller's: no function allocates, keeps a pointer, prints, or has state. Calls on memory that
+ * does not overlap may run at the same time. Every slice passes as a pointer and the number of its elements. A pointer
+ * is not null, even with length 0, and is aligned for its type; what is lent for writing overlaps nothing else
+ * that is lent. That is all a caller owes: any bytes, numbers and lengths are answered. What lent room held
+ * before makes no difference, and longer room than needed is left alone past what is needed, the scratch
+ * excepted, which is zero from end to end after an accepted trace.
+ */
+#ifndef NYOLIFUWE_H
+#define NYOLIFUWE_H
+
+#include <stddef.h>
+#include <stdint.h>
+
+#ifdef __cplusplus
+extern "C" {
+#endif
+
+/* A refusal's number and line, from what a function answered. */
+#define NYO_NUMBER(answer) ((unsigned)((answer) & 255))
+#define NYO_LINE(answer) ((uint64_t)(answer) >> 8)
+
+/* The limits: depth 1 to 64, counting the root; sites 0 to 255; lines. */
+#define NYO_MOST_DEPTH 64
+#define NYO_MOST_SITES 255
+#define NYO_MOST_LINES 65536
+
+/* Characters of a trace line, of a report line and of a printed refusal. */
+#define NYO_LINE_CHARS 23
+#define NYO_ROW_CHARS 85
+#define NYO_REFUSAL_CHARS 13
+
+/* Numbers of a frame, of a row and of an answer. */
+#define NYO_FRAME 5
+#define NYO_COLUMNS 5
+#define NYO_ANSWER 4
+
+/* The room that each function needs, in elements. */
+#define NYO_TABLES_SCRATCH(depth, sites) (4 * (size_t)(depth) * ((size_t)(sites) + 3))
+#define NYO_MARKS_SCRATCH(depth) (8 * (size_t)(depth))
+#define NYO_ROWS(sites) (NYO_COLUMNS * ((size_t)(sites) + 1))
+#define NYO_REPORT_CHARS(count) (NYO_ROW_CHARS * ((size_t)(count) + 1))
+
+/* The refusals. */
+enum {
+    NYO_LIMITS = 1,      /* depth, sites, count, number or line outside its range */
+    NYO_LENGTH = 2,      /* length not a multiple of 23; for one line, not 23 */
+    NYO_TOO_MANY = 3,    /* more than 65,536 lines */
+    NYO_ROOM = 4,        /* a lent slice is shorter than stated */
+    NYO_CHARACTER = 5,   /* a wrong character in the line */
+    NYO_TABLE = 6,       /* unknown kind, unused field not zero, or a value outside the table */
+    NYO_AFTER_END = 7,   /* a line after the root's return */
+    NYO_SITE_ORDER = 8,  /* a site line after another kind, or not numbered one above the last */
+    NYO_SITE_LIMIT = 9,  /* a site line whose number is above the site limit */
+    NYO_PLACE = 10,      /* a place already declared */
+    NYO_UNDECLARED = 11, /* call or spawn of site 0 or of one not declared */
+    NYO_DEPTH = 12,      /* more invocations open than the depth limit */
+    NYO_OVERFLOW = 13,   /* total work or a row number beyond 64 bits: never within the limits above */
+    NYO_UNFINISHED = 14  /* lines end before the root's return; the line is the number of lines */
+};
+
+/* Profiles a trace with the table engine.
+ *
+ * depth and sites are the limits that the caller sets, and decide the room:
+ *   scratch  NYO_TABLES_SCRATCH(depth, sites)   all zero afterwards
+ *   rows     NYO_ROWS(sites)                    row 0 is the root, row s site s; five numbers each:
+ *                                               calls, work, span, local, on span
+ *   answer   NYO_ANSWER                         total work, total span, number of sites, number of lines
+ * Of rows the numbers of the root and of the declared sites are written.
+ * Refusals: 1 to 4 in that order with line 0, then 5 to 12 of the first faulty line, then 14. */
+uint64_t nyo_tables(const uint8_t *trace, size_t trace_len, uint64_t depth, uint64_t sites, uint64_t *scratch,
+                    size_t scratch_len, uint64_t *rows, size_t rows_len, uint64_t *answer, size_t answer_len);
+
+/* Profiles a trace with the marks engine: the same answer, rows and refusals as nyo_tables, and
+ *   scratch  NYO_MARKS_SCRATCH(depth)           all zero afterwards
+ *   marks    one byte a line                    1 for a line on the chosen chain, 0 for any other
+ * The chosen chain is, among the heaviest chains of cost lines that are in series, the one that comes first. */
+uint64_t nyo_marks(const uint8_t *trace, size_t trace_len, uint64_t depth, uint64_t sites, uint64_t *scratch,
+                   size_t scratch_len, uint8_t *marks, size_t marks_len, uint64_t *rows, size_t rows_len,
+                   uint64_t *answer, size_t answer_len);
+
+/* Reads one trace line into a frame of NYO_FRAME numbers: kind, site, value, file, column.
+ * Refusals, each with line 0: 2 unless it is lent exactly 23 characters, 4, 5, 6. */
+uint64_t nyo_read_line(const uint8_t *line, size_t line_len, uint64_t *frame, size_t frame_len);
+
+/* Writes a frame, the first five numbers lent, as a line of NYO_LINE_CHARS characters.
+ * Refusals, each with line 0: 4 for fewer than five numbers or too little room, then 6 where a field breaks the table. */
+uint64_t nyo_write_line(const uint64_t *frame, size_t frame_len, uint8_t *out, size_t out_len);
+
+/* Writes the report of the root and count sites: of each row a line, and into written[0] how many characters they are.
+ *   rows     NYO_ROWS(count)
+ *   out      NYO_REPORT_CHARS(count)
+ *   written  1
+ * Refusals, each with line 0: 1 for a count above 255, then 4. */
+uint64_t nyo_report(const uint64_t *rows, size_t rows_len, uint64_t count, uint8_t *out, size_t out_len,
+                    uint64_t *written, size_t written_len);
+
+/* Writes a refusal as the report program prints it: ff, its number in 2 digits, its line in 8, a line feed.
+ *   out      NYO_REFUSAL_CHARS
+ *   written  1
+ * Refusals, each with line 0: 1 for a number above 255 or a line above 4,294,967,295, then 4. */
+uint64_t nyo_refusal(uint64_t number, uint64_t line, uint8_t *out, size_t out_len, uint64_t *written,
+                     size_t written_len);
+
+#ifdef __cplusplus
+}
+#endif
+
+#endif
