@@ -1,0 +1,4 @@
+pub mod Lists
+pub mod Choose
+pub mod Parts
+pub mod Laws

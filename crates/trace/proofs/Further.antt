@@ -1,0 +1,67 @@
+-- The further traces of document 01 and one for each refusal: the verdict, computed.
+use mathlib.Core.Path.{_≡_, refl}
+use mathlib.Core.Bool.{Bool, true, false}
+use mathlib.Core.List.{List, [], _∷_, _++_, map}
+use Prim.Native.Nat.{ℕ}
+use lib.ListN.{length, take, replicate}
+use Rattle.line.specs.declared.Frame.{Frame}
+use Rattle.line.specs.declared.Frame.the-variants.{Site, Call, Return, Cost}
+use Rattle.trace.specs.Refusals.{Verdict, accepted, refused, verdict}
+use Rattle.trace.specs.Twelve.{text}
+
+record Ask : Type 0 where
+  trace : List ℕ
+  D : ℕ
+  M : ℕ
+  room : Bool
+  gives : Verdict
+
+-- a text of whole lines, with room enough
+abbrev ask : List ℕ → ℕ → ℕ → Verdict → Ask
+ask l d m v = record { trace = text l; D = d; M = m; room = true; gives = v }
+
+abbrev asks : List Ask
+asks =
+    -- "the empty file (14, line 0)", "a lone return (accepted)", "a well-formed line after it (7)"
+    ask [] 4 2 (refused 14 0)
+    ∷ ask (0x0500000000000000000000 ∷ []) 4 2 (accepted (Return ∷ []))
+    ∷ ask (0x0500000000000000000000 ∷ 0x0600000000000100000000 ∷ []) 4 2 (refused 7 1)
+    -- "call 2 with one site (11)", site 0, "D = 1 and a call (12)"
+    ∷ ask (0x0100010000000a00010005 ∷ 0x0200020000000000000000 ∷ 0x0500000000000000000000 ∷ 0x0500000000000000000000 ∷ []) 4 2 (refused 11 1)
+    ∷ ask (0x0200000000000000000000 ∷ []) 4 2 (refused 11 0)
+    ∷ ask (0x0100010000000a00010005 ∷ 0x0200010000000000000000 ∷ 0x0500000000000000000000 ∷ 0x0500000000000000000000 ∷ []) 1 2 (refused 12 1)
+    -- "M and M+1 sites"
+    ∷ ask (0x0100010000000a00010005 ∷ 0x0500000000000000000000 ∷ []) 4 1 (accepted (Site 1 (record { file = 1; line = 10; column = 5 }) ∷ Return ∷ []))
+    ∷ ask (0x0100010000000a00010005 ∷ 0x0100020000001400010009 ∷ 0x0500000000000000000000 ∷ []) 4 1 (refused 9 1)
+    -- "cost 0 (6)", an unknown kind, a place without a column, an unused field
+    ∷ ask (0x0600000000000000000000 ∷ []) 4 2 (refused 6 0)
+    ∷ ask (0x0700000000000000000000 ∷ []) 4 2 (refused 6 0)
+    ∷ ask (0x0100010000000a00010000 ∷ []) 4 2 (refused 6 0)
+    ∷ ask (0x0500010000000000000000 ∷ []) 4 2 (refused 6 0)
+    -- the same place again, a number again, a site behind a cost
+    ∷ ask (0x0100010000000a00010005 ∷ 0x0100020000000a00010005 ∷ []) 4 2 (refused 10 1)
+    ∷ ask (0x0100010000000a00010005 ∷ 0x0100010000000a00010006 ∷ []) 4 2 (refused 8 1)
+    ∷ ask (0x0600000000000100000000 ∷ 0x0100010000000a00010005 ∷ []) 4 2 (refused 8 1)
+    -- within a line the smallest number: 7 before 11, but 6 and 5 before 7; 8 before 9 and 10
+    ∷ ask (0x0500000000000000000000 ∷ 0x0200000000000000000000 ∷ []) 4 2 (refused 7 1)
+    ∷ ask (0x0500000000000000000000 ∷ 0x0600000000000000000000 ∷ []) 4 2 (refused 6 1)
+    ∷ record { trace = text (0x0500000000000000000000 ∷ []) ++ (103 ∷ take 22 (text (0x0500000000000000000000 ∷ []))); D = 4; M = 2; room = true; gives = refused 5 1 }
+    ∷ ask (0x0100010000000a00010005 ∷ 0x0100030000000a00010005 ∷ []) 4 1 (refused 8 1)
+    -- no line feed
+    ∷ record { trace = replicate 23 48; D = 4; M = 2; room = true; gives = refused 5 0 }
+    -- the limits, then the length, then the room
+    ∷ record { trace = 48 ∷ []; D = 0; M = 2; room = false; gives = refused 1 0 }
+    ∷ ask [] 65 2 (refused 1 0)
+    ∷ ask [] 64 256 (refused 1 0)
+    ∷ record { trace = 48 ∷ []; D = 4; M = 2; room = false; gives = refused 2 0 }
+    ∷ record { trace = []; D = 4; M = 2; room = false; gives = refused 4 0 }
+    ∷ []
+
+abbrev gives : Ask → Verdict
+gives a = a .gives
+
+abbrev given : Ask → Verdict
+given a = verdict (a .trace) (a .D) (a .M) (a .room)
+
+pub further : map given asks ≡ map gives asks
+further = refl

@@ -1,0 +1,92 @@
+-- What each engine promises: the answer, and what each lent slice holds afterwards.
+use Prim.Native.Nat.{ℕ, _+_, _*_, _≤_, _<_}
+use mathlib.Core.Path.{_≡_}
+use mathlib.Core.Bool.{Bool, cond, _&&_}
+use mathlib.Core.List.{List}
+use lib.Dec.{leb}
+use lib.ListN.{length, getD, replicate}
+use Rattle.line.specs.declared.Frame.{Frame}
+use Rattle.trace.specs.declared.Answer.{Answer}
+use Rattle.trace.specs.declared.Answer.the-variants.{Accepted, Refused}
+use Rattle.trace.specs.Shape.{root, has, sites}
+use Rattle.trace.specs.Series.{Span, Chosen}
+use Rattle.trace.specs.Rows.{columns, total, calls, work, Spans, local, onSpan}
+use Rattle.trace.specs.Refusals.{lineCount, Verdict, accepted, refused, verdict}
+
+pub data Engine : Type 0 where
+  tables marks : Engine
+
+-- the lent slices; the table engine is lent no marks, which are [] for it
+pub record Lent : Type 0 where
+  pub scratch : List ℕ
+  pub rows : List ℕ
+  pub marks : List ℕ
+
+-- "The table engine needs 4·D·(M+3) scratch numbers of 64 bits"; "The marks engine needs 8·D"
+abbrev pub scratchRoom : Engine → ℕ → ℕ → ℕ
+scratchRoom tables D M = 4 * D * (M + 3)
+scratchRoom marks D M = 8 * D
+
+-- "and one byte of marks a line"
+abbrev pub marksRoom : Engine → List ℕ → ℕ
+marksRoom tables s = 0
+marksRoom marks s = lineCount s
+
+-- "Both need 5·(M+1) row numbers."
+abbrev pub rowsRoom : ℕ → ℕ
+rowsRoom M = columns * (M + 1)
+
+-- no lent slice is "shorter than stated"
+abbrev pub enough : Engine → List ℕ → ℕ → ℕ → Lent → Bool
+enough e s D M lent = leb (scratchRoom e D M) (length (lent .scratch)) && leb (rowsRoom M) (length (lent .rows)) && leb (marksRoom e s) (length (lent .marks))
+
+-- "Accepted: total work, total span, number of sites, number of lines."
+abbrev pub acceptance : List Frame → ℕ → Answer
+acceptance t span = Accepted (total t) span (sites t) (length t)
+
+-- "Refused: a number and a line."
+abbrev pub refusal : ℕ → ℕ → Answer
+refusal number line = Refused number line
+
+-- row s of the rows; c is the chosen chain
+pub record Row (t : List Frame) (c : List ℕ) (rows : List ℕ) (s : ℕ) : Type 0 where
+  pub calls-is : getD rows (columns * s) 0 ≡ calls t s
+  pub work-is : getD rows (columns * s + 1) 0 ≡ work t s
+  pub span-is : Spans t s (getD rows (columns * s + 2) 0)
+  pub local-is : getD rows (columns * s + 3) 0 ≡ local t s
+  pub on-span-is : getD rows (columns * s + 4) 0 ≡ onSpan t c s
+
+-- "Row numbers 0 to 5·(sites+1)-1 hold the rows and the rest are unchanged."
+pub record Rows (t : List Frame) (c before after : List ℕ) : Type 0 where
+  pub same-length : length after ≡ length before
+  pub rows-are : (s : ℕ) → s ≤ sites t → Row t c after s
+  pub rest : (i : ℕ) → columns * (sites t + 1) ≤ i → getD after i 0 ≡ getD before i 0
+
+-- "A mark is 1 for a line on the chosen chain, 0 for any other; marks past the last line are unchanged."
+pub record Marks (t : List Frame) (c before after : List ℕ) : Type 0 where
+  pub same-length : length after ≡ length before
+  pub marks-are : (k : ℕ) → k < length t → getD after k 0 ≡ cond (has k c) 1 0
+  pub rest : (k : ℕ) → length t ≤ k → getD after k 0 ≡ getD before k 0
+
+-- what becomes of the marks: the table engine leaves them alone
+abbrev pub Marked : Engine → List Frame → List ℕ → List ℕ → List ℕ → Type 0
+Marked tables t c before after = after ≡ before
+Marked marks t c before after = Marks t c before after
+
+-- what comes back of an accepted trace
+pub record Profile (e : Engine) (t : List Frame) (before : Lent) (r : Answer) (after : Lent) : Type 0 where
+  pub chain : List ℕ
+  pub chosen : Chosen t chain
+  pub span : ℕ
+  pub is-span : Span t root span
+  pub answer : r ≡ acceptance t span
+  pub rows : Rows t chain (before .rows) (after .rows)
+  -- "The whole scratch is zero."
+  pub scratch : after .scratch ≡ replicate (length (before .scratch)) 0
+  pub marked : Marked e t chain (before .marks) (after .marks)
+
+-- The engine e, lent the text s with limits D and M, and the room before, answers r and leaves after.
+-- "Every lent slice, scratch included, is unchanged" where it refuses.
+pub record Promise (e : Engine) (s : List ℕ) (D M : ℕ) (before : Lent) (r : Answer) (after : Lent) : Type 0 where
+  pub when-accepted : (t : List Frame) → verdict s D M (enough e s D M before) ≡ accepted t → Profile e t before r after
+  pub when-refused : (number line : ℕ) → verdict s D M (enough e s D M before) ≡ refused number line → (r ≡ refusal number line) × (after ≡ before)

@@ -1,0 +1,140 @@
+-- The refusals, each under its number, and the verdict on a text. Those of a line are asked with the lines before it, which have none.
+use Prim.Native.Nat.{ℕ, zero, suc, _/_, _%_}
+use mathlib.Core.Bool.{Bool, true, false, not, cond, _&&_, _||_}
+use mathlib.Core.List.{List, [], _∷_, _++_}
+use lib.ListN.{length}
+use lib.Dec.{eqb, ltb, leb}
+use Rattle.line.specs.declared.Place.{Place}
+use Rattle.line.specs.declared.Frame.{Frame}
+use Rattle.line.specs.declared.Read.{Read}
+use Rattle.line.specs.declared.Read.the-variants.{Line, Refused}
+use Rattle.line.specs.Read.{readAt}
+use Rattle.trace.specs.Shape.{ifSite, ifMakes, openAt, sites}
+use Rattle.trace.specs.Rows.{calls, work, local, total}
+
+-- 1: "D or M outside its range": "a depth limit D, 1 to 64, counting the root, and a site limit M, 0 to 255"
+abbrev pub outOfRange : ℕ → ℕ → Bool
+outOfRange D M = not (leb 1 D && leb D 64 && leb M 255)
+
+-- 2: "length not a multiple of 23"
+abbrev pub broken : List ℕ → Bool
+broken s = not (eqb (length s % 23) 0)
+
+-- the number of lines of a text
+abbrev pub lineCount : List ℕ → ℕ
+lineCount s = length s / 23
+
+-- 3: "more than 65,536 lines"
+abbrev pub tooMany : List ℕ → Bool
+tooMany s = ltb 65536 (lineCount s)
+
+-- the invocations open behind the last of the lines
+abbrev pub openNow : List Frame → List ℕ
+openNow t = openAt t (length t)
+
+abbrev pub empty : List ℕ → Bool
+empty [] = true
+empty (x ∷ o) = false
+
+-- 7: "a line after the root's return"
+abbrev pub afterRoot : List Frame → Bool
+afterRoot before = empty (openNow before)
+
+-- "All site lines come first": a site line does not follow another kind
+abbrev pub allSites : List Frame → Bool
+allSites t = eqb (sites t) (length t)
+
+-- the number of the last site line, n where there is none
+abbrev pub lastSite : ℕ → List Frame → ℕ
+lastSite n [] = n
+lastSite n (f ∷ t) = ifSite (λ s p. lastSite s t) (lastSite n t) f
+
+-- 8: "a site line after another kind, or not numbered one above the last (the first is 1)"
+abbrev pub misplaced : List Frame → Frame → Bool
+misplaced before f = ifSite (λ s p. not (allSites before) || not (eqb s (suc (lastSite 0 before)))) false f
+
+-- 9: "a site line whose number is above M"
+abbrev pub aboveM : ℕ → Frame → Bool
+aboveM M f = ifSite (λ s p. ltb M s) false f
+
+-- "its place: file, line and column"
+abbrev pub samePlace : Place → Place → Bool
+samePlace p q = eqb (p .file) (q .file) && eqb (p .line) (q .line) && eqb (p .column) (q .column)
+
+abbrev pub placed : Place → List Frame → Bool
+placed p [] = false
+placed p (f ∷ t) = ifSite (λ s q. samePlace p q || placed p t) (placed p t) f
+
+-- 10: "a place already declared"
+abbrev pub placeAgain : List Frame → Frame → Bool
+placeAgain before f = ifSite (λ s p. placed p before) false f
+
+abbrev pub declared : ℕ → List Frame → Bool
+declared s [] = false
+declared s (f ∷ t) = ifSite (λ i p. eqb s i || declared s t) (declared s t) f
+
+-- 11: "call or spawn of site 0 or one not declared"
+abbrev pub undeclared : List Frame → Frame → Bool
+undeclared before f = ifMakes (λ s. eqb s 0 || not (declared s before)) false f
+
+-- 12: "more than D invocations open", the one that this line opens among them
+abbrev pub tooDeep : ℕ → List Frame → Frame → Bool
+tooDeep D before f = ifMakes (λ s. ltb D (suc (length (openNow before)))) false f
+
+-- "beyond 64 bits": 2 ^ 64 or more
+abbrev pub wide : ℕ → Bool
+wide n = leb 18446744073709551616 n
+
+-- Some row from 0 to s has one of the numbers calls, work and local beyond 64 bits. A span is never above the work beside it, nor an
+-- on-span number above the local beside it (proved), so these two need no test of their own.
+abbrev pub wideRows : List Frame → ℕ → Bool
+wideRows t zero = wide (calls t 0) || wide (work t 0) || wide (local t 0)
+wideRows t (suc s) = (wide (calls t (suc s)) || wide (work t (suc s)) || wide (local t (suc s))) || wideRows t s
+
+-- 13: "total work or a row number, counted up to this line, beyond 64 bits": of the lines up to this one, as they stand
+abbrev pub beyond : List Frame → Frame → Bool
+beyond before f = wide (total (before ++ f ∷ [])) || wideRows (before ++ f ∷ []) (sites (before ++ f ∷ []))
+
+-- the smallest number from 7 to 13 that applies to the line; 0 where none does
+abbrev pub fault : ℕ → ℕ → List Frame → Frame → ℕ
+fault D M before f =
+    cond (afterRoot before) 7
+    (cond (misplaced before f) 8
+    (cond (aboveM M f) 9
+    (cond (placeAgain before f) 10
+    (cond (undeclared before f) 11
+    (cond (tooDeep D before f) 12
+    (cond (beyond before f) 13
+    0))))))
+
+pub data Verdict : Type 0 where
+  accepted : List Frame → Verdict
+  refused : ℕ → ℕ → Verdict
+
+-- A line as it reads, with the lines before it; on: what comes of the lines behind it, where it has no fault.
+-- 5: "a wrong character in the line" and 6: "unknown kind, unused field not zero, or a value outside the table" are how it reads.
+abbrev pub judged : ℕ → ℕ → List Frame → Read → (Frame → Verdict) → Verdict
+judged D M before (Refused n k) on = refused n k
+judged D M before (Line k f) on = cond (eqb (fault D M before f) 0) (on f) (refused (fault D M before f) k)
+
+-- "the first faulty line decides, and within it the smallest number. 14 comes last": "lines end before the root's return"
+abbrev pub scan : ℕ → ℕ → List Frame → List Read → Verdict
+scan D M before [] = cond (afterRoot before) (accepted before) (refused 14 (length before))
+scan D M before (r ∷ rs) = judged D M before r (λ f. scan D M (before ++ f ∷ []) rs)
+
+-- how the lines of a text read, count of them from line n on
+abbrev pub readsFrom : List ℕ → ℕ → ℕ → List Read
+readsFrom s n zero = []
+readsFrom s n (suc count) = readAt s n ∷ readsFrom s (suc n) count
+
+abbrev pub reads : List ℕ → List Read
+reads s = readsFrom s 0 (lineCount s)
+
+-- "Checks 1 to 4 run in that order. Then the first faulty line decides". 4: "any lent slice shorter than stated"; room: none is
+abbrev pub verdict : List ℕ → ℕ → ℕ → Bool → Verdict
+verdict s D M room =
+    cond (outOfRange D M) (refused 1 0)
+    (cond (broken s) (refused 2 0)
+    (cond (tooMany s) (refused 3 0)
+    (cond (not room) (refused 4 0)
+    (scan D M [] (reads s)))))

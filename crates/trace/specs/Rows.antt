@@ -1,0 +1,83 @@
+-- The rows: five numbers a row, as sums over invocations and lines.
+use Prim.Native.Nat.{ℕ, zero, suc, _+_}
+use mathlib.Core.Path.{_≡_}
+use mathlib.Core.Bool.{Bool, true, false, cond, _&&_}
+use mathlib.Core.List.{List, [], _∷_}
+use lib.Dec.{eqb}
+use lib.ListN.{length}
+use Rattle.line.specs.declared.Frame.{Frame}
+use Rattle.trace.specs.Shape.{ifMakes, root, step, has, firstIs}
+use Rattle.trace.specs.Series.{value, Span}
+
+-- "Five numbers a row"
+abbrev pub columns : ℕ
+columns = 5
+
+-- a call or spawn of site s
+abbrev pub makes : ℕ → Frame → Bool
+makes s f = ifMakes (λ i. eqb i s) false f
+
+-- the invocations made from site s in the lines t, the first of which is line n
+abbrev pub made : ℕ → List Frame → ℕ → List ℕ
+made n [] s = []
+made n (e ∷ t) s = cond (makes s e) (suc n ∷ made (suc n) t s) (made (suc n) t s)
+
+-- "Row 0 is the root, row s is site s": the invocations of a row
+abbrev pub ofRow : List Frame → ℕ → List ℕ
+ofRow t zero = root ∷ []
+ofRow t (suc s) = made 0 t (suc s)
+
+-- those of them that columns 2 and 3 count
+abbrev pub counted : List Frame → ℕ → List ℕ
+counted t s = ofRow t s
+
+-- the sum of the costs at the lines that p picks, by line number and open invocations; t begins at line n, where o are open
+abbrev pub sumOf : (ℕ → List ℕ → Bool) → ℕ → List ℕ → List Frame → ℕ
+sumOf p n o [] = 0
+sumOf p n o (e ∷ t) = cond (p n o) (value e) 0 + sumOf p (suc n) (step n e o) t
+
+abbrev pub costsWhere : List Frame → (ℕ → List ℕ → Bool) → ℕ
+costsWhere t p = sumOf p 0 (root ∷ []) t
+
+-- "Total work is the sum of all cost lines."
+abbrev pub total : List Frame → ℕ
+total t = costsWhere t (λ k o. true)
+
+-- all costs inside an invocation; costs directly in it; those of them on a chain
+abbrev pub inside : List Frame → ℕ → ℕ
+inside t F = costsWhere t (λ k o. has F o)
+
+abbrev pub direct : List Frame → ℕ → ℕ
+direct t F = costsWhere t (λ k o. firstIs F o)
+
+abbrev pub directOn : List Frame → List ℕ → ℕ → ℕ
+directOn t c F = costsWhere t (λ k o. firstIs F o && has k c)
+
+abbrev pub sum : (ℕ → ℕ) → List ℕ → ℕ
+sum f [] = 0
+sum f (x ∷ l) = f x + sum f l
+
+-- n is the sum, over the invocations l, of the number that p says of each
+abbrev pub Sum : (ℕ → ℕ → Type 0) → List ℕ → ℕ → Type 0
+Sum p [] n = n ≡ 0
+Sum p (x ∷ l) n = (a : ℕ) × (b : ℕ) × p x a × Sum p l b × (n ≡ a + b)
+
+-- 1. "calls: invocations made from that site, by call or spawn (root: 1)"
+abbrev pub calls : List Frame → ℕ → ℕ
+calls t s = length (ofRow t s)
+
+-- 2. "work: the sum, over those invocations, of all costs inside each"
+abbrev pub work : List Frame → ℕ → ℕ
+work t s = sum (inside t) (counted t s)
+
+-- 3. "span: the sum, over those invocations, of each one's span"
+abbrev pub Spans : List Frame → ℕ → ℕ → Type 0
+Spans t s n = Sum (Span t) (counted t s) n
+
+-- 4. "local: costs directly in those invocations"
+abbrev pub local : List Frame → ℕ → ℕ
+local t s = sum (direct t) (ofRow t s)
+
+-- 5. "on span: the part of local that stands on the chosen chain"; c is the chosen chain
+abbrev pub onSpan : List Frame → List ℕ → ℕ → ℕ
+onSpan t c s = sum (directOn t c) (ofRow t s)
