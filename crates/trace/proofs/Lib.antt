@@ -19,4 +19,6 @@ pub mod Unique
 pub mod Root
 pub mod Columns
 pub mod OnChain
+pub mod Small
+pub mod Twelve
 pub mod Further
