@@ -20,5 +20,8 @@ pub mod Root
 pub mod Columns
 pub mod OnChain
 pub mod Small
+pub mod Outcome
+pub mod Places
+pub mod Declared
 pub mod Twelve
 pub mod Further
