@@ -23,5 +23,6 @@ pub mod Small
 pub mod Outcome
 pub mod Places
 pub mod Declared
+pub mod Interval
 pub mod Twelve
 pub mod Further
