@@ -1,7 +1,7 @@
 -- The chains, the span and the chosen chain of an invocation are those of its body's plan, which the recurrence gives.
 use mathlib.Core.Path.{_≡_, refl, sym, _∙_, ap, subst, subst₂}
 use mathlib.Core.Logic.{_⊎_, inl, inr}
-use mathlib.Core.List.{List, [], _∷_, _++_, append-assoc, List·Memᴰ, List·Memᴰ·head, List·Memᴰ·tail, List·Memᴰ·not-nil, List·Memᴰ·cases-cons, List·Memᴰ·append-cases, Memᴰ·append-left, Memᴰ·append-right}
+use mathlib.Core.List.{List, [], _∷_, _++_, append-assoc, List·Memᴰ, List·Memᴰ·head, List·Memᴰ·tail, List·Memᴰ·not-nil, List·Memᴰ·cases-cons, Memᴰ·append-left, Memᴰ·append-right}
 use Prim.Native.Nat.{ℕ, zero, suc, _+_, _≤_, _<_}
 use native.Mathlib.Omega.{arith}
 use native.Mathlib.Nat.{le-dest}
@@ -9,9 +9,9 @@ use lib.ListN.{length, length-append}
 use lib.Dec.{T}
 use Rattle.line.specs.declared.Frame.{Frame}
 use Rattle.line.specs.declared.Frame.the-variants.{Call, Spawn, Cost}
-use Rattle.chain.specs.Plan.{CostLine, Plan, costs, All, Pairs, Less, On, Apart}
+use Rattle.chain.specs.Plan.{CostLine, costs, All, Pairs, On, Apart}
 use Rattle.chain.specs.Plan as P
-use Rattle.trace.specs.Shape.{Is, root, walk, openAt, has, Contains, Parallel}
+use Rattle.trace.specs.Shape.{Is, root, walk, openAt, has, Parallel}
 use Rattle.trace.specs.Series.{Each, EachTwo, Series, value, valueAt, CostIn, Chain, weight, Span, Before, Chosen}
 use Rattle.trace.specs.Tree.{Body, done, spend, sync, call, spawn, linesOf, size}
 use Rattle.trace.specs.Fold.{costAt, block, after, plan, chainOf, linesIn}

@@ -1,9 +1,9 @@
 -- No two sites share a row: an accepted site line has the number of its line and one more, and its place is its own.
 use mathlib.Core.Path.{_≡_, refl, sym, _∙_, ap, subst}
-use mathlib.Core.Logic.{_⊎_, inl, inr}
-use mathlib.Core.Bool.{Bool, true, false, not, _&&_, _||_, or-true}
+use mathlib.Core.Logic.{inl, inr}
+use mathlib.Core.Bool.{Bool, true, false, not, _||_, or-true}
 use mathlib.Core.List.{List, [], _∷_, _++_}
-use Prim.Native.Nat.{ℕ, zero, suc, _+_, _≤_, _<_}
+use Prim.Native.Nat.{ℕ, zero, suc, _+_, _<_}
 use native.Mathlib.Omega.{arith}
 use lib.ListN.{length, length-append}
 use lib.Dec.{eqb}
@@ -14,7 +14,7 @@ use Rattle.line.specs.declared.Frame.the-variants.{Site, Call, Spawn, Sync, Ret
 use Rattle.trace.specs.Shape.{Is}
 use Rattle.trace.specs.Refusals.{allSites, lastSite, misplaced, samePlace, placed, placeAgain}
 use Rattle.trace.specs.Tree.{linesOf}
-use Rattle.trace.proofs.Basics.{clash, no-way, neither, below}
+use Rattle.trace.proofs.Basics.{no-way, neither, below}
 use Rattle.trace.proofs.Tree.{NotSite, NoSites, no-sites-lines}
 use Rattle.trace.proofs.Scan.{Fine}
 use Rattle.trace.proofs.Sites.{Numb, numb-start, numb-snoc}

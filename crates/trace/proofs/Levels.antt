@@ -1,6 +1,6 @@
 -- Levels along lines: which lines an invocation contains, and which two lines are beside each other, by recursion on the lines;
 -- and what both say of the lines of a body.
-use mathlib.Core.Path.{_≡_, refl, sym, _∙_, ap, subst, subst₂}
+use mathlib.Core.Path.{_≡_, refl, _∙_, subst, subst₂}
 use mathlib.Core.Logic.{_⊎_, inl, inr}
 use mathlib.Core.Bool.{Bool, true, false}
 use mathlib.Core.List.{List, [], _∷_, _++_, append-assoc}

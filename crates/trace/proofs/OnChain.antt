@@ -2,22 +2,21 @@
 use mathlib.Core.Path.{_≡_, refl, sym, _∙_, ap, subst}
 use mathlib.Core.Logic.{_⊎_, inl, inr}
 use mathlib.Core.Bool.{Bool, true, false, cond, _&&_, _||_, and-true, and-false}
-use mathlib.Core.List.{List, [], _∷_, _++_, List·Memᴰ, List·Memᴰ·not-nil, List·Memᴰ·cases-cons}
-use Prim.Native.Nat.{ℕ, zero, suc, _+_, _≤_, _<_}
+use mathlib.Core.List.{List, [], _∷_, List·Memᴰ, List·Memᴰ·not-nil, List·Memᴰ·cases-cons}
+use Prim.Native.Nat.{ℕ, zero, suc, _+_, _≤_}
 use native.Mathlib.Omega.{arith}
 use lib.ListN.{length}
 use lib.Dec.{eqb}
 use borrow.Author.Tests.{eq-eqb, ne-eqb}
 use Rattle.line.specs.declared.Frame.{Frame}
-use Rattle.chain.specs.Plan.{CostLine, costs, All, Pairs, Less, On}
+use Rattle.chain.specs.Plan.{CostLine, costs, All, Pairs, Less}
 use Rattle.chain.specs.Plan as P
 use Rattle.chain.proofs.Lists.{all-map, all-both, all-at, all-append, pairs-map}
 use Rattle.trace.specs.Shape.{root, has, sites}
 use Rattle.trace.specs.Series.{Span, Chosen}
 use Rattle.trace.specs.Rows.{total, local, onSpan}
-use Rattle.trace.specs.Tree.{Body, done, spend, sync, call, spawn, linesOf, size, Within, Parts, workOf, spanOf}
-use Rattle.trace.specs.Fold.{costAt, block, after, plan, chainOf, onRow, linesIn}
-use Rattle.trace.proofs.Basics.{clash}
+use Rattle.trace.specs.Tree.{Body, done, spend, sync, call, spawn, size, Within, Parts, workOf}
+use Rattle.trace.specs.Fold.{block, after, plan, onRow, linesIn}
 use Rattle.trace.proofs.Apart.{plan-ordered}
 use Rattle.trace.proofs.Recurrence.{chain-chosen, weight-chain}
 use Rattle.trace.proofs.Sums.{upTo, up-add, up-same, up-one}

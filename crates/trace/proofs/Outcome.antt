@@ -1,8 +1,8 @@
 -- The promise determines its outcome, which is the one by the tree; and some outcome always meets it.
 use mathlib.Core.Path.{_≡_, refl, sym, _∙_, ap, subst}
-use mathlib.Core.Logic.{_⊎_, inl, inr}
-use mathlib.Core.Bool.{Bool, true, false, cond, _&&_}
-use mathlib.Core.List.{List, [], _∷_, _++_}
+use mathlib.Core.Logic.{inl, inr}
+use mathlib.Core.Bool.{Bool, true, cond, _&&_}
+use mathlib.Core.List.{List, [], _∷_}
 use Prim.Native.Nat.{ℕ, zero, suc, _+_, _*_, _/_, _%_, _≤_, _<_}
 use native.Mathlib.Omega.{arith}
 use lib.ListN.{length, getD, replicate, length-append, List·getD-eq-default}
@@ -11,18 +11,17 @@ use lib.Seq.{ext-getD}
 use borrow.Author.Tests.{leb-true, lt-ltb, le-ltb}
 use Rattle.line.specs.declared.Frame.{Frame}
 use Rattle.trace.specs.declared.Answer.{Answer}
-use Rattle.trace.specs.declared.Answer.the-variants.{Accepted, Refused}
-use Rattle.trace.specs.Shape.{root, has, sites}
-use Rattle.trace.specs.Series.{Span, Chosen}
-use Rattle.trace.specs.Rows.{columns, total, Spans, onSpan}
+use Rattle.trace.specs.declared.Answer.the-variants.{Accepted}
+use Rattle.trace.specs.Shape.{has, sites}
+use Rattle.trace.specs.Rows.{columns, Spans}
 use Rattle.trace.specs.Refusals.{lineCount, Verdict, accepted, refused, verdict}
-use Rattle.trace.specs.Promise.{Engine, tables, marks, Lent, scratchRoom, marksRoom, rowsRoom, enough, acceptance, refusal, Row, Rows, Marks, Marked, Profile, Promise}
-use Rattle.trace.specs.Tree.{Body, linesOf, size, Parts, workOf, spanOf, spansIn}
+use Rattle.trace.specs.Promise.{Engine, tables, marks, Lent, scratchRoom, marksRoom, rowsRoom, enough, acceptance, refusal, Row, Marked, Profile, Promise}
+use Rattle.trace.specs.Tree.{Body, linesOf, size, Parts, workOf, spanOf}
 use Rattle.trace.specs.Fold.{chainOf, linesIn}
 use Rattle.trace.specs.ByTree.{cell, RowsBy, ProfileBy}
 use Rattle.trace.proofs.Basics.{clash, below, both}
 use Rattle.trace.proofs.Tree.{size-is}
-use Rattle.trace.proofs.Scan.{Fine, accepted-is, accepted-fine, accepted-length}
+use Rattle.trace.proofs.Scan.{accepted-is, accepted-fine, accepted-length}
 use Rattle.trace.proofs.Parse.{parts}
 use Rattle.trace.proofs.Accept.{sites-le-M}
 use Rattle.trace.proofs.Unique.{spans-unique}

@@ -1,24 +1,23 @@
 -- Two accepted traces that differ only in places get the same answer and rows, from either engine; with one trace, the two engines agree.
 use mathlib.Core.Path.{_≡_, refl, sym, _∙_, ap, subst}
 use mathlib.Core.List.{List, [], _∷_, _++_}
-use Prim.Native.Nat.{ℕ, zero, suc, _+_, _*_, _/_, _%_, _≤_, _<_}
+use Prim.Native.Nat.{ℕ, suc, _+_, _*_, _/_, _%_, _≤_, _<_}
 use native.Mathlib.Omega.{arith}
 use lib.ListN.{length, getD}
-use lib.Dec.{T}
 use Rattle.line.specs.declared.Frame.{Frame}
 use Rattle.line.specs.declared.Frame.the-variants.{Site, Call, Spawn, Sync, Return, Cost}
 use Rattle.trace.specs.declared.Answer.{Answer}
 use Rattle.trace.specs.Shape.{sites}
 use Rattle.trace.specs.Rows.{columns}
 use Rattle.trace.specs.Refusals.{accepted, verdict}
-use Rattle.trace.specs.Promise.{Engine, marks, Lent, enough, Promise}
-use Rattle.trace.specs.Tree.{Body, done, spend, sync, call, spawn, linesOf, size, AllSites, Parts}
+use Rattle.trace.specs.Promise.{Engine, Lent, enough, Promise}
+use Rattle.trace.specs.Tree.{Body, done, spend, sync, call, spawn, linesOf, AllSites, Parts}
 use Rattle.trace.specs.ByTree.{ProfileBy}
 use Rattle.trace.proofs.Tree.{IsSite, parts-one}
 use Rattle.trace.proofs.Scan.{accepted-fine}
 use Rattle.trace.proofs.Parse.{parts}
 use Rattle.trace.proofs.Invocations.{sites-are}
-use Rattle.trace.proofs.Outcome.{length-is, profile-tree}
+use Rattle.trace.proofs.Outcome.{profile-tree}
 
 -- a frame without its place
 abbrev pub blank : Frame → Frame

@@ -1,12 +1,12 @@
 -- Cilkprof's recurrence with the join at a return: with chains for numbers it gives the pick of the body's plan, and on numbers its weight.
-use mathlib.Core.Path.{_≡_, refl, sym, _∙_, ap, subst}
+use mathlib.Core.Path.{_≡_, sym, _∙_, ap}
 use mathlib.Core.Logic.{_⊎_, inl, inr}
-use mathlib.Core.Bool.{Bool, true, false, cond}
+use mathlib.Core.Bool.{true, false}
 use mathlib.Core.List.{List, [], _∷_, _++_, append-nil, append-assoc}
-use Prim.Native.Nat.{ℕ, zero, suc, _+_, _≤_, _<_}
+use Prim.Native.Nat.{ℕ, suc, _+_, _≤_, _<_}
 use native.Mathlib.Omega.{arith}
 use lib.Dec.{ltb}
-use Rattle.chain.specs.Plan.{CostLine, Plan, costs, All, Worth, Positive, weight, choose, pick, Chosen}
+use Rattle.chain.specs.Plan.{CostLine, costs, All, Worth, Positive, weight, choose, pick, Chosen}
 use Rattle.chain.proofs.Lists.{all-append, weight-append}
 use Rattle.chain.proofs.Choose.{test, choose-cases, choose-left, choose-right, choose-empty}
 use Rattle.chain.proofs.Laws.{pick-worth, pick-chosen, chosen-unique}

@@ -1,5 +1,5 @@
 -- The root's span and chosen chain are what the recurrence gives for the trace's body, and nothing else.
-use mathlib.Core.Path.{_≡_, refl, sym, _∙_, ap, subst}
+use mathlib.Core.Path.{_≡_, refl}
 use mathlib.Core.List.{List, []}
 use Prim.Native.Nat.{ℕ}
 use lib.ListN.{length}
@@ -7,7 +7,7 @@ use Rattle.line.specs.declared.Frame.{Frame}
 use Rattle.chain.specs.Plan.{CostLine}
 use Rattle.trace.specs.Shape.{root}
 use Rattle.trace.specs.Series.{Span, Chosen}
-use Rattle.trace.specs.Tree.{Body, Parts, spanOf}
+use Rattle.trace.specs.Tree.{Parts, spanOf}
 use Rattle.trace.specs.Fold.{chainOf, linesIn}
 use Rattle.trace.proofs.Unique.{span-unique, chosen-unique}
 use Rattle.trace.proofs.Chains.{chosen-of}

@@ -1,9 +1,9 @@
 -- Within the limits total work and all five columns stay below 2 ^ 54, so no sum wraps and refusal 13 is never given.
 use mathlib.Core.Path.{_≡_, refl, sym, _∙_, ap, subst}
-use mathlib.Core.Logic.{_⊎_, inl, inr}
+use mathlib.Core.Logic.{inl, inr}
 use mathlib.Core.Bool.{Bool, true, false, not, cond, _&&_, _||_}
 use mathlib.Core.List.{List, [], _∷_, _++_, append-nil}
-use Prim.Native.Nat.{ℕ, zero, suc, _+_, _%_, _≤_, _<_}
+use Prim.Native.Nat.{ℕ, zero, suc, _+_, _≤_, _<_}
 use native.Mathlib.Omega.{arith}
 use native.Mathlib.Nat.{le-dest}
 use lib.ListN.{length, length-append}
@@ -20,7 +20,7 @@ use Rattle.trace.specs.Series.{Each, EachTwo, Series, value, valueAt, Co
 use Rattle.trace.specs.Rows.{ofRow, counted, sumOf, costsWhere, total, inside, direct, directOn, sum, Sum, calls, work, Spans, local, onSpan}
 use Rattle.trace.specs.Refusals.{outOfRange, broken, lineCount, tooMany, afterRoot, misplaced, aboveM, placeAgain, undeclared, tooDeep, beyond, fault, accepted, refused, judged, scan, readsFrom, reads, verdict}
 use Rattle.trace.proofs.Basics.{clash, no-way}
-use Rattle.trace.proofs.Scan.{read-line, Clean, reads-from-length, Fine, in-range, faultless}
+use Rattle.trace.proofs.Scan.{read-line, Clean, Fine, in-range, faultless}
 use Rattle.trace.proofs.Open.{has-cases}
 use Rattle.trace.proofs.Sums.{same-or-not}
 use Rattle.trace.proofs.Bounds.{Tame, sum-le, Safe, total-small, calls-small, work-small, local-small, thirteen-never, safe-snoc, safe-start}
