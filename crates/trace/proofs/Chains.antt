@@ -144,7 +144,7 @@ module _ (t : List Frame) (n s F : ℕ) (o : List ℕ) (g : Body) (post : List F
   within i l h = in-lt g post i (in-from F zero n (F ∷ o) (linesOf g ++ post) i (x .low .0) (refl, x .low .1) l h)
 
   -- a cost line inside is a cost of the plan
-  cost-on : (k : ℕ) → CostIn t F k → Found (costs (plan n s g)) k (valueAt t k)
+  pub cost-on : (k : ℕ) → CostIn t F k → Found (costs (plan n s g)) k (valueAt t k)
   cost-on k c = go (le-dest (start k c))
     where
       go : (i : ℕ) × (n + i ≡ k) → Found (costs (plan n s g)) k (valueAt t k)
@@ -158,7 +158,7 @@ module _ (t : List Frame) (n s F : ℕ) (o : List ℕ) (g : Body) (post : List F
           found-line (costs (plan n s g)) (n + i) k (valueAt t k) (w .1) (where-on g n s i (valueAt t k) (is-left (linesOf g) post i (Cost (valueAt t k)) (omega (arith, size-is g)) h))
 
   -- and back
-  on-cost : (y : CostLine) → On (plan n s g) y → CostIn t F (y .line) × (valueAt t (y .line) ≡ y .value)
+  pub on-cost : (y : CostLine) → On (plan n s g) y → CostIn t F (y .line) × (valueAt t (y .line) ≡ y .value)
   on-cost y m = go (on-where g n s y m)
     where
       go : Where n (linesOf g) y → CostIn t F (y .line) × (valueAt t (y .line) ≡ y .value)

@@ -1,7 +1,7 @@
 -- No two sites share a row: an accepted site line has the number of its line and one more, and its place is its own.
 use mathlib.Core.Path.{_≡_, refl, sym, _∙_, ap, subst}
 use mathlib.Core.Logic.{inl, inr}
-use mathlib.Core.Bool.{Bool, true, false, not, _||_, or-true}
+use mathlib.Core.Bool.{Bool, true, false, not, _&&_, _||_, or-true}
 use mathlib.Core.List.{List, [], _∷_, _++_}
 use Prim.Native.Nat.{ℕ, zero, suc, _+_, _<_}
 use native.Mathlib.Omega.{arith}
@@ -14,7 +14,7 @@ use Rattle.line.specs.declared.Frame.the-variants.{Site, Call, Spawn, Sync, Ret
 use Rattle.trace.specs.Shape.{Is}
 use Rattle.trace.specs.Refusals.{allSites, lastSite, misplaced, samePlace, placed, placeAgain}
 use Rattle.trace.specs.Tree.{linesOf}
-use Rattle.trace.proofs.Basics.{no-way, neither, below}
+use Rattle.trace.proofs.Basics.{no-way, both, neither, below}
 use Rattle.trace.proofs.Tree.{NotSite, NoSites, no-sites-lines}
 use Rattle.trace.proofs.Scan.{Fine}
 use Rattle.trace.proofs.Sites.{Numb, numb-start, numb-snoc}
@@ -56,7 +56,33 @@ heads-number M before (Cost v ∷ h) o n (suc k) s p i = absurd (o .0)
 -- ── places ──
 
 same-place : (p : Place) → samePlace p p ≡ true
-same-place p = rw (eq-eqb (p .file) (p .file) refl, eq-eqb (p .line) (p .line) refl, eq-eqb (p .column) (p .column) refl)
+same-place p = simp (eq-eqb (p .file) (p .file) refl, eq-eqb (p .line) (p .line) refl, eq-eqb (p .column) (p .column) refl)
+
+-- file, line and column are the whole place
+place-is : (p q : Place) → samePlace p q ≡ true → p ≡ q
+place-is p q h =
+    let x = both (eqb (p .file) (q .file) && eqb (p .line) (q .line)) (eqb (p .column) (q .column)) h in
+    let y = both (eqb (p .file) (q .file)) (eqb (p .line) (q .line)) (x .0) in
+    ap (λ (n : ℕ). record { file = n; line = p .line; column = p .column }) (eqb-true (p .file) (q .file) (y .0))
+    ∙ ap (λ (n : ℕ). record { file = q .file; line = n; column = p .column }) (eqb-true (p .line) (q .line) (y .1))
+    ∙ ap (λ (n : ℕ). record { file = q .file; line = q .line; column = n }) (eqb-true (p .column) (q .column) (x .1))
+
+later : (p : Place) (e : Frame) (b : List Frame) → (i : ℕ) × (s : ℕ) × Is b i (Site s p) → (i : ℕ) × (s : ℕ) × Is (e ∷ b) i (Site s p)
+later p e b w = (suc (w .0), w .1, w .2)
+
+-- LAW: refusal 10 is given only where an earlier site line has the same place
+pub placed-is : (p : Place) (b : List Frame) → placed p b ≡ true → (i : ℕ) × (s : ℕ) × Is b i (Site s p)
+placed-is p [] h = no-way h
+placed-is p (Site s q ∷ b) h = go (samePlace p q) refl (placed-is p b) h
+  where
+    go : (x : Bool) → samePlace p q ≡ x → (placed p b ≡ true → (i : ℕ) × (u : ℕ) × Is b i (Site u p)) → (x || placed p b) ≡ true → (i : ℕ) × (u : ℕ) × Is (Site s q ∷ b) i (Site u p)
+    go true e f k = (zero, s, ap (Site s) (sym (place-is p q e)))
+    go false e f k = later p (Site s q) b (f k)
+placed-is p (Call s ∷ b) h = later p (Call s) b (placed-is p b h)
+placed-is p (Spawn s ∷ b) h = later p (Spawn s) b (placed-is p b h)
+placed-is p (Sync ∷ b) h = later p Sync b (placed-is p b h)
+placed-is p (Return ∷ b) h = later p Return b (placed-is p b h)
+placed-is p (Cost v ∷ b) h = later p (Cost v) b (placed-is p b h)
 
 placed-more : (p : Place) (b u : List Frame) → placed p b ≡ true → placed p (b ++ u) ≡ true
 placed-more p [] u h = no-way h

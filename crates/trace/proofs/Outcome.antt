@@ -16,12 +16,12 @@ use Rattle.trace.specs.Shape.{has, sites}
 use Rattle.trace.specs.Rows.{columns, Spans}
 use Rattle.trace.specs.Refusals.{lineCount, Verdict, accepted, refused, verdict}
 use Rattle.trace.specs.Promise.{Engine, tables, marks, Lent, scratchRoom, marksRoom, rowsRoom, enough, acceptance, refusal, Row, Marked, Profile, Promise}
-use Rattle.trace.specs.Tree.{Body, linesOf, size, Parts, workOf, spanOf}
+use Rattle.trace.specs.Tree.{Body, linesOf, size, Parts, workOf, spanOf, spansIn}
 use Rattle.trace.specs.Fold.{chainOf, linesIn}
 use Rattle.trace.specs.ByTree.{cell, RowsBy, ProfileBy}
 use Rattle.trace.proofs.Basics.{clash, below, both}
 use Rattle.trace.proofs.Tree.{size-is}
-use Rattle.trace.proofs.Scan.{accepted-is, accepted-fine, accepted-length}
+use Rattle.trace.proofs.Scan.{Fine, accepted-is, accepted-fine, accepted-length}
 use Rattle.trace.proofs.Parse.{parts}
 use Rattle.trace.proofs.Accept.{sites-le-M}
 use Rattle.trace.proofs.Unique.{spans-unique}
@@ -29,6 +29,7 @@ use Rattle.trace.proofs.Invocations.{sites-are}
 use Rattle.trace.proofs.Root.{rootChain, root-span, root-chosen, root-span-only, root-chosen-only}
 use Rattle.trace.proofs.Columns.{calls-tree, work-tree, spans-tree, local-tree, total-tree}
 use Rattle.trace.proofs.OnChain.{on-span-tree}
+use Rattle.trace.proofs.Small.{Small, fine-small}
 
 lent-same : (a b : Lent) → a .scratch ≡ b .scratch → a .rows ≡ b .rows → a .marks ≡ b .marks → a ≡ b
 lent-same a b x y z =
@@ -104,6 +105,18 @@ module _ (D : ℕ) (t : List Frame) (p : Parts D t) where
         scratch = h .scratch;
         marked = subst (λ (n : ℕ). Marked e n (linesIn (rootChain D t p)) (before .marks) (after .marks)) length-is (subst (λ (d : List ℕ). Marked e (length t) d (before .marks) (after .marks)) c (h .marked));
       }
+
+  -- LAW: within the limits each number of the tree is below 2 ^ 54
+  pub cell-small : (M : ℕ) → Fine D M t → (s j : ℕ) → j < columns → Small (cell m (p .body) s j)
+  cell-small M f s zero l = subst Small (calls-tree D t p s) (fine-small D M t f .calls-are s)
+  cell-small M f s (suc zero) l = subst Small (work-tree D t p s) (fine-small D M t f .work-is s)
+  cell-small M f s (suc (suc zero)) l = fine-small D M t f .spans-are s (spansIn s (p .body)) (spans-tree D t p s)
+  cell-small M f s (suc (suc (suc zero))) l = subst Small (local-tree D t p s) (fine-small D M t f .local-is s)
+  cell-small M f s (suc (suc (suc (suc zero)))) l = subst Small (on-span-tree D t p s) (fine-small D M t f .on-span-is (linesIn (rootChain D t p)) s)
+  cell-small M f s (suc (suc (suc (suc (suc j))))) l = absurd (omega arith)
+
+  pub work-small : (M : ℕ) → Fine D M t → Small (workOf (p .body))
+  work-small M f = subst Small (total-tree D t p) (fine-small D M t f .total-is)
 
 -- ── there is one ──
 
