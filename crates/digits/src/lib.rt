@@ -1,2 +1,3 @@
 // A hexadecimal digit, and numbers of a fixed width.
-ghost use mathlib.Core.Path.{_≡_};
+pub mod read;
+pub mod write;
