@@ -22,7 +22,7 @@ use Rattle.trace.specs.ByTree.{cell, RowsBy, ProfileBy}
 use Rattle.trace.proofs.Basics.{clash, below, both}
 use Rattle.trace.proofs.Tree.{size-is}
 use Rattle.trace.proofs.Scan.{Fine, accepted-is, accepted-fine, accepted-length}
-use Rattle.trace.proofs.Parse.{parts}
+use Rattle.trace.proofs.Parse.{parts, accepted-parts}
 use Rattle.trace.proofs.Accept.{sites-le-M}
 use Rattle.trace.proofs.Unique.{spans-unique}
 use Rattle.trace.proofs.Invocations.{sites-are}
@@ -151,7 +151,7 @@ promise-unique e s D M before r q x y h k = go (verdict s D M (enough e s D M be
   where
     go : (v : Verdict) → verdict s D M (enough e s D M before) ≡ v → (r ≡ q) × (x ≡ y)
     go (accepted t) a =
-        let p = parts D M t (accepted-fine s D M (enough e s D M before) t a) in
+        let p = accepted-parts s D M (enough e s D M before) t a in
         by-tree-unique e (length (p .heads)) (p .body) before r q x y (profile-tree D t p e before r x (h .when-accepted t a)) (profile-tree D t p e before q y (k .when-accepted t a))
     go (refused n l) a =
         let u = h .when-refused n l a in

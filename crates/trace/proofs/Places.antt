@@ -1,4 +1,5 @@
--- Two accepted traces that differ only in places get the same answer and rows, from either engine; with one trace, the two engines agree.
+-- Two accepted traces that differ only in places get the same answer and rows, from either engine; so with one trace the two engines agree,
+-- and what the room held makes no difference.
 use mathlib.Core.Path.{_≡_, refl, sym, _∙_, ap, subst}
 use mathlib.Core.List.{List, [], _∷_, _++_}
 use Prim.Native.Nat.{ℕ, suc, _+_, _*_, _/_, _%_, _≤_, _<_}
@@ -9,13 +10,12 @@ use Rattle.line.specs.declared.Frame.the-variants.{Site, Call, Spawn, Sync, Ret
 use Rattle.trace.specs.declared.Answer.{Answer}
 use Rattle.trace.specs.Shape.{sites}
 use Rattle.trace.specs.Rows.{columns}
-use Rattle.trace.specs.Refusals.{accepted, verdict}
+use Rattle.trace.specs.Refusals.{Verdict, accepted, refused, verdict}
 use Rattle.trace.specs.Promise.{Engine, Lent, enough, Promise}
 use Rattle.trace.specs.Tree.{Body, done, spend, sync, call, spawn, linesOf, AllSites, Parts}
 use Rattle.trace.specs.ByTree.{ProfileBy}
 use Rattle.trace.proofs.Tree.{IsSite, parts-one}
-use Rattle.trace.proofs.Scan.{accepted-fine}
-use Rattle.trace.proofs.Parse.{parts}
+use Rattle.trace.proofs.Parse.{accepted-parts}
 use Rattle.trace.proofs.Invocations.{sites-are}
 use Rattle.trace.proofs.Outcome.{profile-tree}
 
@@ -92,8 +92,8 @@ module _ (s z : List ℕ) (D M E N : ℕ) (e f : Engine) (b c : Lent) (r q : Ans
   -- LAW: "two traces that differ only in places, both accepted, get the same answer", and the same rows
   pub places : (t u : List Frame) → verdict s D M (enough e s D M b) ≡ accepted t → verdict z E N (enough f z E N c) ≡ accepted u → ButPlaces t u → Agree t r q x y
   places t u i j d =
-      let p = parts D M t (accepted-fine s D M (enough e s D M b) t i) in
-      let o = parts E N u (accepted-fine z E N (enough f z E N c) u j) in
+      let p = accepted-parts s D M (enough e s D M b) t i in
+      let o = accepted-parts z E N (enough f z E N c) u j in
       let w = same-parts D E t u p o d in
       agree-by D t p e f b c r q x y (profile-tree D t p e b r x (h .when-accepted t i))
       (subst (λ (n : ℕ). ProfileBy f n (p .body) c q y) (sym (w .0))
@@ -103,3 +103,18 @@ module _ (s z : List ℕ) (D M E N : ℕ) (e f : Engine) (b c : Lent) (r q : Ans
 pub engines-agree : (s : List ℕ) (D M : ℕ) (e f : Engine) (b c : Lent) (r q : Answer) (x y : Lent) → Promise e s D M b r x → Promise f s D M c q y
     → (t : List Frame) → verdict s D M (enough e s D M b) ≡ accepted t → verdict s D M (enough f s D M c) ≡ accepted t → Agree t r q x y
 engines-agree s D M e f b c r q x y h k t i j = places s s D M D M e f b c r q x y h k t t i j refl
+
+-- LAW: "What the room held before makes no difference."
+pub room-held : (s : List ℕ) (D M : ℕ) (e : Engine) (b c : Lent) (r q : Answer) (x y : Lent) → Promise e s D M b r x → Promise e s D M c q y
+    → length (b .scratch) ≡ length (c .scratch) → length (b .rows) ≡ length (c .rows) → length (b .marks) ≡ length (c .marks) → r ≡ q
+room-held s D M e b c r q x y h k i j l = go (verdict s D M (enough e s D M b)) refl
+  where
+    same : enough e s D M b ≡ enough e s D M c
+    same = rw (i, j, l)
+
+    also : (v : Verdict) → verdict s D M (enough e s D M b) ≡ v → verdict s D M (enough e s D M c) ≡ v
+    also v a = ap (verdict s D M) (sym same) ∙ a
+
+    go : (v : Verdict) → verdict s D M (enough e s D M b) ≡ v → r ≡ q
+    go (accepted t) a = engines-agree s D M e e b c r q x y h k t a (also (accepted t) a) .answers
+    go (refused n o) a = h .when-refused n o a .0 ∙ sym (k .when-refused n o (also (refused n o) a) .0)
