@@ -1,4 +1,4 @@
--- Case I's report and printed refusals, as document 01 prints them, by computing. Assumes nothing.
+-- Case I's report as document 01 prints it, and two printed refusals, by computing. Assumes nothing.
 use Prim.Native.Nat.{ℕ}
 use Prim.Native.Char.{code}
 use Prim.Native.String.{String}

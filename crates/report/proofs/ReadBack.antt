@@ -12,7 +12,7 @@ use Rattle.digits.proofs.Writing.{digits-length}
 use Rattle.report.specs.Rows.{columns, numbersOf, lineOf, rowLine, width}
 use Rattle.report.specs.Report.{text}
 use Rattle.report.specs.Refusal.{refusalText}
-use Rattle.report.proofs.Lines.{number-at, row-length, lines-length, line-at, lines-front}
+use Rattle.report.proofs.Lines.{number-at, row-length, line-length, lines-length, line-at, lines-front}
 
 -- line r of a text; and what stands in a line, its row and its number k
 abbrev pub lineAt : List ℕ → ℕ → List ℕ
@@ -55,6 +55,10 @@ module _ (rows : List ℕ) (count : ℕ) (given : Rows rows count) where
   -- line r is the line of row r
   pub line-is : (r : ℕ) → r ≤ count → lineAt (text rows count) r ≡ rowLine rows r
   line-is r h = ap (λ (s : List ℕ). lineAt s r) (sym (append-nil (text rows count))) ∙ line-at rows [] (count + 1) r (given .enough) (omega arith)
+
+  -- each of 85 characters
+  pub line-long : (r : ℕ) → r ≤ count → length (rowLine rows r) ≡ width
+  line-long r h = line-length r (numbersOf rows r) (row-length rows r (omega (arith, given .enough)))
 
   -- number k of line r is number k of row r
   pub read-back : (r k : ℕ) → r ≤ count → k < columns → numberIn (lineAt (text rows count) r) k ≡ getD rows (columns * r + k) 0

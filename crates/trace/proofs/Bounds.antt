@@ -13,7 +13,7 @@ use Rattle.trace.specs.Shape.{root, closed, step, walk, has, firstIs, si
 use Rattle.trace.specs.Series.{value}
 use Rattle.trace.specs.Rows.{makes, made, ofRow, sumOf, total, inside, direct, sum, calls, work, local}
 use Rattle.trace.specs.Refusals.{openNow, tooDeep, wide, wideRows, beyond}
-use Rattle.trace.proofs.Scan.{InTable, Clean, Fine, faultless, now}
+use Rattle.trace.proofs.Scan.{InTable, now}
 use Rattle.trace.proofs.Sums.{sum-made, sum-add}
 
 -- each value is below 2 ^ 32, and at most 64 invocations are open
@@ -29,7 +29,7 @@ or-le : (a b : Bool) (v : ℕ) → cond (a || b) v 0 ≤ cond (a && true) v 0 + 
 or-le true b v = omega arith
 or-le false b v = omega arith
 
-sum-le : (f g : ℕ → ℕ) → ((x : ℕ) → f x ≤ g x) → (l : List ℕ) → sum f l ≤ sum g l
+pub sum-le : (f g : ℕ → ℕ) → ((x : ℕ) → f x ≤ g x) → (l : List ℕ) → sum f l ≤ sum g l
 sum-le f g h [] = omega arith
 sum-le f g h (x ∷ l) = omega (arith, h x, sum-le f g h l)
 

@@ -31,8 +31,8 @@ part-chars-start-2 c = search needs
 
 part-chars-end-2 : tie.Need-part-chars-end-2
 part-chars-end-2 c =
-    let d = c .before .put-digits in
-    omega (arith, length-append (d .last .0) (replicate 11 10), d .kept .0)
+    let mark = c .before .put-digits in
+    omega (arith, length-append (mark .last .0) (replicate 11 10), mark .kept .0)
 
 put-digits-requires-2 : tie.Need-put-digits-requires-2
 put-digits-requires-2 c κs = search needs
@@ -45,9 +45,10 @@ part-chars-start-3 c = search needs
 
 part-chars-end-3 : tie.Need-part-chars-end-3
 part-chars-end-3 c =
-    let d = c .before .before .before .before .put-digits in
-    let e = c .before .put-digits2 in
-    omega (arith, same-len-mid 2 2 (d .last .0 ++ replicate 11 10) (e .last .0) (e .kept .0), length-append (d .last .0) (replicate 11 10), d .kept .0)
+    let mark = c .before .before .before .before .put-digits in
+    let number = c .before .put-digits2 in
+    let marked = mark .last .0 ++ replicate 11 10 in
+    omega (arith, same-len-mid 2 2 marked (number .last .0) (number .kept .0), length-append (mark .last .0) (replicate 11 10), mark .kept .0)
 
 put-digits-requires-3 : tie.Need-put-digits-requires-3
 put-digits-requires-3 c κs = search needs
@@ -55,21 +56,24 @@ put-digits-requires-3 c κs = search needs
 returns : tie.Need-returns
 returns c =
     let a = c .before .before .before .before .before .before .before .before .before .args in
-    let d = c .before .before .before .before .before .before .before .put-digits in
-    let e = c .before .before .before .before .put-digits2 in
-    let f = c .before .put-digits3 in
-    let x = d .last .0 ++ replicate 11 10 in
-    let lx : length x ≡ 13 = length-append (d .last .0) (replicate 11 10) ∙ ap (λ (n : ℕ). n + 11) (d .kept .0) in
-    let y = putMid 2 2 x (e .last .0) in
-    let ly : length y ≡ 13 = same-len-mid 2 2 x (e .last .0) (e .kept .0) ∙ lx in
-    let e2 : length (midOf 2 2 x) ≡ 2 = mid-len 2 4 x (omega arith) in
-    let f8 : length (midOf 4 8 y) ≡ 8 = mid-len 4 12 y (omega arith) in
-    let de : length (d .last .0 ++ e .last .0) ≡ 4 = length-append (d .last .0) (e .last .0) ∙ omega (arith, d .kept .0, e .kept .0) in
-    ap (λ (r : List ℕ). putMid 4 8 r (f .last .0)) (behind 2 2 (d .last .0) (replicate 11 10) (e .last .0) (d .kept .0))
-    ∙ behind 4 8 (d .last .0 ++ e .last .0) (replicate 9 10) (f .last .0) de
-    ∙ ap (λ (r : List ℕ). ((r ++ e .last .0) ++ f .last .0) ++ 10 ∷ []) (d .ensures)
-    ∙ ap (λ (r : List ℕ). ((digits 2 255 ++ r) ++ f .last .0) ++ 10 ∷ []) (e .ensures ∙ ap (λ (n : ℕ). digits n (a .number)) e2)
-    ∙ ap (λ (r : List ℕ). ((digits 2 255 ++ digits 2 (a .number)) ++ r) ++ 10 ∷ []) (f .ensures ∙ ap (λ (n : ℕ). digits n (a .line)) f8)
+    let mark = c .before .before .before .before .before .before .before .put-digits in
+    let number = c .before .before .before .before .put-digits2 in
+    let line = c .before .put-digits3 in
+    let m = mark .last .0 in
+    let n = number .last .0 in
+    let l = line .last .0 in
+    let marked = m ++ replicate 11 10 in
+    let numbered = putMid 2 2 marked n in
+    let marked-length : length marked ≡ 13 = length-append m (replicate 11 10) ∙ ap (λ (k : ℕ). k + 11) (mark .kept .0) in
+    let numbered-length : length numbered ≡ 13 = same-len-mid 2 2 marked n (number .kept .0) ∙ marked-length in
+    let two : length (midOf 2 2 marked) ≡ 2 = mid-len 2 4 marked (omega arith) in
+    let eight : length (midOf 4 8 numbered) ≡ 8 = mid-len 4 12 numbered (omega arith) in
+    let four : length (m ++ n) ≡ 4 = length-append m n ∙ omega (arith, mark .kept .0, number .kept .0) in
+    ap (λ (r : List ℕ). putMid 4 8 r l) (behind 2 2 m (replicate 11 10) n (mark .kept .0))
+    ∙ behind 4 8 (m ++ n) (replicate 9 10) l four
+    ∙ ap (λ (r : List ℕ). ((r ++ n) ++ l) ++ 10 ∷ []) (mark .ensures)
+    ∙ ap (λ (r : List ℕ). ((digits 2 255 ++ r) ++ l) ++ 10 ∷ []) (number .ensures ∙ ap (λ (k : ℕ). digits k (a .number)) two)
+    ∙ ap (λ (r : List ℕ). ((digits 2 255 ++ digits 2 (a .number)) ++ r) ++ 10 ∷ []) (line .ensures ∙ ap (λ (k : ℕ). digits k (a .line)) eight)
 
 pub refusal-line-spec : {M : Type 1} → statement M
 refusal-line-spec =
