@@ -1,2 +1,16 @@
-pub mod Twelve
+pub mod Basics
+pub mod Tree
+pub mod Scan
+pub mod Levels
+pub mod Apart
+pub mod Recurrence
+pub mod Open
+pub mod Parallels
+pub mod Context
+pub mod Chains
+pub mod Sites
+pub mod Parse
+pub mod Sums
+pub mod Bounds
+pub mod Accept
 pub mod Further

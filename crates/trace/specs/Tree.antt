@@ -3,9 +3,11 @@ use Prim.Native.Nat.{ℕ, zero, suc, _+_, _≤_}
 use mathlib.Core.Path.{_≡_}
 use mathlib.Core.Bool.{Bool, true, false, cond}
 use mathlib.Core.List.{List, [], _∷_, _++_}
-use lib.Dec.{eqb, ltb}
+use lib.Dec.{T, eqb, ltb}
+use lib.ListN.{length}
 use Rattle.line.specs.declared.Frame.{Frame}
 use Rattle.line.specs.declared.Frame.the-variants.{Site, Call, Spawn, Sync, Return, Cost}
+use Rattle.trace.specs.Shape.{ifSite}
 
 -- the items of a body, each with the rest of the body behind it; a call or spawn has its site and its own body
 pub data Body : Type 0 where
@@ -37,6 +39,18 @@ Within m D d (spend v r) = (1 ≤ v) × (v ≤ 4294967295) × Within m D d r
 Within m D d (sync r) = Within m D d r
 Within m D d (call s g r) = (1 ≤ s) × (s ≤ m) × (suc d ≤ D) × Within m D (suc d) g × Within m D d r
 Within m D d (spawn s g r) = (1 ≤ s) × (s ≤ m) × (suc d ≤ D) × Within m D (suc d) g × Within m D d r
+
+abbrev pub AllSites : List Frame → Type 0
+AllSites [] = Unit {0}
+AllSites (f ∷ t) = T (ifSite (λ s p. true) false f) × AllSites t
+
+-- a trace taken apart: its site lines, and the body of its root
+pub record Parts (D : ℕ) (t : List Frame) : Type 0 where
+  pub heads : List Frame
+  pub body : Body
+  pub lines : t ≡ heads ++ linesOf body
+  pub all-sites : AllSites heads
+  pub within : Within (length heads) D 1 body
 
 -- all costs of a body, and those directly in it
 abbrev pub workOf : Body → ℕ

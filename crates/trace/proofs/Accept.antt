@@ -1,0 +1,259 @@
+-- Lines pass exactly where they are sites in order and then the lines of a body within the limits; and the same on characters.
+use mathlib.Core.Path.{_≡_, refl, sym, _∙_, ap, subst}
+use mathlib.Core.Logic.{_↔_}
+use mathlib.Core.Bool.{Bool, true, false, not, cond, _||_}
+use mathlib.Core.List.{List, [], _∷_, _++_, append-assoc, append-nil}
+use Prim.Native.Nat.{ℕ, zero, suc, _+_, _%_, _≤_, _<_}
+use native.Mathlib.Omega.{arith}
+use lib.ListN.{length, length-append}
+use lib.Seq.{append-snoc}
+use lib.Dec.{eqb, ltb, leb}
+use borrow.Author.Tests.{eqb-true, eq-eqb, ne-eqb, le-ltb, le-leb, not-false}
+use Rattle.line.specs.declared.Frame.{Frame}
+use Rattle.line.specs.declared.Frame.the-variants.{Site, Call, Spawn, Sync, Return, Cost}
+use Rattle.line.specs.declared.Read.{Read}
+use Rattle.trace.specs.Shape.{root, step}
+use Rattle.trace.specs.Refusals.{lineCount, openNow, empty, allSites, lastSite, misplaced, aboveM, placeAgain, declared, undeclared, tooDeep, fault, accepted, refused, judged, scan, reads, verdict}
+use Rattle.trace.specs.Tree.{Body, done, spend, sync, call, spawn, linesOf, Within, AllSites, Parts}
+use Rattle.trace.proofs.Basics.{neither}
+use Rattle.trace.proofs.Tree.{IsSite, NotSite}
+use Rattle.trace.proofs.Scan.{InTable, Clean, Reads, reads-length, reads-from-length, Fine, Accepts, accepted-is, faultless, fault-zero, now}
+use Rattle.trace.proofs.Sites.{Numb, numb-start, numb-snoc, declared-same}
+use Rattle.trace.proofs.Parse.{parts}
+use Rattle.trace.proofs.Bounds.{Safe, thirteen-never, safe-snoc, safe-start}
+
+-- sites in order, within M, and no place twice
+abbrev pub HeadsOk : ℕ → List Frame → List Frame → Type 0
+HeadsOk M before [] = Unit {0}
+HeadsOk M before (f ∷ h) = IsSite f × (misplaced before f ≡ false) × (aboveM M f ≡ false) × (placeAgain before f ≡ false) × HeadsOk M (before ++ f ∷ []) h
+
+pub record IsTrace (D M : ℕ) (t : List Frame) : Type 0 where
+  pub heads : List Frame
+  pub body : Body
+  pub lines : t ≡ heads ++ linesOf body
+  pub heads-ok : HeadsOk M [] heads
+  pub within : Within (length heads) D 1 body
+
+heads-pass : (D M : ℕ) (before h u : List Frame) → AllSites h → Clean D M before (h ++ u) → HeadsOk M before h
+heads-pass D M before [] u s c = tt
+heads-pass D M before (f ∷ h) u s c =
+    let w = faultless D M before f (c .0) in
+    (s .0, w .not8, w .not9, w .not10, heads-pass D M (before ++ f ∷ []) h u (s .1) (c .2))
+
+heads-sites : (M : ℕ) (before h : List Frame) → HeadsOk M before h → AllSites h
+heads-sites M before [] k = tt
+heads-sites M before (f ∷ h) k = (k .0, heads-sites M (before ++ f ∷ []) h (k .4))
+
+module _ (D M : ℕ) (most : D ≤ 64) (least : 1 ≤ D) where
+  -- ── sites ──
+
+  site-in : (f : Frame) → IsSite f → InTable f
+  site-in (Site s p) h = tt
+  site-in (Call s) h = absurd h
+  site-in (Spawn s) h = absurd h
+  site-in Sync h = absurd h
+  site-in Return h = absurd h
+  site-in (Cost v) h = absurd h
+
+  site-opens : (f : Frame) (before : List Frame) → IsSite f → (undeclared before f ≡ false) × (tooDeep D before f ≡ false)
+  site-opens (Site s p) before h = (refl, refl)
+  site-opens (Call s) before h = absurd h
+  site-opens (Spawn s) before h = absurd h
+  site-opens Sync before h = absurd h
+  site-opens Return before h = absurd h
+  site-opens (Cost v) before h = absurd h
+
+  stays : (f : Frame) (n : ℕ) (o : List ℕ) → IsSite f → step n f o ≡ o
+  stays (Site s p) n o h = refl
+  stays (Call s) n o h = absurd h
+  stays (Spawn s) n o h = absurd h
+  stays Sync n o h = absurd h
+  stays Return n o h = absurd h
+  stays (Cost v) n o h = absurd h
+
+  safe-heads : (before h : List Frame) → AllSites h → Safe D before → Safe D (before ++ h)
+  safe-heads before [] s k = subst (Safe D) (sym (append-nil before)) k
+  safe-heads before (f ∷ h) s k =
+      subst (Safe D) (append-snoc before f h) (safe-heads (before ++ f ∷ []) h (s .1) (safe-snoc D most least before f k (site-in f (s .0)) (site-opens f before (s .0) .1)))
+
+  clean-heads : (before h u : List Frame) (c : ℕ) (o : List ℕ) → HeadsOk M before h → Safe D before → openNow before ≡ c ∷ o → length before + length h ≤ 65536 → Clean D M (before ++ h) u → Clean D M before (h ++ u)
+  clean-heads before [] u c o k s op l w = subst (λ (b : List Frame). Clean D M b u) (append-nil before) w
+  clean-heads before (f ∷ h) u c o k s op l w =
+      let x = site-opens f before (k .0) in (
+        fault-zero D M before f (record { not7 = ap empty op; not8 = k .1; not9 = k .2; not10 = k .3; not11 = x .0; not12 = x .1; not13 = thirteen-never D most least before f s (site-in f (k .0)) (omega arith) }),
+        site-in f (k .0),
+        clean-heads (before ++ f ∷ []) h u c o (k .4) (safe-snoc D most least before f s (site-in f (k .0)) (x .1)) (now before f ∙ stays f (length before) (openNow before) (k .0) ∙ op)
+            (omega (arith, length-append before (f ∷ []))) (subst (λ (b : List Frame). Clean D M b u) (sym (append-snoc before f h)) w),
+      )
+
+  -- ── the body ──
+
+  module _ (m : ℕ) where
+    record State (before : List Frame) (o : List ℕ) : Type 0 where
+      opened : openNow before ≡ o
+      safe : Safe D before
+      decl : (s : ℕ) → 1 ≤ s → s ≤ m → declared s before ≡ true
+
+    state-snoc : (before : List Frame) (o : List ℕ) (f : Frame) → NotSite f → InTable f → tooDeep D before f ≡ false → State before o → State (before ++ f ∷ []) (step (length before) f o)
+    state-snoc before o f ns i d s =
+        record {
+          opened = now before f ∙ ap (step (length before) f) (s .opened);
+          safe = safe-snoc D most least before f (s .safe) i d;
+          decl = λ x lo hi. declared-same x before (f ∷ []) (ns, tt) ∙ s .decl x lo hi;
+        }
+
+    -- a call or spawn is within the depth
+    deep : (before : List Frame) (c : ℕ) (o : List ℕ) → State before (c ∷ o) → suc (suc (length o)) ≤ D → ltb D (suc (length (openNow before))) ≡ false
+    deep before c o s l = le-ltb D (suc (length (openNow before))) (omega (arith, ap length (s .opened)))
+
+    known : (before : List Frame) (o : List ℕ) (s : ℕ) → State before o → 1 ≤ s → s ≤ m → (eqb s 0 || not (declared s before)) ≡ false
+    known before o s st l e = ap (λ (x : Bool). x || not (declared s before)) (ne-eqb s 0 (λ q. omega arith)) ∙ ap not (st .decl s l e)
+
+    state-body : (b : Body) (before : List Frame) (c : ℕ) (o : List ℕ) → State before (c ∷ o) → Within m D (suc (length o)) b → State (before ++ linesOf b) o
+    state-body done before c o s g = state-snoc before (c ∷ o) Return tt tt refl s
+    state-body (spend v r) before c o s g =
+        subst (λ (b : List Frame). State b o) (append-snoc before (Cost v) (linesOf r)) (state-body r (before ++ Cost v ∷ []) c o (state-snoc before (c ∷ o) (Cost v) tt (g .0, g .1) refl s) (g .2))
+    state-body (sync r) before c o s g =
+        subst (λ (b : List Frame). State b o) (append-snoc before Sync (linesOf r)) (state-body r (before ++ Sync ∷ []) c o (state-snoc before (c ∷ o) Sync tt tt refl s) g)
+    state-body (call i a r) before c o s g =
+        let x = state-snoc before (c ∷ o) (Call i) tt tt (deep before c o s (g .2)) s in
+        let y = state-body a (before ++ Call i ∷ []) (suc (length before)) (c ∷ o) x (g .3) in
+        subst (λ (b : List Frame). State b o) (append-assoc (before ++ Call i ∷ []) (linesOf a) (linesOf r) ∙ append-snoc before (Call i) (linesOf a ++ linesOf r))
+        (state-body r ((before ++ Call i ∷ []) ++ linesOf a) c o y (g .4))
+    state-body (spawn i a r) before c o s g =
+        let x = state-snoc before (c ∷ o) (Spawn i) tt tt (deep before c o s (g .2)) s in
+        let y = state-body a (before ++ Spawn i ∷ []) (suc (length before)) (c ∷ o) x (g .3) in
+        subst (λ (b : List Frame). State b o) (append-assoc (before ++ Spawn i ∷ []) (linesOf a) (linesOf r) ∙ append-snoc before (Spawn i) (linesOf a ++ linesOf r))
+        (state-body r ((before ++ Spawn i ∷ []) ++ linesOf a) c o y (g .4))
+
+    -- a line of a body passes
+    passes : (before : List Frame) (c : ℕ) (o : List ℕ) (f : Frame) → NotSite f → InTable f → undeclared before f ≡ false → tooDeep D before f ≡ false → length before < 65536 → State before (c ∷ o) → fault D M before f ≡ 0
+    passes before c o f ns i u d l s = fault-zero D M before f (record { not7 = ap empty (s .opened); not8 = other8 f ns; not9 = other9 f ns; not10 = other10 f ns; not11 = u; not12 = d; not13 = thirteen-never D most least before f (s .safe) i l })
+      where
+        other8 : (f : Frame) → NotSite f → misplaced before f ≡ false
+        other8 (Site s p) h = absurd h
+        other8 (Call s) h = refl
+        other8 (Spawn s) h = refl
+        other8 Sync h = refl
+        other8 Return h = refl
+        other8 (Cost v) h = refl
+
+        other9 : (f : Frame) → NotSite f → aboveM M f ≡ false
+        other9 (Site s p) h = absurd h
+        other9 (Call s) h = refl
+        other9 (Spawn s) h = refl
+        other9 Sync h = refl
+        other9 Return h = refl
+        other9 (Cost v) h = refl
+
+        other10 : (f : Frame) → NotSite f → placeAgain before f ≡ false
+        other10 (Site s p) h = absurd h
+        other10 (Call s) h = refl
+        other10 (Spawn s) h = refl
+        other10 Sync h = refl
+        other10 Return h = refl
+        other10 (Cost v) h = refl
+
+    abbrev Passes : Body → Type 0
+    Passes b = (before : List Frame) (c : ℕ) (o : List ℕ) (u : List Frame) → State before (c ∷ o) → Within m D (suc (length o)) b → length before + length (linesOf b) ≤ 65536 → Clean D M (before ++ linesOf b) u → Clean D M before (linesOf b ++ u)
+
+    two : (a r : Body) → Passes a → Passes r → (f : Frame) (n : ℕ) (before : List Frame) (c : ℕ) (o : List ℕ) (u : List Frame) → State (before ++ f ∷ []) (n ∷ c ∷ o) → Within m D (suc (suc (length o))) a → Within m D (suc (length o)) r
+        → length before + suc (length (linesOf a ++ linesOf r)) ≤ 65536 → Clean D M (before ++ f ∷ (linesOf a ++ linesOf r)) u → Clean D M (before ++ f ∷ []) ((linesOf a ++ linesOf r) ++ u)
+    two a r fa fr f n before c o u s ga gr l w =
+        let e = append-assoc (before ++ f ∷ []) (linesOf a) (linesOf r) ∙ append-snoc before f (linesOf a ++ linesOf r) in
+        let y = state-body a (before ++ f ∷ []) n (c ∷ o) s ga in
+        let la = length-append before (f ∷ []) in
+        let lb = length-append (before ++ f ∷ []) (linesOf a) in
+        let lc = length-append (linesOf a) (linesOf r) in
+        subst (Clean D M (before ++ f ∷ [])) (sym (append-assoc (linesOf a) (linesOf r) u))
+        (fa (before ++ f ∷ []) n (c ∷ o) (linesOf r ++ u) s ga (omega arith)
+        (fr ((before ++ f ∷ []) ++ linesOf a) c o u y gr (omega arith) (subst (λ (b : List Frame). Clean D M b u) (sym e) w)))
+
+    clean-body : (b : Body) → Passes b
+    clean-body done before c o u s g l w = (passes before c o Return tt tt refl refl (omega arith) s, tt, w)
+    clean-body (spend v r) before c o u s g l w = (
+      passes before c o (Cost v) tt (g .0, g .1) refl refl (omega arith) s,
+      (g .0, g .1),
+      clean-body r (before ++ Cost v ∷ []) c o u (state-snoc before (c ∷ o) (Cost v) tt (g .0, g .1) refl s) (g .2) (omega (arith, length-append before (Cost v ∷ [])))
+          (subst (λ (b : List Frame). Clean D M b u) (sym (append-snoc before (Cost v) (linesOf r))) w),
+    )
+    clean-body (sync r) before c o u s g l w = (
+      passes before c o Sync tt tt refl refl (omega arith) s,
+      tt,
+      clean-body r (before ++ Sync ∷ []) c o u (state-snoc before (c ∷ o) Sync tt tt refl s) g (omega (arith, length-append before (Sync ∷ [])))
+          (subst (λ (b : List Frame). Clean D M b u) (sym (append-snoc before Sync (linesOf r))) w),
+    )
+    clean-body (call i a r) before c o u s g l w = (
+      passes before c o (Call i) tt tt (known before (c ∷ o) i s (g .0) (g .1)) (deep before c o s (g .2)) (omega arith) s,
+      tt,
+      two a r (clean-body a) (clean-body r) (Call i) (suc (length before)) before c o u (state-snoc before (c ∷ o) (Call i) tt tt (deep before c o s (g .2)) s) (g .3) (g .4) l w,
+    )
+    clean-body (spawn i a r) before c o u s g l w = (
+      passes before c o (Spawn i) tt tt (known before (c ∷ o) i s (g .0) (g .1)) (deep before c o s (g .2)) (omega arith) s,
+      tt,
+      two a r (clean-body a) (clean-body r) (Spawn i) (suc (length before)) before c o u (state-snoc before (c ∷ o) (Spawn i) tt tt (deep before c o s (g .2)) s) (g .3) (g .4) l w,
+    )
+
+  heads-open : (before h : List Frame) (o : List ℕ) → AllSites h → openNow before ≡ o → openNow (before ++ h) ≡ o
+  heads-open before [] o s e = ap openNow (append-nil before) ∙ e
+  heads-open before (f ∷ h) o s e =
+      ap openNow (sym (append-snoc before f h)) ∙ heads-open (before ++ f ∷ []) h o (s .1) (now before f ∙ stays f (length before) (openNow before) (s .0) ∙ e)
+
+  heads-numb : (before h : List Frame) → HeadsOk M before h → Numb before → Numb (before ++ h)
+  heads-numb before [] k n = subst Numb (sym (append-nil before)) n
+  heads-numb before (Site s p ∷ h) k n =
+      let x = neither (not (allSites before)) (not (eqb s (suc (lastSite 0 before)))) (k .1) in
+      let e = eqb-true s (suc (lastSite 0 before)) (not-false (eqb s (suc (lastSite 0 before))) (x .1)) in
+      subst Numb (append-snoc before (Site s p) h) (heads-numb (before ++ Site s p ∷ []) h (k .4) (numb-snoc before s p n e))
+  heads-numb before (Call i ∷ h) k n = absurd (k .0)
+  heads-numb before (Spawn i ∷ h) k n = absurd (k .0)
+  heads-numb before (Sync ∷ h) k n = absurd (k .0)
+  heads-numb before (Return ∷ h) k n = absurd (k .0)
+  heads-numb before (Cost v ∷ h) k n = absurd (k .0)
+
+  tree-passes : (t : List Frame) → length t ≤ 65536 → IsTrace D M t → Clean D M [] t
+  tree-passes t l x =
+      let ss = heads-sites M [] (x .heads) (x .heads-ok) in
+      let len : length t ≡ length (x .heads) + length (linesOf (x .body)) = ap length (x .lines) ∙ length-append (x .heads) (linesOf (x .body)) in
+      let st : State (length (x .heads)) (x .heads) (root ∷ []) = record {
+        opened = heads-open [] (x .heads) (root ∷ []) ss refl;
+        safe = safe-heads [] (x .heads) ss (safe-start D most least);
+        decl = heads-numb [] (x .heads) (x .heads-ok) numb-start .each;
+      } in
+      let end = state-body (length (x .heads)) (x .body) (x .heads) root [] st (x .within) in
+      let e : x .heads ++ (linesOf (x .body) ++ []) ≡ t = ap (λ (z : List Frame). x .heads ++ z) (append-nil (linesOf (x .body))) ∙ sym (x .lines) in
+      subst (Clean D M []) e
+      (clean-heads [] (x .heads) (linesOf (x .body) ++ []) root [] (x .heads-ok) (safe-start D most least) refl (omega arith)
+      (clean-body (length (x .heads)) (x .body) (x .heads) root [] [] st (x .within) (omega arith) (ap empty (end .opened))))
+
+-- LAW: lines pass exactly where they are sites in order and then the lines of a body within the limits
+pub fine-is-trace : (D M : ℕ) (t : List Frame) → Fine D M t → IsTrace D M t
+fine-is-trace D M t f =
+    let p = parts D M t f in
+    record { heads = p .heads; body = p .body; lines = p .lines; heads-ok = heads-pass D M [] (p .heads) (linesOf (p .body)) (p .all-sites) (subst (Clean D M []) (p .lines) (f .clean)); within = p .within }
+
+pub trace-is-fine : (D M : ℕ) (t : List Frame) → 1 ≤ D → D ≤ 64 → M ≤ 255 → length t ≤ 65536 → IsTrace D M t → Fine D M t
+trace-is-fine D M t a b c d x = record { clean = tree-passes D M b a t d x; least = a; most = b; sites-most = c; lines-most = d }
+
+-- ── and the characters ──
+
+clean-accepted : (D M n : ℕ) (before : List Frame) (rs : List Read) (u : List Frame) → Reads n rs u → Clean D M before u → scan D M before rs ≡ accepted (before ++ u)
+clean-accepted D M n before [] [] r c = ap (λ (b : Bool). cond b (accepted before) (refused 14 (length before))) c ∙ ap accepted (sym (append-nil before))
+clean-accepted D M n before [] (f ∷ u) r c = absurd r
+clean-accepted D M n before (l ∷ ls) [] r c = absurd r
+clean-accepted D M n before (l ∷ ls) (f ∷ u) r c =
+    ap (λ (x : Read). judged D M before x (λ f. scan D M (before ++ f ∷ []) ls)) (r .0)
+    ∙ ap (λ (b : Bool). cond b (scan D M (before ++ f ∷ []) ls) (refused (fault D M before f) n)) (eq-eqb (fault D M before f) 0 (c .0))
+    ∙ clean-accepted D M (suc n) (before ++ f ∷ []) ls u (r .1) (c .2)
+    ∙ ap accepted (append-snoc before f u)
+
+-- LAW: where the room is there, a text is accepted exactly if it is whole lines that read as frames that pass
+pub accepts-accepted : (s : List ℕ) (D M : ℕ) (t : List Frame) → Accepts s D M t → verdict s D M true ≡ accepted t
+accepts-accepted s D M t h =
+    let f = h .fine in
+    let n : lineCount s ≤ 65536 = omega (arith, f .lines-most, reads-length 0 (reads s) t (h .reads-as), reads-from-length s 0 (lineCount s)) in
+    simp (le-leb 1 D (f .least), le-leb D 64 (f .most), le-leb M 255 (f .sites-most), eq-eqb (length s % 23) 0 (h .whole-lines), le-ltb 65536 (lineCount s) n)
+    (clean-accepted D M 0 [] (reads s) t (h .reads-as) (f .clean))
+
+pub accepted-iff : (s : List ℕ) (D M : ℕ) (t : List Frame) → (verdict s D M true ≡ accepted t) ↔ Accepts s D M t
+accepted-iff s D M t = (λ e. accepted-is s D M true t e .1, accepts-accepted s D M t)

@@ -1,0 +1,260 @@
+-- Levels along lines: which lines an invocation contains, and which two lines are beside each other, by recursion on the lines;
+-- and what both say of the lines of a body.
+use mathlib.Core.Path.{_≡_, refl, sym, _∙_, ap, subst, subst₂}
+use mathlib.Core.Logic.{_⊎_, inl, inr}
+use mathlib.Core.Bool.{Bool, true, false}
+use mathlib.Core.List.{List, [], _∷_, _++_, append-assoc}
+use Prim.Native.Nat.{ℕ, zero, suc, _+_, _≤_, _<_}
+use native.Mathlib.Nat.{suc-add, add-assoc}
+use native.Mathlib.Numerals.{one-add}
+use native.Mathlib.Omega.{arith}
+use lib.Dec.{when}
+use Rattle.line.specs.declared.Frame.{Frame}
+use Rattle.line.specs.declared.Frame.the-variants.{Site, Call, Spawn, Sync, Return, Cost}
+use Rattle.trace.specs.Tree.{Body, done, spend, sync, call, spawn, linesOf, size}
+use Rattle.trace.proofs.Basics.{below}
+
+-- A walk to the line that stands i lines on, which counts the invocations that open on the way. hit: what the line itself says.
+-- pass: whether a sync directly in the invocation of the first line may be passed. out: what comes after that invocation's return.
+module _ (hit : Type 0) (pass : Bool) (out : List Frame → ℕ → Type 0) where
+  abbrev pub climb : ℕ → List Frame → ℕ → Type 0
+  climb k [] i = ⊥
+  climb k (e ∷ t) zero = hit
+  climb k (Site s p ∷ t) (suc i) = climb k t i
+  climb k (Call s ∷ t) (suc i) = climb (suc k) t i
+  climb k (Spawn s ∷ t) (suc i) = climb (suc k) t i
+  climb zero (Sync ∷ t) (suc i) = when pass (climb zero t i)
+  climb (suc k) (Sync ∷ t) (suc i) = climb (suc k) t i
+  climb zero (Return ∷ t) (suc i) = out t i
+  climb (suc k) (Return ∷ t) (suc i) = climb k t i
+  climb k (Cost v ∷ t) (suc i) = climb k t i
+
+abbrev pub never : List Frame → ℕ → Type 0
+never t i = ⊥
+
+-- the line is in the invocation whose body begins here
+abbrev pub In : List Frame → ℕ → Type 0
+In t i = climb (Unit {0}) true never zero t i
+
+-- the invocation that has this line is still open there, and no sync directly in it lies between
+abbrev pub Near : List Frame → ℕ → Type 0
+Near t i = climb (Unit {0}) false never zero t i
+
+-- the invocation whose body begins here has returned, and what Near says holds from there on
+abbrev pub Past : List Frame → ℕ → Type 0
+Past t i = climb ⊥ true Near zero t i
+
+-- some spawned invocation contains line i and not line j, its spawner is still open at line j, and no sync directly in the spawner lies between
+abbrev pub Beside : List Frame → ℕ → ℕ → Type 0
+Beside [] i j = ⊥
+Beside (e ∷ t) zero j = ⊥
+Beside (e ∷ t) (suc i) zero = ⊥
+Beside (Site s p ∷ t) (suc i) (suc j) = Beside t i j
+Beside (Call s ∷ t) (suc i) (suc j) = Beside t i j
+Beside (Spawn s ∷ t) (suc i) (suc j) = (In t i × Past t j) ⊎ Beside t i j
+Beside (Sync ∷ t) (suc i) (suc j) = Beside t i j
+Beside (Return ∷ t) (suc i) (suc j) = Beside t i j
+Beside (Cost v ∷ t) (suc i) (suc j) = Beside t i j
+
+-- the lines up to the next direct sync, or up to the return
+abbrev pub bsize : Body → ℕ
+bsize done = 1
+bsize (spend v r) = suc (bsize r)
+bsize (sync r) = 1
+bsize (call s g r) = suc (size g + bsize r)
+bsize (spawn s g r) = suc (size g + bsize r)
+
+module _ (hit : Type 0) (pass : Bool) (out : List Frame → ℕ → Type 0) where
+  -- a climb past a whole body comes one level down
+  pub skip : (b : Body) (k : ℕ) (u : List Frame) (i : ℕ) → climb hit pass out (suc k) (linesOf b ++ u) (size b + i) ≡ climb hit pass out k u i
+  skip done k u i = rw (one-add i)
+  skip (spend v r) k u i = rw (suc-add (size r) i) (skip r k u i)
+  skip (sync r) k u i = rw (suc-add (size r) i) (skip r k u i)
+  skip (call s g r) k u i = rw (suc-add (size g + size r) i, append-assoc (linesOf g) (linesOf r) u, add-assoc (size g) (size r) i) (skip g (suc k) (linesOf r ++ u) (size r + i) ∙ skip r k u i)
+  skip (spawn s g r) k u i = rw (suc-add (size g + size r) i, append-assoc (linesOf g) (linesOf r) u, add-assoc (size g) (size r) i) (skip g (suc k) (linesOf r ++ u) (size r + i) ∙ skip r k u i)
+
+  -- the step of the laws below at a call or a spawn
+  level : (g : Body) (k : ℕ) (v : List Frame) (m i : ℕ) (T : Type 0) → i < size g + m
+      → (i < size g → climb hit pass out (suc k) (linesOf g ++ v) i ≡ T)
+      → ((j : ℕ) → j < m → climb hit pass out k v j ≡ T)
+      → climb hit pass out (suc k) (linesOf g ++ v) i ≡ T
+  level g k v m i T h f f′ = go (below (size g) i)
+    where
+      go : (i < size g) ⊎ ((j : ℕ) × (i ≡ size g + j)) → climb hit pass out (suc k) (linesOf g ++ v) i ≡ T
+      go (inl l) = f l
+      go (inr w) = rw (w .1) (skip g k v (w .0) ∙ f′ (w .0) (omega (arith, w .1)))
+
+  -- a climb that ends in a body of a level above
+  pub arrive : (b : Body) (k : ℕ) (u : List Frame) (i : ℕ) → i < size b → climb hit pass out (suc k) (linesOf b ++ u) i ≡ hit
+  arrive done k u zero h = refl
+  arrive done k u (suc i) h = absurd (omega arith)
+  arrive (spend v r) k u zero h = refl
+  arrive (spend v r) k u (suc i) h = arrive r k u i (omega arith)
+  arrive (sync r) k u zero h = refl
+  arrive (sync r) k u (suc i) h = arrive r k u i (omega arith)
+  arrive (call s g r) k u zero h = refl
+  arrive (call s g r) k u (suc i) h =
+      rw (append-assoc (linesOf g) (linesOf r) u) (level g (suc k) (linesOf r ++ u) (size r) i hit (omega arith) (arrive g (suc k) (linesOf r ++ u) i) (arrive r k u))
+  arrive (spawn s g r) k u zero h = refl
+  arrive (spawn s g r) k u (suc i) h =
+      rw (append-assoc (linesOf g) (linesOf r) u) (level g (suc k) (linesOf r ++ u) (size r) i hit (omega arith) (arrive g (suc k) (linesOf r ++ u) i) (arrive r k u))
+
+  -- a climb from the body's own level, up to its first direct sync
+  pub near : (b : Body) (u : List Frame) (i : ℕ) → i < bsize b → climb hit pass out zero (linesOf b ++ u) i ≡ hit
+  near done u zero h = refl
+  near done u (suc i) h = absurd (omega arith)
+  near (spend v r) u zero h = refl
+  near (spend v r) u (suc i) h = near r u i (omega arith)
+  near (sync r) u zero h = refl
+  near (sync r) u (suc i) h = absurd (omega arith)
+  near (call s g r) u zero h = refl
+  near (call s g r) u (suc i) h =
+      rw (append-assoc (linesOf g) (linesOf r) u) (level g zero (linesOf r ++ u) (bsize r) i hit (omega arith) (arrive g zero (linesOf r ++ u) i) (near r u))
+  near (spawn s g r) u zero h = refl
+  near (spawn s g r) u (suc i) h =
+      rw (append-assoc (linesOf g) (linesOf r) u) (level g zero (linesOf r ++ u) (bsize r) i hit (omega arith) (arrive g zero (linesOf r ++ u) i) (near r u))
+
+module _ (hit : Type 0) (out : List Frame → ℕ → Type 0) where
+  -- a climb that passes syncs, to a line of the body and to what follows the body
+  pub reach : (b : Body) (u : List Frame) (i : ℕ) → i < size b → climb hit true out zero (linesOf b ++ u) i ≡ hit
+  reach done u zero h = refl
+  reach done u (suc i) h = absurd (omega arith)
+  reach (spend v r) u zero h = refl
+  reach (spend v r) u (suc i) h = reach r u i (omega arith)
+  reach (sync r) u zero h = refl
+  reach (sync r) u (suc i) h = reach r u i (omega arith)
+  reach (call s g r) u zero h = refl
+  reach (call s g r) u (suc i) h =
+      rw (append-assoc (linesOf g) (linesOf r) u) (level hit true out g zero (linesOf r ++ u) (size r) i hit (omega arith) (arrive hit true out g zero (linesOf r ++ u) i) (reach r u))
+  reach (spawn s g r) u zero h = refl
+  reach (spawn s g r) u (suc i) h =
+      rw (append-assoc (linesOf g) (linesOf r) u) (level hit true out g zero (linesOf r ++ u) (size r) i hit (omega arith) (arrive hit true out g zero (linesOf r ++ u) i) (reach r u))
+
+  pub leave : (b : Body) (u : List Frame) (i : ℕ) → climb hit true out zero (linesOf b ++ u) (size b + i) ≡ out u i
+  leave done u i = rw (one-add i)
+  leave (spend v r) u i = rw (suc-add (size r) i) (leave r u i)
+  leave (sync r) u i = rw (suc-add (size r) i) (leave r u i)
+  leave (call s g r) u i =
+      rw (suc-add (size g + size r) i, append-assoc (linesOf g) (linesOf r) u, add-assoc (size g) (size r) i) (skip hit true out g zero (linesOf r ++ u) (size r + i) ∙ leave r u i)
+  leave (spawn s g r) u i =
+      rw (suc-add (size g + size r) i, append-assoc (linesOf g) (linesOf r) u, add-assoc (size g) (size r) i) (skip hit true out g zero (linesOf r ++ u) (size r + i) ∙ leave r u i)
+
+pub bsize-le : (b : Body) → bsize b ≤ size b
+bsize-le done = omega arith
+bsize-le (spend v r) = omega (arith, bsize-le r)
+bsize-le (sync r) = omega arith
+bsize-le (call s g r) = omega (arith, bsize-le r)
+bsize-le (spawn s g r) = omega (arith, bsize-le r)
+
+-- what In, Near and Past say of a body's lines
+pub in-lt : (b : Body) (u : List Frame) (i : ℕ) → In (linesOf b ++ u) i → i < size b
+in-lt b u i h = go (below (size b) i)
+  where
+    go : (i < size b) ⊎ ((k : ℕ) × (i ≡ size b + k)) → i < size b
+    go (inl l) = l
+    go (inr w) =
+        let k : In (linesOf b ++ u) (size b + w .0) = subst (In (linesOf b ++ u)) (w .1) h in
+        absurd (rw (leave (Unit {0}) never b u (w .0)) at k)
+
+pub in-of : (b : Body) (u : List Frame) (i : ℕ) → i < size b → In (linesOf b ++ u) i
+in-of b u i h = rw (reach (Unit {0}) never b u i h) tt
+
+pub past-out : (b : Body) (u : List Frame) (j : ℕ) → Past (linesOf b ++ u) j → (k : ℕ) × (j ≡ size b + k) × Near u k
+past-out b u j h = go (below (size b) j)
+  where
+    go : (j < size b) ⊎ ((k : ℕ) × (j ≡ size b + k)) → (k : ℕ) × (j ≡ size b + k) × Near u k
+    go (inl l) = absurd (rw (reach ⊥ Near b u j l) at h)
+    go (inr w) =
+        let k : Past (linesOf b ++ u) (size b + w .0) = subst (Past (linesOf b ++ u)) (w .1) h in
+        (w .0, w .1, rw (leave ⊥ Near b u (w .0)) at k)
+
+pub past-of : (b : Body) (u : List Frame) (k : ℕ) → Near u k → Past (linesOf b ++ u) (size b + k)
+past-of b u k h = rw (leave ⊥ Near b u k) h
+
+pub near-of : (b : Body) (u : List Frame) (i : ℕ) → i < bsize b → Near (linesOf b ++ u) i
+near-of b u i h = rw (near (Unit {0}) false never b u i h) tt
+
+near-level : (g r : Body) (u : List Frame) (i : ℕ) → ((j : ℕ) → Near (linesOf r ++ u) j → j < bsize r)
+    → climb (Unit {0}) false never 1 (linesOf g ++ (linesOf r ++ u)) i → suc i < suc (size g + bsize r)
+near-level g r u i f h = go (below (size g) i)
+  where
+    go : (i < size g) ⊎ ((k : ℕ) × (i ≡ size g + k)) → suc i < suc (size g + bsize r)
+    go (inl l) = omega arith
+    go (inr w) =
+        let k : climb (Unit {0}) false never 1 (linesOf g ++ (linesOf r ++ u)) (size g + w .0) = subst (climb (Unit {0}) false never 1 (linesOf g ++ (linesOf r ++ u))) (w .1) h in
+        omega (arith, w .1, f (w .0) (rw (skip (Unit {0}) false never g zero (linesOf r ++ u) (w .0)) at k))
+
+pub near-lt : (b : Body) (u : List Frame) (i : ℕ) → Near (linesOf b ++ u) i → i < bsize b
+near-lt done u zero h = omega arith
+near-lt done u (suc i) h = absurd h
+near-lt (spend v r) u zero h = omega arith
+near-lt (spend v r) u (suc i) h = omega (arith, near-lt r u i h)
+near-lt (sync r) u zero h = omega arith
+near-lt (sync r) u (suc i) h = absurd h
+near-lt (call s g r) u zero h = omega arith
+near-lt (call s g r) u (suc i) h = near-level g r u i (near-lt r u) (rw (append-assoc (linesOf g) (linesOf r) u) at h)
+near-lt (spawn s g r) u zero h = omega arith
+near-lt (spawn s g r) u (suc i) h = near-level g r u i (near-lt r u) (rw (append-assoc (linesOf g) (linesOf r) u) at h)
+
+-- lines past a body are parallel where they are so without it
+pub par-shift : (b : Body) (u : List Frame) (i j : ℕ) → Beside (linesOf b ++ u) (size b + i) (size b + j) → Beside u i j
+par-shift done u i j h = rw (one-add i, one-add j) at h
+par-shift (spend v r) u i j h = par-shift r u i j (rw (suc-add (size r) i, suc-add (size r) j) at h)
+par-shift (sync r) u i j h = par-shift r u i j (rw (suc-add (size r) i, suc-add (size r) j) at h)
+par-shift (call s g r) u i j h =
+    par-shift r u i j (par-shift g (linesOf r ++ u) (size r + i) (size r + j) (rw (suc-add (size g + size r) i, suc-add (size g + size r) j, append-assoc (linesOf g) (linesOf r) u, add-assoc (size g) (size r) i, add-assoc (size g) (size r) j) at h))
+par-shift (spawn s g r) u i j h =
+    par-shift r u i j (par-shift g (linesOf r ++ u) (size r + i) (size r + j) (go (rw (suc-add (size g + size r) i, suc-add (size g + size r) j, append-assoc (linesOf g) (linesOf r) u, add-assoc (size g) (size r) i, add-assoc (size g) (size r) j) at h)))
+  where
+    go : Beside (Spawn s ∷ (linesOf g ++ (linesOf r ++ u))) (suc (size g + (size r + i))) (suc (size g + (size r + j))) → Beside (linesOf g ++ (linesOf r ++ u)) (size g + (size r + i)) (size g + (size r + j))
+    go (inl k) = absurd (omega (arith, in-lt g (linesOf r ++ u) (size g + (size r + i)) (k .0)))
+    go (inr k) = k
+
+pub par-unshift : (b : Body) (u : List Frame) (i j : ℕ) → Beside u i j → Beside (linesOf b ++ u) (size b + i) (size b + j)
+par-unshift done u i j h = rw (one-add i, one-add j) h
+par-unshift (spend v r) u i j h = rw (suc-add (size r) i, suc-add (size r) j) (par-unshift r u i j h)
+par-unshift (sync r) u i j h = rw (suc-add (size r) i, suc-add (size r) j) (par-unshift r u i j h)
+par-unshift (call s g r) u i j h =
+    rw (suc-add (size g + size r) i, suc-add (size g + size r) j, append-assoc (linesOf g) (linesOf r) u, add-assoc (size g) (size r) i, add-assoc (size g) (size r) j)
+    (par-unshift g (linesOf r ++ u) (size r + i) (size r + j) (par-unshift r u i j h))
+par-unshift (spawn s g r) u i j h =
+    rw (suc-add (size g + size r) i, suc-add (size g + size r) j, append-assoc (linesOf g) (linesOf r) u, add-assoc (size g) (size r) i, add-assoc (size g) (size r) j)
+    (inr (par-unshift g (linesOf r ++ u) (size r + i) (size r + j) (par-unshift r u i j h)))
+
+-- what is parallel to a line of the body, and later, is in the body
+within-level : (g r : Body) (u : List Frame) (i j : ℕ) → i < size g + size r
+    → (i < size g → Beside (linesOf g ++ (linesOf r ++ u)) i j → j < size g)
+    → ((i j : ℕ) → i < size r → Beside (linesOf r ++ u) i j → j < size r)
+    → Beside (linesOf g ++ (linesOf r ++ u)) i j → j < size g + size r
+within-level g r u i j l f f′ h = go (below (size g) i) (below (size g) j)
+  where
+    go : (i < size g) ⊎ ((k : ℕ) × (i ≡ size g + k)) → (j < size g) ⊎ ((k : ℕ) × (j ≡ size g + k)) → j < size g + size r
+    go (inl a) b = omega (arith, f a h)
+    go (inr a) (inl b) = omega arith
+    go (inr a) (inr b) =
+        let k = subst₂ (λ (m n : ℕ). Beside (linesOf g ++ (linesOf r ++ u)) m n) (a .1) (b .1) h in
+        omega (arith, b .1, f′ (a .0) (b .0) (omega (arith, a .1)) (par-shift g (linesOf r ++ u) (a .0) (b .0) k))
+
+pub par-within : (b : Body) (u : List Frame) (i j : ℕ) → i < size b → Beside (linesOf b ++ u) i j → j < size b
+par-within done u zero j l h = absurd h
+par-within done u (suc i) j l h = absurd (omega arith)
+par-within (spend v r) u zero j l h = absurd h
+par-within (spend v r) u (suc i) zero l h = absurd h
+par-within (spend v r) u (suc i) (suc j) l h = omega (arith, par-within r u i j (omega arith) h)
+par-within (sync r) u zero j l h = absurd h
+par-within (sync r) u (suc i) zero l h = absurd h
+par-within (sync r) u (suc i) (suc j) l h = omega (arith, par-within r u i j (omega arith) h)
+par-within (call s g r) u zero j l h = absurd h
+par-within (call s g r) u (suc i) zero l h = absurd h
+par-within (call s g r) u (suc i) (suc j) l h =
+    omega (arith, within-level g r u i j (omega arith) (par-within g (linesOf r ++ u) i j) (par-within r u) (rw (append-assoc (linesOf g) (linesOf r) u) at h))
+par-within (spawn s g r) u zero j l h = absurd h
+par-within (spawn s g r) u (suc i) zero l h = absurd h
+par-within (spawn s g r) u (suc i) (suc j) l h =
+    omega (arith, go (within-level g r u i j (omega arith) (par-within g (linesOf r ++ u) i j) (par-within r u)) (rw (append-assoc (linesOf g) (linesOf r) u) at h))
+  where
+    go : (Beside (linesOf g ++ (linesOf r ++ u)) i j → j < size g + size r) → Beside (Spawn s ∷ (linesOf g ++ (linesOf r ++ u))) (suc i) (suc j) → j < size g + size r
+    go f (inl k) =
+        let w = past-out g (linesOf r ++ u) j (k .1) in
+        omega (arith, w .1, near-lt r u (w .0) (w .2), bsize-le r)
+    go f (inr k) = f k

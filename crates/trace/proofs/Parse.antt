@@ -1,0 +1,194 @@
+-- The lines of an accepted trace behind its sites are the lines of a body within the limits.
+use mathlib.Core.Path.{_≡_, refl, sym, _∙_, ap, subst}
+use mathlib.Core.Bool.{Bool, true, false, not, _||_}
+use mathlib.Core.List.{List, [], _∷_, _++_, append-assoc, append-nil}
+use Prim.Native.Nat.{ℕ, zero, suc, _+_, _≤_, _<_}
+use native.Mathlib.Omega.{arith}
+use lib.ListN.{length, length-append}
+use lib.Seq.{append-snoc}
+use lib.Dec.{eqb, ltb}
+use borrow.Author.Tests.{eqb-true, eqb-false, ltb-false, not-false}
+use Rattle.line.specs.declared.Place.{Place}
+use Rattle.line.specs.declared.Frame.{Frame}
+use Rattle.line.specs.declared.Frame.the-variants.{Site, Call, Spawn, Sync, Return, Cost}
+use Rattle.trace.specs.Shape.{root, step}
+use Rattle.trace.specs.Refusals.{openNow, empty, allSites, lastSite, declared}
+use Rattle.trace.specs.Tree.{Body, done, spend, sync, call, spawn, linesOf, Within, AllSites, Parts}
+use Rattle.trace.proofs.Basics.{no-way, neither}
+use Rattle.trace.proofs.Tree.{NotSite, NoSites, no-sites-right, no-sites-lines}
+use Rattle.trace.proofs.Scan.{Clean, Fine, faultless, now}
+use Rattle.trace.proofs.Sites.{other-before, no-sites-after, Numb, numb-start, numb-snoc, declared-same}
+
+-- the sites, and the rest
+pub record Split (D M : ℕ) (before u : List Frame) : Type 0 where
+  pub heads : List Frame
+  pub rest : List Frame
+  pub lines : u ≡ heads ++ rest
+  pub all-sites : AllSites heads
+  pub rest-are : NoSites rest
+  pub clean : Clean D M (before ++ heads) rest
+  pub opened : openNow (before ++ heads) ≡ root ∷ []
+  pub numb : Numb (before ++ heads)
+
+at-rest : (D M : ℕ) (before u : List Frame) → openNow before ≡ root ∷ [] → Numb before → NoSites u → Clean D M before u → Split D M before u
+at-rest D M before u o nb n c =
+    let e : before ≡ before ++ [] = sym (append-nil before) in
+    record {
+      heads = [];
+      rest = u;
+      lines = refl;
+      all-sites = tt;
+      rest-are = n;
+      clean = subst (λ (b : List Frame). Clean D M b u) e c;
+      opened = subst (λ (b : List Frame). openNow b ≡ root ∷ []) e o;
+      numb = subst Numb e nb;
+    }
+
+split : (D M : ℕ) (before u : List Frame) → openNow before ≡ root ∷ [] → Numb before → Clean D M before u → Split D M before u
+split D M before [] o nb c = at-rest D M before [] o nb tt c
+split D M before (Site s p ∷ u) o nb c =
+    let y = neither (not (allSites before)) (not (eqb s (suc (lastSite 0 before)))) (faultless D M before (Site s p) (c .0) .not8) in
+    let x = eqb-true s (suc (lastSite 0 before)) (not-false (eqb s (suc (lastSite 0 before))) (y .1)) in
+    let k = split D M (before ++ Site s p ∷ []) u (now before (Site s p) ∙ o) (numb-snoc before s p nb x) (c .2) in
+    let a = append-snoc before (Site s p) (k .heads) in
+    record {
+      heads = Site s p ∷ k .heads;
+      rest = k .rest;
+      lines = ap (λ (l : List Frame). Site s p ∷ l) (k .lines);
+      all-sites = (tt, k .all-sites);
+      rest-are = k .rest-are;
+      clean = subst (λ (b : List Frame). Clean D M b (k .rest)) a (k .clean);
+      opened = subst (λ (b : List Frame). openNow b ≡ root ∷ []) a (k .opened);
+      numb = subst Numb a (k .numb);
+    }
+split D M before (Call s ∷ u) o nb c = at-rest D M before (Call s ∷ u) o nb (tt, no-sites-after D M (before ++ Call s ∷ []) u (other-before before (Call s) tt) (c .2)) c
+split D M before (Spawn s ∷ u) o nb c = at-rest D M before (Spawn s ∷ u) o nb (tt, no-sites-after D M (before ++ Spawn s ∷ []) u (other-before before (Spawn s) tt) (c .2)) c
+split D M before (Sync ∷ u) o nb c = at-rest D M before (Sync ∷ u) o nb (tt, no-sites-after D M (before ++ Sync ∷ []) u (other-before before Sync tt) (c .2)) c
+split D M before (Return ∷ u) o nb c = at-rest D M before (Return ∷ u) o nb (tt, no-sites-after D M (before ++ Return ∷ []) u (other-before before Return tt) (c .2)) c
+split D M before (Cost v ∷ u) o nb c = at-rest D M before (Cost v ∷ u) o nb (tt, no-sites-after D M (before ++ Cost v ∷ []) u (other-before before (Cost v) tt) (c .2)) c
+
+-- ── the rest is a body ──
+
+module _ (D M m : ℕ) where
+  pub record Found (before u : List Frame) (o : List ℕ) : Type 0 where
+    pub body : Body
+    pub rest : List Frame
+    pub lines : u ≡ linesOf body ++ rest
+    pub now-open : openNow (before ++ linesOf body) ≡ o
+    pub clean : Clean D M (before ++ linesOf body) rest
+    pub within : Within m D (suc (length o)) body
+    pub shorter : length rest < length u
+
+  abbrev Parsed : ℕ → Type 0
+  Parsed k = (before u : List Frame) (F : ℕ) (o : List ℕ) → length u ≤ k → NoSites u → ((s : ℕ) → declared s before ≡ true → s ≤ m) → openNow before ≡ F ∷ o → Clean D M before u → Found before u o
+
+  module _ (k : ℕ) (rec : Parsed k) (before u : List Frame) (F : ℕ) (o : List ℕ) (l : length u ≤ k) (n : NoSites u) (same : (s : ℕ) → declared s before ≡ true → s ≤ m) (op : openNow before ≡ F ∷ o) where
+    same-on : (f : Frame) → NotSite f → (s : ℕ) → declared s (before ++ f ∷ []) ≡ true → s ≤ m
+    same-on f h s d = same s (sym (declared-same s before (f ∷ []) (h, tt)) ∙ d)
+
+    -- a line that opens and closes nothing
+    plain : (f : Frame) (i : Body → Body) → NotSite f → ((b : Body) → linesOf (i b) ≡ f ∷ linesOf b) → openNow (before ++ f ∷ []) ≡ F ∷ o
+        → ((b : Body) → Within m D (suc (length o)) b → Within m D (suc (length o)) (i b)) → Clean D M (before ++ f ∷ []) u → Found before (f ∷ u) o
+    plain f i h li w gi c =
+        let x = rec (before ++ f ∷ []) u F o l n (same-on f h) w c in
+        let a : (before ++ f ∷ []) ++ linesOf (x .body) ≡ before ++ linesOf (i (x .body)) = append-snoc before f (linesOf (x .body)) ∙ ap (λ (z : List Frame). before ++ z) (sym (li (x .body))) in
+        record {
+          body = i (x .body);
+          rest = x .rest;
+          lines = ap (λ (z : List Frame). f ∷ z) (x .lines) ∙ ap (λ (z : List Frame). z ++ x .rest) (sym (li (x .body)));
+          now-open = subst (λ (b : List Frame). openNow b ≡ o) a (x .now-open);
+          clean = subst (λ (b : List Frame). Clean D M b (x .rest)) a (x .clean);
+          within = gi (x .body) (x .within);
+          shorter = omega (arith, x .shorter);
+        }
+
+    -- a line that opens an invocation
+    nested : (f : Frame) (i : Body → Body → Body) → NotSite f → ((g r : Body) → linesOf (i g r) ≡ f ∷ (linesOf g ++ linesOf r)) → (G : ℕ) → openNow (before ++ f ∷ []) ≡ G ∷ F ∷ o
+        → ((g r : Body) → Within m D (suc (suc (length o))) g → Within m D (suc (length o)) r → Within m D (suc (length o)) (i g r)) → Clean D M (before ++ f ∷ []) u → Found before (f ∷ u) o
+    nested f i h li G w gi c = opened (rec (before ++ f ∷ []) u G (F ∷ o) l n (same-on f h) w c)
+      where
+        both : (x : Found (before ++ f ∷ []) u (F ∷ o)) → Found ((before ++ f ∷ []) ++ linesOf (x .body)) (x .rest) o → Found before (f ∷ u) o
+        both x y =
+            let e : ((before ++ f ∷ []) ++ linesOf (x .body)) ++ linesOf (y .body) ≡ before ++ linesOf (i (x .body) (y .body)) =
+            append-assoc (before ++ f ∷ []) (linesOf (x .body)) (linesOf (y .body)) ∙ append-snoc before f (linesOf (x .body) ++ linesOf (y .body)) ∙ ap (λ (z : List Frame). before ++ z) (sym (li (x .body) (y .body))) in
+            record {
+              body = i (x .body) (y .body);
+              rest = y .rest;
+              lines =
+                  ap (λ (z : List Frame). f ∷ z) (x .lines ∙ ap (λ (z : List Frame). linesOf (x .body) ++ z) (y .lines) ∙ sym (append-assoc (linesOf (x .body)) (linesOf (y .body)) (y .rest)))
+                  ∙ ap (λ (z : List Frame). z ++ y .rest) (sym (li (x .body) (y .body)));
+              now-open = subst (λ (b : List Frame). openNow b ≡ o) e (y .now-open);
+              clean = subst (λ (b : List Frame). Clean D M b (y .rest)) e (y .clean);
+              within = gi (x .body) (y .body) (x .within) (y .within);
+              shorter = omega (arith, x .shorter, y .shorter);
+            }
+
+        opened : Found (before ++ f ∷ []) u (F ∷ o) → Found before (f ∷ u) o
+        opened x =
+            both x
+            (rec ((before ++ f ∷ []) ++ linesOf (x .body)) (x .rest) F o (omega (arith, x .shorter)) (no-sites-right (linesOf (x .body)) (x .rest) (subst NoSites (x .lines) n))
+            (λ s d. same-on f h s (sym (declared-same s (before ++ f ∷ []) (linesOf (x .body)) (no-sites-lines (x .body))) ∙ d)) (x .now-open) (x .clean))
+
+    allowed : (s : ℕ) → (eqb s 0 || not (declared s before)) ≡ false → (1 ≤ s) × (s ≤ m)
+    allowed s e =
+        let h = neither (eqb s 0) (not (declared s before)) e in
+        let z = eqb-false s 0 (h .0) in
+        (positive s z, same s (not-false (declared s before) (h .1)))
+      where
+        positive : (s : ℕ) → (s ≡ 0 → ⊥) → 1 ≤ s
+        positive zero z = absurd (z refl)
+        positive (suc s) z = omega arith
+
+    room : ltb D (suc (length (openNow before))) ≡ false → suc (suc (length o)) ≤ D
+    room e = omega (arith, ltb-false D (suc (length (openNow before))) e, ap length op)
+
+  pub parse : (k : ℕ) → Parsed k
+  parse zero before [] F o l n same op c = absurd (no-way (sym (ap empty op) ∙ c))
+  parse zero before (f ∷ u) F o l n same op c = absurd (omega arith)
+  parse (suc k) before [] F o l n same op c = absurd (no-way (sym (ap empty op) ∙ c))
+  parse (suc k) before (Site s p ∷ u) F o l n same op c = absurd (n .0)
+  parse (suc k) before (Cost v ∷ u) F o l n same op c =
+      plain k (parse k) before u F o (omega arith) (n .1) same op (Cost v) (spend v) tt (λ b. refl) (now before (Cost v) ∙ op) (λ b q. (c .1 .0, c .1 .1, q)) (c .2)
+  parse (suc k) before (Sync ∷ u) F o l n same op c =
+      plain k (parse k) before u F o (omega arith) (n .1) same op Sync sync tt (λ b. refl) (now before Sync ∙ op) (λ b q. q) (c .2)
+  parse (suc k) before (Return ∷ u) F o l n same op c =
+      record {
+        body = done;
+        rest = u;
+        lines = refl;
+        now-open = now before Return ∙ ap (step (length before) Return) op;
+        clean = c .2;
+        within = tt;
+        shorter = omega arith;
+      }
+  parse (suc k) before (Call s ∷ u) F o l n same op c =
+      let h = faultless D M before (Call s) (c .0) in
+      let a = allowed k (parse k) before u F o (omega arith) (n .1) same op s (h .not11) in
+      let d = room k (parse k) before u F o (omega arith) (n .1) same op (h .not12) in
+      nested k (parse k) before u F o (omega arith) (n .1) same op (Call s) (call s) tt (λ g r. refl) (suc (length before))
+      (now before (Call s) ∙ ap (step (length before) (Call s)) op) (λ g r x y. (a .0, a .1, d, x, y)) (c .2)
+  parse (suc k) before (Spawn s ∷ u) F o l n same op c =
+      let h = faultless D M before (Spawn s) (c .0) in
+      let a = allowed k (parse k) before u F o (omega arith) (n .1) same op s (h .not11) in
+      let d = room k (parse k) before u F o (omega arith) (n .1) same op (h .not12) in
+      nested k (parse k) before u F o (omega arith) (n .1) same op (Spawn s) (spawn s) tt (λ g r. refl) (suc (length before))
+      (now before (Spawn s) ∙ ap (step (length before) (Spawn s)) op) (λ g r x y. (a .0, a .1, d, x, y)) (c .2)
+
+-- no line passes behind the root's return
+closed : (D M : ℕ) (before u : List Frame) → openNow before ≡ [] → Clean D M before u → u ≡ []
+closed D M before [] o c = refl
+closed D M before (f ∷ u) o c = no-way (sym (faultless D M before f (c .0) .not7) ∙ ap empty o)
+
+-- LAW: the lines that pass are sites and then the lines of a body
+pub parts : (D M : ℕ) (t : List Frame) → Fine D M t → Parts D t
+parts D M t f =
+    let s = split D M [] t refl numb-start (f .clean) in
+    let p = parse D M (length (s .heads)) (length (s .rest)) (s .heads) (s .rest) root [] (omega arith) (s .rest-are) (λ i d. s .numb .only i d .1) (s .opened) (s .clean) in
+    let c = closed D M (s .heads ++ linesOf (p .body)) (p .rest) (p .now-open) (p .clean) in
+    record {
+      heads = s .heads;
+      body = p .body;
+      lines = s .lines ∙ ap (λ (z : List Frame). s .heads ++ z) (p .lines ∙ ap (λ (z : List Frame). linesOf (p .body) ++ z) c ∙ append-nil (linesOf (p .body)));
+      all-sites = s .all-sites;
+      within = p .within;
+    }

@@ -1,0 +1,159 @@
+-- Cilkprof's recurrence with the join at a return: with chains for numbers it gives the pick of the body's plan, and on numbers its weight.
+use mathlib.Core.Path.{_≡_, refl, sym, _∙_, ap, subst}
+use mathlib.Core.Logic.{_⊎_, inl, inr}
+use mathlib.Core.Bool.{Bool, true, false, cond}
+use mathlib.Core.List.{List, [], _∷_, _++_, append-nil, append-assoc}
+use Prim.Native.Nat.{ℕ, zero, suc, _+_, _≤_, _<_}
+use native.Mathlib.Omega.{arith}
+use lib.Dec.{ltb}
+use Rattle.chain.specs.Plan.{CostLine, Plan, costs, All, Worth, Positive, weight, choose, pick, Chosen}
+use Rattle.chain.proofs.Lists.{all-append, weight-append}
+use Rattle.chain.proofs.Choose.{test, choose-cases, choose-left, choose-right, choose-empty}
+use Rattle.chain.proofs.Laws.{pick-worth, pick-chosen, chosen-unique}
+use Rattle.trace.specs.Tree.{Body, done, spend, sync, call, spawn, size, Within, larger, spanFrom, spanOf}
+use Rattle.trace.specs.Fold.{costAt, block, after, plan, Chains, nothing, spent, joined, called, spawned, run, chainOf}
+use Rattle.trace.proofs.Apart.{plan-ordered}
+
+-- each cost is at least 1
+abbrev pub Paid : Body → Type 0
+Paid done = Unit {0}
+Paid (spend v r) = (1 ≤ v) × Paid r
+Paid (sync r) = Paid r
+Paid (call i g r) = Paid g × Paid r
+Paid (spawn i g r) = Paid g × Paid r
+
+pub paid : (m D d : ℕ) (b : Body) → Within m D d b → Paid b
+paid m D d done h = tt
+paid m D d (spend v r) h = (h .0, paid m D d r (h .2))
+paid m D d (sync r) h = paid m D d r h
+paid m D d (call i g r) h = (paid m D (suc d) g (h .3), paid m D d r (h .4))
+paid m D d (spawn i g r) h = (paid m D (suc d) g (h .3), paid m D d r (h .4))
+
+positive : (b : Body) (n s : ℕ) → Paid b → All Worth (costs (block n s b)) × All Worth (costs (after n s b))
+positive done n s h = (tt, tt)
+positive (spend v r) n s h = let k = positive r (suc n) s (h .1) in ((h .0, k .0), k .1)
+positive (sync r) n s h = let k = positive r (suc n) s h in (tt, all-append Worth (costs (block (suc n) s r)) (costs (after (suc n) s r)) (k .0) (k .1))
+positive (call i g r) n s h =
+    let w = positive g (suc n) i (h .0) in
+    let k = positive r (suc n + size g) s (h .1) in
+    (all-append Worth (costs (plan (suc n) i g)) (costs (block (suc n + size g) s r)) (all-append Worth (costs (block (suc n) i g)) (costs (after (suc n) i g)) (w .0) (w .1)) (k .0), k .1)
+positive (spawn i g r) n s h =
+    let w = positive g (suc n) i (h .0) in
+    let k = positive r (suc n + size g) s (h .1) in
+    (all-append Worth (costs (plan (suc n) i g)) (costs (block (suc n + size g) s r)) (all-append Worth (costs (block (suc n) i g)) (costs (after (suc n) i g)) (w .0) (w .1)) (k .0), k .1)
+
+pub plan-positive : (b : Body) (n s : ℕ) → Paid b → Positive (plan n s b)
+plan-positive b n s h = let k = positive b n s h in all-append Worth (costs (block n s b)) (costs (after n s b)) (k .0) (k .1)
+
+-- what choose-cases gives
+abbrev Cases : List CostLine → List CostLine → Type 0
+Cases a b = ((weight a < weight b) × (choose a b ≡ b)) ⊎ ((weight b ≤ weight a) × (choose a b ≡ a))
+
+-- the two facts of choose on which the spawn step rests
+taken : (l c g b : List CostLine) → weight l < weight c + weight g → choose l (c ++ choose g b) ≡ c ++ choose g b
+taken l c g b h = go (choose-cases g b)
+  where
+    go : Cases g b → choose l (c ++ choose g b) ≡ c ++ choose g b
+    go (inl k) = choose-right l (c ++ choose g b) (omega (arith, weight-append c (choose g b), ap weight (k .1)))
+    go (inr k) = choose-right l (c ++ choose g b) (omega (arith, weight-append c (choose g b), ap weight (k .1)))
+
+passed : (l c g b : List CostLine) → weight c + weight g ≤ weight l → choose l (c ++ choose g b) ≡ choose l (c ++ b)
+passed l c g b h = go (choose-cases g b)
+  where
+    go : Cases g b → choose l (c ++ choose g b) ≡ choose l (c ++ b)
+    go (inl k) = ap (λ (d : List CostLine). choose l (c ++ d)) (k .1)
+    go (inr k) =
+        choose-left l (c ++ choose g b) (omega (arith, weight-append c (choose g b), ap weight (k .1)))
+        ∙ sym (choose-left l (c ++ b) (omega (arith, weight-append c b)))
+
+-- a spawn, decided
+spawn-taken : (g : List CostLine) (k : Chains) → ltb (weight (k .l)) (weight (k .c) + weight g) ≡ true → spawned g k ≡ record { p = k .p ++ k .c; l = g; c = [] }
+spawn-taken g k e = rw e
+
+spawn-passed : (g : List CostLine) (k : Chains) → ltb (weight (k .l)) (weight (k .c) + weight g) ≡ false → spawned g k ≡ k
+spawn-passed g k e = rw e
+
+-- what the chains of an open invocation come to, once the rest of it is b
+abbrev Ends : ℕ → ℕ → Chains → Body → List CostLine
+Ends n s k b = k .p ++ choose (k .l) (k .c ++ pick (block n s b)) ++ pick (after n s b)
+
+block-empty : (b : Body) (n s : ℕ) → Paid b → choose [] (pick (block n s b)) ≡ pick (block n s b)
+block-empty b n s h = choose-empty (pick (block n s b)) (pick-worth (block n s b) (positive b n s h .0))
+
+-- the invariant
+run-is : (b : Body) → Paid b → (n s : ℕ) (k : Chains) → run n s k b ≡ Ends n s k b
+run-is done h n s k = rw (append-nil (k .c)) (sym (append-nil _))
+run-is (spend v r) h n s k = run-is r (h .1) (suc n) s (spent (costAt n s v) k) ∙ rw (append-assoc (k .c) (costAt n s v ∷ []) (pick (block (suc n) s r)))
+run-is (sync r) h n s k =
+    run-is r h (suc n) s (joined k)
+    ∙ rw (block-empty r (suc n) s h, append-nil (k .c)) (append-assoc (k .p ++ choose (k .l) (k .c)) (pick (block (suc n) s r)) (pick (after (suc n) s r)))
+run-is (call i g r) h n s k =
+    let e : chainOf (suc n) i g ≡ pick (plan (suc n) i g) = run-is g (h .0) (suc n) i nothing ∙ rw (block-empty g (suc n) i (h .0)) in
+    run-is r (h .1) (suc n + size g) s (called (chainOf (suc n) i g) k) ∙ rw (e, append-assoc (k .c) (pick (plan (suc n) i g)) (pick (block (suc n + size g) s r)))
+run-is (spawn i g r) h n s k =
+    let e : chainOf (suc n) i g ≡ pick (plan (suc n) i g) = run-is g (h .0) (suc n) i nothing ∙ rw (block-empty g (suc n) i (h .0)) in
+    run-is r (h .1) (suc n + size g) s (spawned (chainOf (suc n) i g) k) ∙ go (chainOf (suc n) i g) e (test (weight (k .l)) (weight (k .c) + weight (chainOf (suc n) i g)))
+  where
+    rest : List CostLine
+    rest = pick (block (suc n + size g) s r)
+
+    go : (c : List CostLine) → c ≡ pick (plan (suc n) i g)
+        → ((weight (k .l) < weight (k .c) + weight c) × (ltb (weight (k .l)) (weight (k .c) + weight c) ≡ true)) ⊎ ((weight (k .c) + weight c ≤ weight (k .l)) × (ltb (weight (k .l)) (weight (k .c) + weight c) ≡ false))
+        → Ends (suc n + size g) s (spawned c k) r ≡ Ends n s k (spawn i g r)
+    go c e (inl t) =
+        ap (λ (x : Chains). Ends (suc n + size g) s x r) (spawn-taken c k (t .1))
+        ∙ rw (e, taken (k .l) (k .c) (pick (plan (suc n) i g)) rest (omega (arith, ap weight e)), append-assoc (k .p) (k .c) (choose (pick (plan (suc n) i g)) rest))
+    go c e (inr t) = ap (λ (x : Chains). Ends (suc n + size g) s x r) (spawn-passed c k (t .1)) ∙ rw (passed (k .l) (k .c) (pick (plan (suc n) i g)) rest (omega (arith, ap weight e)))
+
+-- LAW: with chains for numbers, the recurrence gives the pick of the plan
+pub chain-is-pick : (b : Body) (n s : ℕ) → Paid b → chainOf n s b ≡ pick (plan n s b)
+chain-is-pick b n s h = run-is b h n s nothing ∙ rw (block-empty b n s h)
+
+-- LAW: it is the chosen chain of the plan, and nothing else is
+pub chain-chosen : (b : Body) (n s : ℕ) → Paid b → Chosen (plan n s b) (chainOf n s b)
+chain-chosen b n s h = rw (chain-is-pick b n s h) (pick-chosen (plan n s b) (plan-ordered b n s) (plan-positive b n s h))
+
+pub chain-only : (b : Body) (n s : ℕ) → Paid b → (c : List CostLine) → Chosen (plan n s b) c → c ≡ chainOf n s b
+chain-only b n s h c w = chosen-unique (plan n s b) c (chainOf n s b) w (chain-chosen b n s h)
+
+-- ── on numbers ──
+
+weight-choose : (a b : List CostLine) → weight (choose a b) ≡ larger (weight a) (weight b)
+weight-choose a b = go (choose-cases a b) (test (weight a) (weight b))
+  where
+    go : Cases a b → ((weight a < weight b) × (ltb (weight a) (weight b) ≡ true)) ⊎ ((weight b ≤ weight a) × (ltb (weight a) (weight b) ≡ false)) → weight (choose a b) ≡ larger (weight a) (weight b)
+    go (inl k) (inl t) = rw (k .1, t .1)
+    go (inl k) (inr t) = absurd (omega arith)
+    go (inr k) (inl t) = absurd (omega arith)
+    go (inr k) (inr t) = rw (k .1, t .1)
+
+-- the recurrence on numbers, from the weights of the chains
+abbrev Spans : Chains → Body → ℕ
+Spans k b = spanFrom (weight (k .p)) (weight (k .l)) (weight (k .c)) b
+
+weight-run : (b : Body) (n s : ℕ) (k : Chains) → weight (run n s k b) ≡ Spans k b
+weight-run done n s k = weight-append (k .p) (choose (k .l) (k .c)) ∙ rw (weight-choose (k .l) (k .c))
+weight-run (spend v r) n s k =
+    let e : weight (k .c ++ costAt n s v ∷ []) ≡ weight (k .c) + v = omega (arith, weight-append (k .c) (costAt n s v ∷ [])) in
+    weight-run r (suc n) s (spent (costAt n s v) k) ∙ ap (λ (c : ℕ). spanFrom (weight (k .p)) (weight (k .l)) c r) e
+weight-run (sync r) n s k =
+    weight-run r (suc n) s (joined k) ∙ ap (λ (p : ℕ). spanFrom p 0 0 r) (weight-append (k .p) (choose (k .l) (k .c)) ∙ ap (λ (x : ℕ). weight (k .p) + x) (weight-choose (k .l) (k .c)))
+weight-run (call i g r) n s k =
+    weight-run r (suc n + size g) s (called (chainOf (suc n) i g) k)
+    ∙ ap (λ (c : ℕ). spanFrom (weight (k .p)) (weight (k .l)) c r) (weight-append (k .c) (chainOf (suc n) i g) ∙ ap (λ (x : ℕ). weight (k .c) + x) (weight-run g (suc n) i nothing))
+weight-run (spawn i g r) n s k =
+    weight-run r (suc n + size g) s (spawned (chainOf (suc n) i g) k) ∙ go (chainOf (suc n) i g) (weight-run g (suc n) i nothing) (test (weight (k .l)) (weight (k .c) + weight (chainOf (suc n) i g)))
+  where
+    go : (c : List CostLine) → weight c ≡ spanOf g
+        → ((weight (k .l) < weight (k .c) + weight c) × (ltb (weight (k .l)) (weight (k .c) + weight c) ≡ true)) ⊎ ((weight (k .c) + weight c ≤ weight (k .l)) × (ltb (weight (k .l)) (weight (k .c) + weight c) ≡ false))
+        → Spans (spawned c k) r ≡ Spans k (spawn i g r)
+    go c e (inl t) =
+        let q : ltb (weight (k .l)) (weight (k .c) + spanOf g) ≡ true = ap (λ (x : ℕ). ltb (weight (k .l)) (weight (k .c) + x)) (sym e) ∙ t .1 in
+        ap (λ (x : Chains). Spans x r) (spawn-taken c k (t .1)) ∙ rw (q, weight-append (k .p) (k .c), e)
+    go c e (inr t) =
+        let q : ltb (weight (k .l)) (weight (k .c) + spanOf g) ≡ false = ap (λ (x : ℕ). ltb (weight (k .l)) (weight (k .c) + x)) (sym e) ∙ t .1 in
+        ap (λ (x : Chains). Spans x r) (spawn-passed c k (t .1)) ∙ rw q
+
+-- LAW: the recurrence on numbers gives the weight of that chain, whatever the line and the row
+pub weight-chain : (b : Body) (n s : ℕ) → weight (chainOf n s b) ≡ spanOf b
+weight-chain b n s = weight-run b n s nothing
