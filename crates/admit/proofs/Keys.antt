@@ -1,11 +1,11 @@
 -- Keys of places: narrow places are the same exactly when their keys are, so a lookup among the keys finds a place already declared.
 use mathlib.Core.Path.{_≡_, refl, sym, _∙_, ap}
 use mathlib.Core.Bool.{Bool, true, false, cond, _&&_, _||_, or-true, or-false}
-use mathlib.Core.List.{List, [], _∷_, _++_}
+use mathlib.Core.List.{List, [], _∷_, _++_, append-nil}
 use Prim.Native.Nat.{ℕ, suc, _+_, _*_, _≤_, _<_}
 use native.Mathlib.Numerals.{add-one}
 use native.Mathlib.Omega.{arith}
-use lib.ListN.{length, take, drop, set, getD, drop-of-length-le}
+use lib.ListN.{length, take, drop, set, getD, length-set, drop-of-length-le}
 use lib.Seq.{drop-cons, take-suc-set}
 use lib.Dec.{eqb}
 use borrow.Author.Tests.{eqb-true, eqb-false, eq-eqb, ne-eqb}
@@ -14,6 +14,7 @@ use Rattle.line.specs.declared.Frame.{Frame}
 use Rattle.line.specs.declared.Frame.the-variants.{Site, Call, Spawn, Sync, Return, Cost}
 use Rattle.trace.specs.Shape.{ifSite, has, sites}
 use Rattle.trace.specs.Refusals.{samePlace, placed, placeAgain}
+use Rattle.trace.proofs.Sites.{sites-append}
 use Rattle.admit.specs.Step.{key, seen, kept}
 
 -- ── the lookup ──
@@ -116,5 +117,27 @@ module _ (ks : List ℕ) (before : List Frame) (are : take (sites before) ks ≡
   seen-is Return n m = refl
   seen-is (Cost v) n m = refl
 
+  -- the keys with a line's place kept are those of the places declared with it
   pub kept-is : (f : Frame) → sites before < length ks → take (sites (before ++ f ∷ [])) (kept ks (sites before) f) ≡ keysOf (before ++ f ∷ [])
-  kept-is f l = ?
+  kept-is f l = ap (λ (k : ℕ). take k (kept ks (sites before) f)) (sites-append before (f ∷ [])) ∙ go f ∙ sym (keys-snoc before f)
+    where
+      same : take (sites before + 0) ks ≡ keysOf before ++ []
+      same = let z : sites before + 0 ≡ sites before = omega arith in rw z (are ∙ sym (append-nil (keysOf before)))
+
+      go : (f : Frame) → take (sites before + sites (f ∷ [])) (kept ks (sites before) f) ≡ keysOf before ++ ifSite (λ s p. key p ∷ []) [] f
+      go (Site s p) =
+          let z : sites before + 1 ≡ suc (sites before) = omega arith in
+          rw z (take-suc-set ks (sites before) (key p) l ∙ ap (λ (u : List ℕ). u ++ key p ∷ []) are)
+      go (Call s) = same
+      go (Spawn s) = same
+      go Sync = same
+      go Return = same
+      go (Cost v) = same
+
+  pub kept-length : (f : Frame) → length (kept ks (sites before) f) ≡ length ks
+  kept-length (Site s p) = length-set ks (sites before) (key p)
+  kept-length (Call s) = refl
+  kept-length (Spawn s) = refl
+  kept-length Sync = refl
+  kept-length Return = refl
+  kept-length (Cost v) = refl

@@ -10,12 +10,16 @@ use Rattle.line.specs.declared.Frame.{Frame}
 use Rattle.line.specs.declared.Frame.the-variants.{Site, Call, Spawn, Sync, Return, Cost}
 use Rattle.line.specs.declared.Read.{Read}
 use Rattle.line.specs.declared.Read.the-variants.{Line, Refused}
-use Rattle.trace.specs.Shape.{ifSite, has}
-use Rattle.trace.specs.Refusals.{lineCount}
+use Rattle.trace.specs.Shape.{ifSite, has, sites}
+use Rattle.trace.specs.Refusals.{lineCount, openNow}
 use Rattle.admit.specs.declared.Tally.{Tally}
 use Rattle.admit.specs.declared.Tallied.{Tallied}
 use Rattle.admit.specs.declared.Tallied.the-variants.{Next}
 use Rattle.admit.specs.declared.Tallied.the-variants.{Refused as Stop}
+
+-- "A tally of lines, sites and open depth": that of the lines before
+abbrev pub tallyOf : List Frame → Tally
+tallyOf before = record { lines = length before; sites = sites before; depth = length (openNow before) }
 
 -- a place as one number
 abbrev pub key : Place → ℕ
