@@ -1,2 +1,3 @@
 // A hexadecimal digit, and numbers of a fixed width.
+pub mod read;
 pub mod write;

@@ -1,3 +1,4 @@
 pub mod Table
 pub mod Read
+pub mod At
 pub mod Write

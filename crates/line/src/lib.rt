@@ -1,4 +1,11 @@
 // A trace line: its place, its frame, its reader and its writer.
+ghost use mathlib.Core.Path.{_≡_};
+ghost use mathlib.Core.Bool.{cond};
+ghost use Prim.Native.Nat.{_+_, _≤_};
+ghost use lib.ListN.{replicate};
+ghost use Rattle.line.specs.Table.{only, table};
+ghost use Rattle.line.specs.Read.{tabled, readLine, readAt};
+ghost use Rattle.line.specs.At.{fieldAt, kindAt, siteAt, valueAt};
 
 // "A site line carries its place: file, line and column."
 pub struct Place {
@@ -27,4 +34,134 @@ pub enum Read {
 pub enum Wrote {
     Chars(usize),
     Refused(u8, usize),
+}
+
+// The frame where its fields are as the table has them, else refusal 6.
+fn listed(fit: bool, f: Frame, n: usize) -> Read
+    ensures { λ r. ⌜ r ≡ tabled (only fit f) n ⌝ }
+{
+    if fit {
+        return Read::Line(n, f);
+    }
+    Read::Refused(6, n)
+}
+
+// The frame that five fields are by the table of kinds, else refusal 6.
+fn framed(kind: u32, site: u16, value: u32, file: u16, column: u16, n: usize) -> Read
+    ensures { λ r. ⌜ r ≡ tabled (table (record { kind = kind; site = site; value = value; file = file; column = column })) n ⌝ }
+{
+    match kind {
+        1 => {
+            let line = value;
+            listed(
+                (1 <= value) & (1 <= file) & (1 <= column),
+                Frame::Site(site, Place { file, line, column }),
+                n,
+            )
+        }
+        2 => listed(
+            (value == 0) & (file == 0) & (column == 0),
+            Frame::Call(site),
+            n,
+        ),
+        3 => listed(
+            (value == 0) & (file == 0) & (column == 0),
+            Frame::Spawn(site),
+            n,
+        ),
+        4 => listed(
+            (site == 0) & (value == 0) & (file == 0) & (column == 0),
+            Frame::Sync,
+            n,
+        ),
+        5 => listed(
+            (site == 0) & (value == 0) & (file == 0) & (column == 0),
+            Frame::Return,
+            n,
+        ),
+        6 => listed(
+            (site == 0) & (1 <= value) & (file == 0) & (column == 0),
+            Frame::Cost(value),
+            n,
+        ),
+        _ => Read::Refused(6, n),
+    }
+}
+
+// What the characters s are as line n. Every digit is decoded before the one test of them all.
+fn read_as(s: &[u8], n: usize) -> Read
+    ensures { λ r. ⌜ r ≡ readLine (now (s .entry)) n ⌝ }
+{
+    if s.len() != 23 {
+        return Read::Refused(2, 0);
+    }
+    let kind = digits::read::number(&s[0..2]);
+    let site = digits::read::number(&s[2..6]);
+    let value = digits::read::number(&s[6..14]);
+    let file = digits::read::number(&s[14..18]);
+    let column = digits::read::number(&s[18..22]);
+    if !(kind.good & site.good & value.good & file.good & column.good & (s[22] == 10)) {
+        return Read::Refused(5, n);
+    }
+    framed(
+        kind.value,
+        site.value as u16,
+        value.value,
+        file.value as u16,
+        column.value as u16,
+        n,
+    )
+}
+
+// The line reader: the frame that the 23 characters lent are, or refusal 2, 5 or 6 with line 0.
+pub fn read_line(s: &[u8]) -> Read
+    ensures { λ r. ⌜ r ≡ readLine (now (s .entry)) 0 ⌝ }
+{
+    read_as(s, 0)
+}
+
+// Line n of a text, read; refusal 2 where the text ends before it does.
+pub fn read_at(text: &[u8], n: usize) -> Read
+    ensures { λ r. ⌜ r ≡ readAt (now (text .entry)) n ⌝ }
+{
+    if text.len() / 23 <= n {
+        return Read::Refused(2, 0);
+    }
+    let a = 23 * n;
+    read_as(&text[a..a + 23], n)
+}
+
+// The number in one field of line n.
+fn field_at(text: &[u8], n: usize, from: usize, size: usize) -> u32
+    requires { ⌜ (from + size ≤ 23) × (size ≤ 8) ⌝ }
+    ensures { λ r. ⌜ r ≡ fieldAt (now (text .entry)) n from size ⌝ }
+{
+    if text.len() / 23 <= n {
+        return 0;
+    }
+    let a = 23 * n + from;
+    let e = a + size;
+    let field = digits::read::number(&text[a..e]);
+    field.value
+}
+
+// The kind of line n, and nothing of the rest: for lines that are known to be accepted.
+pub fn kind_at(text: &[u8], n: usize) -> u8
+    ensures { λ r. ⌜ r ≡ kindAt (now (text .entry)) n ⌝ }
+{
+    field_at(text, n, 0, 2) as u8
+}
+
+// The site of line n.
+pub fn site_at(text: &[u8], n: usize) -> u16
+    ensures { λ r. ⌜ r ≡ siteAt (now (text .entry)) n ⌝ }
+{
+    field_at(text, n, 2, 4) as u16
+}
+
+// The value of line n.
+pub fn value_at(text: &[u8], n: usize) -> u32
+    ensures { λ r. ⌜ r ≡ valueAt (now (text .entry)) n ⌝ }
+{
+    field_at(text, n, 6, 8)
 }

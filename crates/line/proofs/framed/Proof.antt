@@ -1,0 +1,68 @@
+-- `line::framed` meets its contract: its arms are the lines of the table. Assumes nothing.
+use mathlib.Core.Bool.{and-true}
+use borrow.Author.Tests.{le-leb, ne-eqb}
+use mathlib.Core.Path.{_≡_}
+use native.Mathlib.Omega.{arith}
+use borrow.Author.Needs.{needs}
+use Rattle.line.proofs.framed.Statement.{statement}
+use Rattle.line.proofs.framed.Tie as tie
+
+listed-requires : tie.Need-listed-requires
+listed-requires c κs = search needs
+
+listed-requires-2 : tie.Need-listed-requires-2
+listed-requires-2 c κs = search needs
+
+listed-requires-3 : tie.Need-listed-requires-3
+listed-requires-3 c κs = search needs
+
+listed-requires-4 : tie.Need-listed-requires-4
+listed-requires-4 c κs = search needs
+
+listed-requires-5 : tie.Need-listed-requires-5
+listed-requires-5 c κs = search needs
+
+listed-requires-6 : tie.Need-listed-requires-6
+listed-requires-6 c κs = search needs
+
+returns : tie.Need-returns
+returns c = let e : c .before .before .args .kind ≡ 1 = c .before .match .keys1 in rw e (c .listed .ensures)
+
+returns-2 : tie.Need-returns-2
+returns-2 c = let e : c .before .before .args .kind ≡ 2 = c .before .match .keys2 in rw e (c .listed2 .ensures)
+
+returns-3 : tie.Need-returns-3
+returns-3 c = let e : c .before .before .args .kind ≡ 3 = c .before .match .keys3 in rw e (c .listed3 .ensures)
+
+returns-4 : tie.Need-returns-4
+returns-4 c = let e : c .before .before .args .kind ≡ 4 = c .before .match .keys4 in rw e (c .listed4 .ensures)
+
+returns-5 : tie.Need-returns-5
+returns-5 c = let e : c .before .before .args .kind ≡ 5 = c .before .match .keys5 in rw e (c .listed5 .ensures)
+
+returns-6 : tie.Need-returns-6
+returns-6 c = let e : c .before .before .args .kind ≡ 6 = c .before .match .keys6 in
+    rw e (simp (le-leb (c .before .before .args .value) 4294967295 (omega arith), and-true) (c .listed6 .ensures))
+
+returns-7 : tie.Need-returns-7
+returns-7 c =
+    let r = c .match .rest in
+    simp (ne-eqb _ 1 (r .0 .0 .0 .0 .0 .1), ne-eqb _ 2 (r .0 .0 .0 .0 .1), ne-eqb _ 3 (r .0 .0 .0 .1), ne-eqb _ 4 (r .0 .0 .1), ne-eqb _ 5 (r .0 .1), ne-eqb _ 6 (r .1))
+
+pub framed-spec : {M : Type 1} → statement M
+framed-spec =
+    tie.close
+    (tie.spec
+    listed-requires
+    listed-requires-2
+    listed-requires-3
+    listed-requires-4
+    listed-requires-5
+    listed-requires-6
+    returns
+    returns-2
+    returns-3
+    returns-4
+    returns-5
+    returns-6
+    returns-7)

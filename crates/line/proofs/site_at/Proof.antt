@@ -1,0 +1,18 @@
+-- `line::site_at` meets its contract. Assumes nothing.
+use native.Mathlib.Omega.{arith}
+use Rattle.line.proofs.At.{field-below}
+use borrow.Author.Needs.{needs}
+use Rattle.line.proofs.site_at.Statement.{statement}
+use Rattle.line.proofs.site_at.Tie as tie
+
+field-at-requires : tie.Need-field-at-requires
+field-at-requires c κs = search needs
+
+cast-result : tie.Need-cast-result
+cast-result c = omega (arith, c .field-at .ensures, field-below (c .before .before .args .text .now) (c .before .before .args .n) 2 4)
+
+returns : tie.Need-returns
+returns c = search needs
+
+pub site-at-spec : {M : Type 1} → statement M
+site-at-spec = tie.close (tie.spec field-at-requires cast-result returns)
