@@ -11,7 +11,7 @@ use Rattle.line.specs.declared.Place.{Place}
 use Rattle.line.specs.declared.Frame.{Frame}
 use Rattle.line.specs.declared.Frame.the-variants.{Site, Call, Spawn, Sync, Return, Cost}
 use Rattle.trace.specs.Shape.{ifSite, closed, step, sites}
-use Rattle.trace.specs.Refusals.{openNow, empty, afterRoot, lastSite, allSites, misplaced, placed, placeAgain, declared, beyond, fault}
+use Rattle.trace.specs.Refusals.{openNow, empty, afterRoot, lastSite, allSites, misplaced, aboveM, placed, placeAgain, declared, beyond, fault}
 use Rattle.trace.proofs.Basics.{neither}
 use Rattle.trace.proofs.Scan.{now}
 use Rattle.trace.proofs.Sites.{sites-append, declared-same}
@@ -81,10 +81,20 @@ numbered-snoc before Sync m h = other before Sync (last-snoc before 0 Sync) refl
 numbered-snoc before Return m h = other before Return (last-snoc before 0 Return) refl (λ x. refl) h
 numbered-snoc before (Cost v) m h = other before (Cost v) (last-snoc before 0 (Cost v)) refl (λ x. refl) h
 
+-- the sites stay within M
+pub within-snoc : (M : ℕ) (before : List Frame) (f : Frame) → misplaced before f ≡ false → aboveM M f ≡ false → Numbered before → sites before ≤ M → sites (before ++ f ∷ []) ≤ M
+within-snoc M before (Site s p) m a h l =
+    omega (arith, ltb-false M s a, last-snoc before 0 (Site s p), numbered-snoc before (Site s p) m h .last)
+within-snoc M before (Call s) m a h l = omega (arith, sites-append before (Call s ∷ []))
+within-snoc M before (Spawn s) m a h l = omega (arith, sites-append before (Spawn s ∷ []))
+within-snoc M before Sync m a h l = omega (arith, sites-append before (Sync ∷ []))
+within-snoc M before Return m a h l = omega (arith, sites-append before (Return ∷ []))
+within-snoc M before (Cost v) m a h l = omega (arith, sites-append before (Cost v ∷ []))
+
 -- ── the tests by the tally ──
 
 -- 7: nothing is open
-none-open : (o : List ℕ) → eqb (length o) 0 ≡ empty o
+pub none-open : (o : List ℕ) → eqb (length o) 0 ≡ empty o
 none-open [] = refl
 none-open (x ∷ o) = ne-eqb (length (x ∷ o)) 0 (λ e. omega arith)
 

@@ -34,13 +34,6 @@ pub enum Tallied {
     Refused(u8, usize),
 }
 
-// Stub.
-fn read_at(text: &[u8], n: usize) -> Read
-    ensures { λ r. ⌜ r ≡ readAt (now (text .entry)) n ⌝ }
-{
-    Read::Refused(2, 0)
-}
-
 // A place as one number, 16 bits of file, 32 of line and 16 of column: two places are the same exactly when their keys are.
 fn key(p: Place) -> u64
     ensures { λ r. ⌜ r ≡ key p ⌝ }
@@ -152,7 +145,7 @@ fn judge(trace: &[u8], keys: &mut [u64], t: Tally, depth: usize, sites: usize) -
     requires { ⌜ Within depth (now keys) t ⌝ }
     ensures { λ r. ⌜ (r ≡ judgedBy depth sites (now (keys .entry)) t (readAt (now (trace .entry)) (t .lines))) × (now (keys .exit) ≡ keptBy (now (keys .entry)) t (readAt (now (trace .entry)) (t .lines))) ⌝ }
 {
-    match read_at(trace, t.lines) {
+    match line::read_at(trace, t.lines) {
         Read::Line(_, frame) => {
             let found = again(keys, t.sites, frame);
             step(t, frame, found, depth, sites)

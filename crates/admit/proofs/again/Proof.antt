@@ -1,3 +1,19 @@
+-- `admit::again` meets its contract: a site line's key is looked for among those before it, and is kept behind them.
+use mathlib.Core.Path.{_≡_, refl, sym, ap, _∙_}
+use mathlib.Core.Logic.{_⊎_, inl, inr}
+use mathlib.Core.Bool.{false}
+use mathlib.Core.List.{List, [], _∷_}
+use Prim.Native.Nat.{ℕ}
+use native.Mathlib.Omega.{arith}
+use lib.ListN.{take, set}
+use lib.Seq.{length-take-le}
+use types.Run.{OneOf}
+use denote.Enum.Declared.{tagOf}
+use Rattle.line.proofs.Frame.{the-type}
+use Rattle.line.specs.declared.Frame.{Frame}
+use Rattle.line.specs.declared.Frame.the-variants.{Site, Call, Spawn, Sync, Return, Cost}
+use Rattle.trace.specs.Shape.{has}
+use Rattle.admit.specs.Step.{seen, kept}
 use borrow.Author.Needs.{needs}
 use Rattle.admit.proofs.again.Statement.{statement}
 use Rattle.admit.proofs.again.Tie as tie
@@ -5,6 +21,22 @@ use Rattle.admit.proofs.again.Reads as reads
 use Rattle.admit.proofs.again.Lts as lts
 use Rattle.admit.proofs.key.Reads as key-reads
 use Rattle.admit.proofs.known.Reads as known-reads
+
+-- a line of another kind declares nothing
+other : (ks : List ℕ) (n : ℕ) (f : Frame) → OneOf (1 ∷ 2 ∷ 3 ∷ 4 ∷ 5 ∷ []) (tagOf the-type f) → (false ≡ seen ks n f) × (ks ≡ kept ks n f)
+other ks n (Site s p) h = absurd (never h)
+  where
+    never : OneOf (1 ∷ 2 ∷ 3 ∷ 4 ∷ 5 ∷ []) 0 → ⊥
+    never (inl e) = omega arith
+    never (inr (inl e)) = omega arith
+    never (inr (inr (inl e))) = omega arith
+    never (inr (inr (inr (inl e)))) = omega arith
+    never (inr (inr (inr (inr e)))) = omega arith
+other ks n (Call s) h = (refl, refl)
+other ks n (Spawn s) h = (refl, refl)
+other ks n Sync h = (refl, refl)
+other ks n Return h = (refl, refl)
+other ks n (Cost v) h = (refl, refl)
 
 enum-known-frame : tie.Need-enum-known-frame
 enum-known-frame c = search needs
@@ -16,7 +48,7 @@ slice-reshare-prefix-known : tie.Need-slice-reshare-prefix-known
 slice-reshare-prefix-known c = search needs
 
 slice-aggregate-known : tie.Need-slice-aggregate-known
-slice-aggregate-known c = ?
+slice-aggregate-known c = sym (length-take-le _ (c .before .before .before .before .before .before .args .keys .now) (omega arith))
 
 known-requires : tie.Need-known-requires
 known-requires c κs = search needs
@@ -31,10 +63,10 @@ same-length : tie.Need-same-length
 same-length c = search needs
 
 returns : tie.Need-returns
-returns c = ?
+returns c = rw (c .before .before .before .before .frame .given .1) (c .known .ensures ∙ ap (λ (k : ℕ). has k (take (c .before .before .before .before .before .before .before .args .count) (c .before .before .before .before .before .before .before .args .keys .now))) (c .before .before .key .ensures), ap (set (c .before .before .before .before .before .before .before .args .keys .now) (c .before .before .before .before .before .before .before .args .count)) (c .before .before .key .ensures))
 
 returns-2 : tie.Need-returns-2
-returns-2 c = let z = c .match in ?
+returns-2 c = other (c .before .before .args .keys .now) (c .before .before .args .count) (c .before .before .args .frame) (c .match .keys2)
 
 pub again-spec : {M : Type 1} → statement M
 again-spec =
