@@ -1,3 +1,4 @@
 pub mod Keys
 pub mod Tallies
 pub mod Reach
+pub mod Entry

@@ -1,4 +1,13 @@
+-- `admit::for_marks` meets its contract: checks 1 to 4 in their order, then the lines.
 use borrow.Author.Needs.{needs}
+use mathlib.Core.Path.{_≡_, sym, ap, _∙_}
+use Prim.Native.Nat.{ℕ, _+_, _*_}
+use native.Mathlib.Omega.{arith}
+use lib.ListN.{length}
+use Rattle.trace.specs.Promise.{marks, rowsRoom, marksRoom}
+use Rattle.admit.specs.declared.Verdict.the-variants.{Refused}
+use Rattle.admit.specs.Answer.{opening, roomy}
+use Rattle.admit.proofs.Entry.{opening-refused, opening-limits, room-refused, room-scanned, first-short, second-short, third-short, none-short, scratch-small}
 use Rattle.admit.proofs.for_marks.Statement.{statement}
 use Rattle.admit.proofs.for_marks.Tie as tie
 use Rattle.admit.proofs.for_marks.Reads as reads
@@ -7,41 +16,58 @@ use Rattle.admit.proofs.lines.Reads as lines-reads
 use Rattle.admit.proofs.opening.Reads as opening-reads
 use Rattle.admit.proofs.rows_room.Reads as rows-room-reads
 
--- src/lib.rt:249:9
 opening-requires : tie.Need-opening-requires
 opening-requires c κs = search needs
 
--- src/lib.rt:251:9
 returns : tie.Need-returns
-returns c = ?
+returns c =
+    let a = c .before .before .before .args in
+    ap (λ (k : ℕ). Refused k 0) (c .before .opening .ensures)
+    ∙ sym (opening-refused (a .trace .now) (a .depth) (a .sites) (roomy marks (a .trace .now) (a .depth) (a .sites) (a .scratch) (a .rows) (a .marks)) (λ q. c .if1 .taken (c .before .opening .ensures ∙ q)))
 
--- src/lib.rt:253:18
 mul-if2 : tie.Need-mul-if2
-mul-if2 c = ?
+mul-if2 c =
+    let a = c .before .before .before .args in
+    let h : opening (length (a .trace .now)) (a .depth) (a .sites) ≡ 0 = sym (c .before .opening .ensures) ∙ c .if1 .left in
+    let l = opening-limits (a .trace .now) (a .depth) (a .sites) h in
+    omega (arith, l .most, l .sites-most)
 
--- src/lib.rt:254:9
 returns-2 : tie.Need-returns-2
-returns-2 c = ?
+returns-2 c =
+    let a = c .before .before .before .before .args in
+    let h : opening (length (a .trace .now)) (a .depth) (a .sites) ≡ 0 = sym (c .before .before .opening .ensures) ∙ c .before .if1 .left in
+    sym (room-refused (a .trace .now) (a .depth) (a .sites) h (roomy marks (a .trace .now) (a .depth) (a .sites) (a .scratch) (a .rows) (a .marks)) (first-short (8 * a .depth) (rowsRoom (a .sites)) (marksRoom marks (a .trace .now)) (a .scratch) (a .rows) (a .marks) (c .if2 .taken)))
 
--- src/lib.rt:256:15
 rows-room-requires : tie.Need-rows-room-requires
-rows-room-requires c κs = ?
+rows-room-requires c κs =
+    let a = c .before .before .before .before .args in
+    let h : opening (length (a .trace .now)) (a .depth) (a .sites) ≡ 0 = sym (c .before .before .opening .ensures) ∙ c .before .if1 .left in
+    opening-limits (a .trace .now) (a .depth) (a .sites) h .sites-most
 
--- src/lib.rt:257:9
 returns-3 : tie.Need-returns-3
-returns-3 c = ?
+returns-3 c =
+    let a = c .before .before .before .before .before .before .args in
+    let h : opening (length (a .trace .now)) (a .depth) (a .sites) ≡ 0 = sym (c .before .before .before .before .opening .ensures) ∙ c .before .before .before .if1 .left in
+    sym (room-refused (a .trace .now) (a .depth) (a .sites) h (roomy marks (a .trace .now) (a .depth) (a .sites) (a .scratch) (a .rows) (a .marks)) (second-short (8 * a .depth) (rowsRoom (a .sites)) (marksRoom marks (a .trace .now)) (a .scratch) (a .rows) (a .marks) (c .before .before .if2 .left) (omega (arith, c .before .rows-room .ensures, c .if3 .taken))))
 
--- src/lib.rt:260:9
 returns-4 : tie.Need-returns-4
-returns-4 c = ?
+returns-4 c =
+    let a = c .before .before .before .before .before .before .before .args in
+    let h : opening (length (a .trace .now)) (a .depth) (a .sites) ≡ 0 = sym (c .before .before .before .before .before .opening .ensures) ∙ c .before .before .before .before .if1 .left in
+    sym (room-refused (a .trace .now) (a .depth) (a .sites) h (roomy marks (a .trace .now) (a .depth) (a .sites) (a .scratch) (a .rows) (a .marks)) (third-short (8 * a .depth) (rowsRoom (a .sites)) (marksRoom marks (a .trace .now)) (a .scratch) (a .rows) (a .marks) (c .before .before .before .if2 .left) (omega (arith, c .before .before .rows-room .ensures, c .before .if3 .left)) (c .if4 .taken)))
 
--- src/lib.rt:262:5
 lines-requires : tie.Need-lines-requires
-lines-requires c κs = ?
+lines-requires c κs =
+    let a = c .before .before .before .before .before .before .before .args in
+    let h : opening (length (a .trace .now)) (a .depth) (a .sites) ≡ 0 = sym (c .before .before .before .before .before .opening .ensures) ∙ c .before .before .before .before .if1 .left in
+    opening-limits (a .trace .now) (a .depth) (a .sites) h
 
--- src/lib.rt:239:1
 returns-5 : tie.Need-returns-5
-returns-5 c = ?
+returns-5 c =
+    let a = c .before .before .before .before .before .before .before .before .args in
+    let h : opening (length (a .trace .now)) (a .depth) (a .sites) ≡ 0 = sym (c .before .before .before .before .before .before .opening .ensures) ∙ c .before .before .before .before .before .if1 .left in
+    c .lines .ensures
+    ∙ sym (room-scanned (a .trace .now) (a .depth) (a .sites) h (roomy marks (a .trace .now) (a .depth) (a .sites) (a .scratch) (a .rows) (a .marks)) (none-short (8 * a .depth) (rowsRoom (a .sites)) (marksRoom marks (a .trace .now)) (a .scratch) (a .rows) (a .marks) (c .before .before .before .before .if2 .left) (omega (arith, c .before .before .before .rows-room .ensures, c .before .before .if3 .left)) (c .before .if4 .left)))
 
 pub for-marks-spec : {M : Type 1} → statement M
 for-marks-spec =
