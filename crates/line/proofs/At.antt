@@ -1,8 +1,8 @@
--- The fields of one line of a text, each by itself: what the reader of one field rests on, and that it gives the fields of an accepted line.
+-- The fields of one line of a text, each by itself: what the reader of one field rests on.
 -- Assumes nothing.
 use Prim.Native.Nat.{ℕ, _+_, _*_, _-_, _/_, _^_, _≤_, _<_}
 use mathlib.Core.Bool.{Bool, true, false, cond, _&&_}
-use mathlib.Core.List.{List, [], _∷_, _++_}
+use mathlib.Core.List.{List, []}
 use mathlib.Core.Path.{_≡_, refl, ap, _∙_, sym}
 use native.Mathlib.Nat.{one-le-pow, pow-le-pow-right}
 use native.Mathlib.Omega.{arith}
@@ -12,11 +12,11 @@ use lib.ListN.{length, take, drop, length-take, length-drop}
 use lib.Seq.{length-take-le, take-add, take-take, drop-at, drop-drop}
 use Rattle.digits.specs.Digits.{allDigits, number}
 use Rattle.digits.specs.Read.{reading}
-use Rattle.digits.proofs.Laws.{number-below, and-left, and-right}
+use Rattle.digits.proofs.Laws.{number-below}
 use Rattle.digits.proofs.Reading.{reading-value}
 use Rattle.line.specs.Read.{lineAt}
 use Rattle.line.specs.At.{charsAt, fieldAt}
-use Rattle.line.proofs.Lines.{whole, not-whole, part-length}
+use Rattle.line.proofs.Lines.{whole, not-whole}
 
 -- a part of a long enough front is that part of the whole
 front-part : (l : List ℕ) (k from size : ℕ) → from + size ≤ k → k ≤ length l → take size (drop from (take k l)) ≡ take size (drop from l)
@@ -30,7 +30,7 @@ front-part l k from size h g =
     e = omega arith
 
 module _ (s : List ℕ) (n from size : ℕ) where
-  field-of : (a b : Bool) → eqb (length (lineAt s n)) 23 ≡ a → allDigits (charsAt s n from size) ≡ b → fieldAt s n from size ≡ cond (a && b) (number (charsAt s n from size)) 0
+  pub field-of : (a b : Bool) → eqb (length (lineAt s n)) 23 ≡ a → allDigits (charsAt s n from size) ≡ b → fieldAt s n from size ≡ cond (a && b) (number (charsAt s n from size)) 0
   field-of a b e f = ap (λ (x : Bool). cond (x && allDigits (charsAt s n from size)) (number (charsAt s n from size)) 0) e ∙ ap (λ (x : Bool). cond (a && x) (number (charsAt s n from size)) 0) f
 
   pub field-none : length s / 23 ≤ n → fieldAt s n from size ≡ 0

@@ -1,2 +1,8 @@
 pub mod Lines
+pub mod Cases
 pub mod At
+pub mod Filled
+pub mod Writable
+pub mod RoundTrip
+pub mod Items
+mod Examples

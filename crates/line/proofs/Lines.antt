@@ -2,22 +2,21 @@
 -- Assumes nothing.
 use Prim.Native.Nat.{ℕ, _+_, _*_, _/_, _^_, _≤_, _<_}
 use mathlib.Core.Bool.{Bool, true, false, not, cond, _&&_, and-assoc}
-use mathlib.Core.List.{List, [], _∷_, _++_}
+use mathlib.Core.List.{List, [], _++_}
 use mathlib.Core.Path.{_≡_, refl, ap, _∙_, sym}
 use native.Mathlib.Omega.{arith}
 use borrow.Author.Tests.{eq-eqb, ne-eqb, not-false}
 use lib.Dec.{eqb}
 use lib.ListN.{length, getD, take, drop, length-take, length-drop}
 use lib.Seq.{length-take-le, take-add, drop-drop}
-use Rattle.digits.specs.Digits.{allDigits, number}
+use Rattle.digits.specs.Digits.{allDigits}
 use Rattle.digits.specs.Read.{reading}
 use Rattle.digits.specs.declared.read.Numeral.{Numeral}
 use Rattle.digits.proofs.Laws.{all-append, and-left, and-right}
 use Rattle.digits.proofs.Reading.{reading-tells, reading-value, reading-below}
-use Rattle.line.specs.declared.Read.{Read}
-use Rattle.line.specs.declared.Read.the-variants.{Line, Refused}
+use Rattle.line.specs.declared.Read.the-variants.{Refused}
 use Rattle.line.specs.Table.{Fields, table}
-use Rattle.line.specs.Read.{field, fields, wrong, tabled, readLine, lineAt, readAt}
+use Rattle.line.specs.Read.{field, fields, wrong, tabled, readLine, lineAt}
 
 -- readLine by cases
 module _ (s : List ℕ) (n : ℕ) where

@@ -4,6 +4,8 @@ ghost use mathlib.Core.Bool.{cond};
 ghost use Prim.Native.Nat.{_+_, _≤_};
 ghost use lib.ListN.{replicate};
 ghost use Rattle.line.specs.Table.{only, table};
+ghost use Rattle.line.specs.declared.Wrote.the-variants.{Chars, Refused};
+ghost use Rattle.line.specs.Write.{chars, writeAnswer, writeChars};
 ghost use Rattle.line.specs.Read.{tabled, readLine, readAt};
 ghost use Rattle.line.specs.At.{fieldAt, kindAt, siteAt, valueAt};
 
@@ -164,4 +166,58 @@ pub fn value_at(text: &[u8], n: usize) -> u32
     ensures { λ r. ⌜ r ≡ valueAt (now (text .entry)) n ⌝ }
 {
     field_at(text, n, 6, 8)
+}
+
+// What the line writer gives: its answer, and beside it the 23 characters (an enum cannot hold them).
+pub struct Written {
+    pub answer: Wrote,
+    pub chars: [u8; 23],
+}
+
+// The characters of five fields, where they are as the table has them, else refusal 6.
+fn put_fields(fit: bool, kind: u64, site: u16, value: u32, file: u16, column: u16) -> Written
+    ensures { λ r. ⌜ (r .answer ≡ cond fit (Chars 23) (Refused 6 0)) × (r .chars ≡ cond fit (chars (record { kind = kind; site = site; value = value; file = file; column = column })) (replicate 23 0)) ⌝ }
+{
+    if !fit {
+        return Written {
+            answer: Wrote::Refused(6, 0),
+            chars: [0u8; 23],
+        };
+    }
+    let mut chars = [10u8; 23];
+    digits::write::put_digits(&mut chars[0..2], kind);
+    digits::write::put_digits(&mut chars[2..6], site as u64);
+    digits::write::put_digits(&mut chars[6..14], value as u64);
+    digits::write::put_digits(&mut chars[14..18], file as u64);
+    digits::write::put_digits(&mut chars[18..22], column as u64);
+    Written {
+        answer: Wrote::Chars(23),
+        chars,
+    }
+}
+
+// The line writer: a frame's 23 characters, or refusal 6 with line 0 where a field breaks the table.
+pub fn write_line(f: Frame) -> Written
+    ensures { λ r. ⌜ (r .answer ≡ writeAnswer f) × (r .chars ≡ writeChars f) ⌝ }
+{
+    match f {
+        Frame::Site(site, place) => {
+            let line = place.line;
+            let file = place.file;
+            let column = place.column;
+            put_fields(
+                (1 <= line) & (1 <= file) & (1 <= column),
+                1,
+                site,
+                line,
+                file,
+                column,
+            )
+        }
+        Frame::Call(site) => put_fields(true, 2, site, 0, 0, 0),
+        Frame::Spawn(site) => put_fields(true, 3, site, 0, 0, 0),
+        Frame::Sync => put_fields(true, 4, 0, 0, 0, 0),
+        Frame::Return => put_fields(true, 5, 0, 0, 0, 0),
+        Frame::Cost(value) => put_fields(1 <= value, 6, 0, value, 0, 0),
+    }
 }

@@ -29,7 +29,7 @@ or-le : (a b : Bool) (v : ℕ) → cond (a || b) v 0 ≤ cond (a && true) v 0 + 
 or-le true b v = omega arith
 or-le false b v = omega arith
 
-sum-le : (f g : ℕ → ℕ) → ((x : ℕ) → f x ≤ g x) → (l : List ℕ) → sum f l ≤ sum g l
+pub sum-le : (f g : ℕ → ℕ) → ((x : ℕ) → f x ≤ g x) → (l : List ℕ) → sum f l ≤ sum g l
 sum-le f g h [] = omega arith
 sum-le f g h (x ∷ l) = omega (arith, h x, sum-le f g h l)
 

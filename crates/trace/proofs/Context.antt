@@ -16,7 +16,7 @@ use Rattle.trace.proofs.Levels.{climb, never, Beside}
 use Rattle.trace.proofs.Open.{has-cases, has-later, first-has, Below, Low, Nth, gone, in-from}
 use Rattle.trace.proofs.Parallels.{Par, Alive, low-step, low-not, par-to, par-from}
 
-walk-append : (n : ℕ) (o : List ℕ) (p v : List Frame) (j : ℕ) → walk n o (p ++ v) (length p + j) ≡ walk (n + length p) (walk n o p (length p)) v j
+pub walk-append : (n : ℕ) (o : List ℕ) (p v : List Frame) (j : ℕ) → walk n o (p ++ v) (length p + j) ≡ walk (n + length p) (walk n o p (length p)) v j
 walk-append n o [] v j =
     let e : 0 + j ≡ j = omega arith in
     let f : n ≡ n + 0 = omega arith in

@@ -13,4 +13,12 @@ pub mod Parse
 pub mod Sums
 pub mod Bounds
 pub mod Accept
+pub mod Invocations
+pub mod Stretches
+pub mod Unique
+pub mod Root
+pub mod Columns
+pub mod OnChain
+pub mod Small
+pub mod Twelve
 pub mod Further

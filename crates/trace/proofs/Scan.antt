@@ -154,7 +154,7 @@ pub record Accepts (s : List ℕ) (D M : ℕ) (t : List Frame) : Type 0 where
   pub reads-as : Reads 0 (reads s) t
   pub fine : Fine D M t
 
-in-range : (D M : ℕ) → outOfRange D M ≡ false → (1 ≤ D) × (D ≤ 64) × (M ≤ 255)
+pub in-range : (D M : ℕ) → outOfRange D M ≡ false → (1 ≤ D) × (D ≤ 64) × (M ≤ 255)
 in-range D M e =
     let x = both (leb 1 D && leb D 64) (leb M 255) (not-false (leb 1 D && leb D 64 && leb M 255) e) in
     let y = both (leb 1 D) (leb D 64) (x .0) in

@@ -109,24 +109,24 @@ pub up-same : (f g : ℕ → ℕ) (s : ℕ) → ((i : ℕ) → i ≤ s → f i �
 up-same f g zero h = h 0 (omega arith)
 up-same f g (suc s) h = omega (arith, h (suc s) (omega arith), up-same f g s (λ i l. h i (omega arith)))
 
-up-none : (r v s : ℕ) (b : Bool) → s < r → upTo (λ i. cond (eqb i r && b) v 0) s ≡ 0
-up-none r v zero b l = ap (λ (x : Bool). cond (x && b) v 0) (ne-eqb 0 r (λ q. omega arith))
+up-none : (r v s : ℕ) (b : Bool) → s < r → upTo (λ i. cond (eqb r i && b) v 0) s ≡ 0
+up-none r v zero b l = ap (λ (x : Bool). cond (x && b) v 0) (ne-eqb r 0 (λ q. omega arith))
 up-none r v (suc s) b l =
-    let h : cond (eqb (suc s) r && b) v 0 ≡ 0 = ap (λ (x : Bool). cond (x && b) v 0) (ne-eqb (suc s) r (λ q. omega arith)) in
+    let h : cond (eqb r (suc s) && b) v 0 ≡ 0 = ap (λ (x : Bool). cond (x && b) v 0) (ne-eqb r (suc s) (λ q. omega arith)) in
     omega (arith, up-none r v s b (omega arith))
 
-pub up-one : (r v s : ℕ) (b : Bool) → r ≤ s → upTo (λ i. cond (eqb i r && b) v 0) s ≡ cond b v 0
-up-one r v zero b l = ap (λ (x : Bool). cond (x && b) v 0) (eq-eqb 0 r (omega arith))
+pub up-one : (r v s : ℕ) (b : Bool) → r ≤ s → upTo (λ i. cond (eqb r i && b) v 0) s ≡ cond b v 0
+up-one r v zero b l = ap (λ (x : Bool). cond (x && b) v 0) (eq-eqb r 0 (omega arith))
 up-one r v (suc s) b l =
-    elim (same-or-not (suc s) r) [
+    elim (same-or-not r (suc s)) [
       | inl q ↦ (
-          let h : cond (eqb (suc s) r && b) v 0 ≡ cond b v 0 = ap (λ (x : Bool). cond (x && b) v 0) (eq-eqb (suc s) r q) in
+          let h : cond (eqb r (suc s) && b) v 0 ≡ cond b v 0 = ap (λ (x : Bool). cond (x && b) v 0) (eq-eqb r (suc s) q) in
           omega (arith, up-none r v s b (omega arith)))
       | inr q ↦ (
-          let h : cond (eqb (suc s) r && b) v 0 ≡ 0 = ap (λ (x : Bool). cond (x && b) v 0) (ne-eqb (suc s) r q) in
+          let h : cond (eqb r (suc s) && b) v 0 ≡ 0 = ap (λ (x : Bool). cond (x && b) v 0) (ne-eqb r (suc s) q) in
           let k : r ≤ s = less r s l q in
           omega (arith, up-one r v s b k))
     ]
   where
-    less : (r s : ℕ) → r ≤ suc s → (suc s ≡ r → ⊥) → r ≤ s
-    less r s l q = elim (same-or-not (suc s) r) [ inl e ↦ absurd (q e) | inr e ↦ omega arith ]
+    less : (r s : ℕ) → r ≤ suc s → (r ≡ suc s → ⊥) → r ≤ s
+    less r s l q = elim (same-or-not r (suc s)) [ inl e ↦ absurd (q e) | inr e ↦ omega arith ]

@@ -5,4 +5,5 @@ pub mod Refusals
 pub mod Promise
 pub mod Tree
 pub mod Fold
+pub mod ByTree
 pub mod Twelve

@@ -62,16 +62,16 @@ pub record Rows (t : List Frame) (c before after : List ℕ) : Type 0 where
   pub rows-are : (s : ℕ) → s ≤ sites t → Row t c after s
   pub rest : (i : ℕ) → columns * (sites t + 1) ≤ i → getD after i 0 ≡ getD before i 0
 
--- "A mark is 1 for a line on the chosen chain, 0 for any other; marks past the last line are unchanged."
-pub record Marks (t : List Frame) (c before after : List ℕ) : Type 0 where
+-- "A mark is 1 for a line on the chosen chain, 0 for any other; marks past the last line are unchanged." n: the number of lines
+pub record Marks (n : ℕ) (c before after : List ℕ) : Type 0 where
   pub same-length : length after ≡ length before
-  pub marks-are : (k : ℕ) → k < length t → getD after k 0 ≡ cond (has k c) 1 0
-  pub rest : (k : ℕ) → length t ≤ k → getD after k 0 ≡ getD before k 0
+  pub marks-are : (k : ℕ) → k < n → getD after k 0 ≡ cond (has k c) 1 0
+  pub rest : (k : ℕ) → n ≤ k → getD after k 0 ≡ getD before k 0
 
 -- what becomes of the marks: the table engine leaves them alone
-abbrev pub Marked : Engine → List Frame → List ℕ → List ℕ → List ℕ → Type 0
-Marked tables t c before after = after ≡ before
-Marked marks t c before after = Marks t c before after
+abbrev pub Marked : Engine → ℕ → List ℕ → List ℕ → List ℕ → Type 0
+Marked tables n c before after = after ≡ before
+Marked marks n c before after = Marks n c before after
 
 -- what comes back of an accepted trace
 pub record Profile (e : Engine) (t : List Frame) (before : Lent) (r : Answer) (after : Lent) : Type 0 where
@@ -83,7 +83,7 @@ pub record Profile (e : Engine) (t : List Frame) (before : Lent) (r : Answer) (a
   pub rows : Rows t chain (before .rows) (after .rows)
   -- "The whole scratch is zero."
   pub scratch : after .scratch ≡ replicate (length (before .scratch)) 0
-  pub marked : Marked e t chain (before .marks) (after .marks)
+  pub marked : Marked e (length t) chain (before .marks) (after .marks)
 
 -- The engine e, lent the text s with limits D and M, and the room before, answers r and leaves after.
 -- "Every lent slice, scratch included, is unchanged" where it refuses.

@@ -1,0 +1,68 @@
+-- Document 01's case I read and written line by line, and lines that are refused, by computing: the definitions at work.
+-- Assumes nothing.
+use Prim.Native.Nat.{ℕ}
+use mathlib.Core.List.{List, [], _∷_, _++_, map}
+use mathlib.Core.Path.{_≡_, refl}
+use lib.ListN.{take, set}
+use Rattle.digits.specs.Digits.{digits}
+use Rattle.line.specs.declared.Frame.{Frame}
+use Rattle.line.specs.declared.Frame.the-variants.{Site, Call, Spawn, Return, Cost}
+use Rattle.line.specs.declared.Read.the-variants.{Line, Refused}
+use Rattle.line.specs.Read.{readLine}
+use Rattle.line.specs.Write.{writeChars}
+
+-- the 22 digits of a number, and a line feed
+abbrev printed : ℕ → List ℕ
+printed x = digits 22 x ++ 10 ∷ []
+
+-- case I's input, and what it says
+abbrev lines : List ℕ
+lines =
+    0x0100010000000a00010005
+    ∷ 0x0100020000001400010009
+    ∷ 0x0200010000000000000000
+    ∷ 0x0300020000000000000000
+    ∷ 0x0600000000000700000000
+    ∷ 0x0500000000000000000000
+    ∷ 0x0600000000000100000000
+    ∷ 0x0500000000000000000000
+    ∷ 0x0600000000000200000000
+    ∷ 0x0500000000000000000000
+    ∷ []
+
+abbrev frames : List Frame
+frames =
+    Site 1 (record { file = 1; line = 10; column = 5 })
+    ∷ Site 2 (record { file = 1; line = 20; column = 9 })
+    ∷ Call 1
+    ∷ Spawn 2
+    ∷ Cost 7
+    ∷ Return
+    ∷ Cost 1
+    ∷ Return
+    ∷ Cost 2
+    ∷ Return
+    ∷ []
+
+case-I-read : map (λ (x : ℕ). readLine (printed x) 0) lines ≡ map (Line 0) frames
+case-I-read = refl
+
+case-I-written : map writeChars frames ≡ map printed lines
+case-I-written = refl
+
+-- 6: kind 00, kind 07, a site without a line, a call with a value, a sync with a site, a cost of 0
+listed-nowhere : map (λ (x : ℕ). readLine (printed x) 0)
+    (0x0000000000000000000000 ∷ 0x0700000000000100000000 ∷ 0x0100010000000000010005 ∷ 0x0200010000000100000000 ∷ 0x0400010000000000000000 ∷ 0x0600000000000000000000 ∷ [])
+    ≡ Refused 6 0 ∷ Refused 6 0 ∷ Refused 6 0 ∷ Refused 6 0 ∷ Refused 6 0 ∷ Refused 6 0 ∷ []
+listed-nowhere = refl
+
+-- 5: a capital letter, `g`, no line feed; before 6, as the kinds here are 00
+wrong-character : map (λ (c : ℕ). readLine (set (printed 0) 1 c) 0) (65 ∷ 103 ∷ []) ≡ Refused 5 0 ∷ Refused 5 0 ∷ []
+wrong-character = refl
+
+no-line-feed : readLine (set (printed 0) 22 48) 0 ≡ Refused 5 0
+no-line-feed = refl
+
+-- 2: a character less, and one more; before 5
+other-length : map (λ (s : List ℕ). readLine s 0) (take 22 (printed 0) ∷ (65 ∷ printed 0) ∷ []) ≡ Refused 2 0 ∷ Refused 2 0 ∷ []
+other-length = refl

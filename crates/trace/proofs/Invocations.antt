@@ -1,0 +1,264 @@
+-- Every invocation of a trace has a body and stands in its context; and sums over the invocations of a row, by the tree.
+use mathlib.Core.Path.{_≡_, refl, sym, _∙_, ap, subst}
+use mathlib.Core.Logic.{_⊎_, inl, inr}
+use mathlib.Core.Bool.{Bool, true, false, cond}
+use mathlib.Core.List.{List, [], _∷_, _++_, append-assoc, append-nil}
+use Prim.Native.Nat.{ℕ, zero, suc, _+_, _≤_, _<_}
+use native.Mathlib.Omega.{arith}
+use lib.ListN.{length, length-append}
+use lib.Seq.{append-snoc}
+use lib.Dec.{T, eqb}
+use Rattle.line.specs.declared.Frame.{Frame}
+use Rattle.line.specs.declared.Frame.the-variants.{Site, Call, Spawn, Sync, Return, Cost}
+use Rattle.trace.specs.Shape.{ifMakes, Is, root, step, walk, openAt, has, sites}
+use Rattle.trace.specs.Rows.{made, ofRow, Sum}
+use Rattle.trace.specs.Tree.{Body, done, spend, sync, call, spawn, linesOf, size, AllSites, Parts, madeSum, rowSum}
+use Rattle.trace.proofs.Basics.{below, clash}
+use Rattle.trace.proofs.Tree.{IsSite, size-is, no-sites-lines}
+use Rattle.trace.proofs.Scan.{now}
+use Rattle.trace.proofs.Sites.{sites-append, sites-all, sites-none}
+use Rattle.trace.proofs.Recurrence.{Paid, paid}
+use Rattle.trace.proofs.Parallels.{Alive, low-step}
+use Rattle.trace.proofs.Context.{Ctx, is-append, has-le}
+use Rattle.trace.proofs.Chains.{is-left, is-length}
+
+-- ── contexts ──
+
+alive : (b : Body) (n c : ℕ) (o : List ℕ) (u : List Frame) → Alive (n + size b) o u → Alive n (c ∷ o) (linesOf b ++ u)
+alive done n c o u h = let e : n + 1 ≡ suc n = omega arith in subst (λ (k : ℕ). Alive k o u) e h
+alive (spend v r) n c o u h = let e : n + suc (size r) ≡ suc n + size r = omega arith in alive r (suc n) c o u (subst (λ (k : ℕ). Alive k o u) e h)
+alive (sync r) n c o u h = let e : n + suc (size r) ≡ suc n + size r = omega arith in alive r (suc n) c o u (subst (λ (k : ℕ). Alive k o u) e h)
+alive (call s g r) n c o u h =
+    let e : n + suc (size g + size r) ≡ suc n + size g + size r = omega arith in
+    subst (Alive (suc n) (suc n ∷ c ∷ o)) (sym (append-assoc (linesOf g) (linesOf r) u))
+    (alive g (suc n) (suc n) (c ∷ o) (linesOf r ++ u) (alive r (suc n + size g) c o u (subst (λ (k : ℕ). Alive k o u) e h)))
+alive (spawn s g r) n c o u h =
+    let e : n + suc (size g + size r) ≡ suc n + size g + size r = omega arith in
+    subst (Alive (suc n) (suc n ∷ c ∷ o)) (sym (append-assoc (linesOf g) (linesOf r) u))
+    (alive g (suc n) (suc n) (c ∷ o) (linesOf r ++ u) (alive r (suc n + size g) c o u (subst (λ (k : ℕ). Alive k o u) e h)))
+
+module _ (t : List Frame) where
+  -- one line further
+  pub ctx-step : (n c : ℕ) (o : List ℕ) (e : Frame) (v : List Frame) → Ctx t n (c ∷ o) (e ∷ v) → Ctx t (suc n) (step n e (c ∷ o)) v
+  ctx-step n c o e v x =
+      record {
+        pre = x .pre ++ e ∷ [];
+        whole = x .whole ∙ sym (append-snoc (x .pre) e v);
+        count = omega (arith, x .count, length-append (x .pre) (e ∷ []));
+        opened = now (x .pre) e ∙ ap (λ (k : ℕ). step k e (walk 0 (0 ∷ []) (x .pre) (length (x .pre)))) (x .count) ∙ ap (step n e) (x .opened);
+        low = low-step n e (c ∷ o) (x .low);
+        alive = x .alive;
+      }
+
+  -- into the body of a call or spawn
+  pub ctx-in : (n c : ℕ) (o : List ℕ) (g r : Body) (u : List Frame) → Ctx t (suc n) (suc n ∷ c ∷ o) ((linesOf g ++ linesOf r) ++ u) → Ctx t (suc n) (suc n ∷ c ∷ o) (linesOf g ++ (linesOf r ++ u))
+  ctx-in n c o g r u x = subst (Ctx t (suc n) (suc n ∷ c ∷ o)) (append-assoc (linesOf g) (linesOf r) u) x
+
+  -- a whole body further
+  pub ctx-skip : (b : Body) (n c : ℕ) (o : List ℕ) (u : List Frame) → Ctx t n (c ∷ o) (linesOf b ++ u) → Ctx t (n + size b) o u
+  ctx-skip done n c o u x = let e : suc n ≡ n + 1 = omega arith in subst (λ (k : ℕ). Ctx t k o u) e (ctx-step n c o Return u x)
+  ctx-skip (spend v r) n c o u x =
+      let e : suc n + size r ≡ n + suc (size r) = omega arith in
+      subst (λ (k : ℕ). Ctx t k o u) e (ctx-skip r (suc n) c o u (ctx-step n c o (Cost v) (linesOf r ++ u) x))
+  ctx-skip (sync r) n c o u x =
+      let e : suc n + size r ≡ n + suc (size r) = omega arith in
+      subst (λ (k : ℕ). Ctx t k o u) e (ctx-skip r (suc n) c o u (ctx-step n c o Sync (linesOf r ++ u) x))
+  ctx-skip (call s g r) n c o u x =
+      let e : suc n + size g + size r ≡ n + suc (size g + size r) = omega arith in
+      let y = ctx-in n c o g r u (ctx-step n c o (Call s) ((linesOf g ++ linesOf r) ++ u) x) in
+      subst (λ (k : ℕ). Ctx t k o u) e (ctx-skip r (suc n + size g) c o u (ctx-skip g (suc n) (suc n) (c ∷ o) (linesOf r ++ u) y))
+  ctx-skip (spawn s g r) n c o u x =
+      let e : suc n + size g + size r ≡ n + suc (size g + size r) = omega arith in
+      let y = ctx-in n c o g r u (ctx-step n c o (Spawn s) ((linesOf g ++ linesOf r) ++ u) x) in
+      subst (λ (k : ℕ). Ctx t k o u) e (ctx-skip r (suc n + size g) c o u (ctx-skip g (suc n) (suc n) (c ∷ o) (linesOf r ++ u) y))
+
+-- ── invocations ──
+
+-- The invocation F has the body g, which begins at line n. Of the lines before only sites are inside it (the root's).
+pub record Inv (t : List Frame) (F n : ℕ) (g : Body) : Type 0 where
+  pub around : List ℕ
+  pub post : List Frame
+  pub ctx : Ctx t n (F ∷ around) (linesOf g ++ post)
+  pub start : (k : ℕ) (f : Frame) → k < n → Is t k f → T (has F (openAt t k)) → IsSite f
+  pub paid : Paid g
+
+-- one that a line opened
+pub inner : (t : List Frame) (n : ℕ) (o : List ℕ) (g : Body) (u : List Frame) → Ctx t (suc n) (suc n ∷ o) (linesOf g ++ u) → Paid g → Inv t (suc n) (suc n) g
+inner t n o g u x h = record { around = o; post = u; ctx = x; start = λ k f l i m. absurd (omega (arith, has-le t k (suc n) m)); paid = h }
+
+-- the sites of a trace leave the root open
+pub heads-open : (h : List Frame) (n : ℕ) (o : List ℕ) → AllSites h → walk n o h (length h) ≡ o
+heads-open [] n o s = refl
+heads-open (Site i p ∷ h) n o s = heads-open h (suc n) o (s .1)
+heads-open (Call i ∷ h) n o s = absurd (s .0)
+heads-open (Spawn i ∷ h) n o s = absurd (s .0)
+heads-open (Sync ∷ h) n o s = absurd (s .0)
+heads-open (Return ∷ h) n o s = absurd (s .0)
+heads-open (Cost v ∷ h) n o s = absurd (s .0)
+
+head-site : (h : List Frame) (k : ℕ) (f : Frame) → AllSites h → Is h k f → IsSite f
+head-site [] k f s i = absurd i
+head-site (e ∷ h) zero f s i = subst IsSite i (s .0)
+head-site (e ∷ h) (suc k) f s i = head-site h k f (s .1) i
+
+module _ (D : ℕ) (t : List Frame) (p : Parts D t) where
+  pub sites-are : sites t ≡ length (p .heads)
+  sites-are =
+      omega (arith, ap sites (p .lines), sites-append (p .heads) (linesOf (p .body)), sites-all (p .heads) (p .all-sites), sites-none (linesOf (p .body)) (no-sites-lines (p .body)))
+
+  pub whole : t ≡ p .heads ++ (linesOf (p .body) ++ [])
+  whole = p .lines ∙ ap (λ (l : List Frame). p .heads ++ l) (sym (append-nil (linesOf (p .body))))
+
+  pub root-ctx : Ctx t (length (p .heads)) (root ∷ []) (linesOf (p .body) ++ [])
+  root-ctx =
+      record {
+        pre = p .heads;
+        whole = whole;
+        count = refl;
+        opened = heads-open (p .heads) 0 (root ∷ []) (p .all-sites);
+        low = (omega arith, tt, tt);
+        alive = alive (p .body) (length (p .heads)) root [] [] tt;
+      }
+
+  pub root-paid : Paid (p .body)
+  root-paid = paid (length (p .heads)) D 1 (p .body) (p .within)
+
+  -- the lines before the body are sites
+  before-body : (k : ℕ) (f : Frame) → k < length (p .heads) → Is t k f → IsSite f
+  before-body k f l i = head-site (p .heads) k f (p .all-sites) (is-left (p .heads) (linesOf (p .body)) k f l (subst (λ (z : List Frame). Is z k f) (p .lines) i))
+
+  -- LAW: the root is an invocation with the trace's body
+  pub root-inv : Inv t root (length (p .heads)) (p .body)
+  root-inv = record { around = []; post = []; ctx = root-ctx; start = λ k f l i m. before-body k f l i; paid = root-paid }
+
+-- ── the invocation that a line opens ──
+
+abbrev Makes : List Frame → ℕ → ℕ → Type 0
+Makes u k i = Is u k (Call i) ⊎ Is u k (Spawn i)
+
+module _ (t : List Frame) where
+  abbrev Opens : Body → Type 0
+  Opens b = (n c : ℕ) (o : List ℕ) (u : List Frame) → Ctx t n (c ∷ o) (linesOf b ++ u) → Paid b → (k i : ℕ) → Makes (linesOf b) k i → (g : Body) × Inv t (suc (n + k)) (suc (n + k)) g
+
+  found-at : (m k : ℕ) → m ≡ k → (g : Body) × Inv t (suc m) (suc m) g → (g : Body) × Inv t (suc k) (suc k) g
+  found-at m k e w = subst (λ (j : ℕ). (g : Body) × Inv t (suc j) (suc j) g) e w
+
+  opens-two : (g r : Body) → Opens g → Opens r → (n c : ℕ) (o : List ℕ) (u : List Frame) → Ctx t (suc n) (suc n ∷ c ∷ o) (linesOf g ++ (linesOf r ++ u)) → Paid g → Paid r
+      → (k i : ℕ) → Makes (linesOf g ++ linesOf r) k i → (b : Body) × Inv t (suc (n + suc k)) (suc (n + suc k)) b
+  opens-two g r f f′ n c o u x pg pr k i h = elim (below (size g) k) [
+    | inl l ↦ found-at (suc n + k) (n + suc k) (omega arith) (f (suc n) (suc n) (c ∷ o) (linesOf r ++ u) x pg k i (left l h))
+    | inr w ↦ found-at (suc n + size g + w .0) (n + suc k) (omega (arith, w .1)) (f′ (suc n + size g) c o u (ctx-skip t g (suc n) (suc n) (c ∷ o) (linesOf r ++ u) x) pr (w .0) i (right w h))
+  ]
+    where
+      left : k < size g → Makes (linesOf g ++ linesOf r) k i → Makes (linesOf g) k i
+      left l (inl a) = inl (is-left (linesOf g) (linesOf r) k (Call i) (omega (arith, size-is g)) a)
+      left l (inr a) = inr (is-left (linesOf g) (linesOf r) k (Spawn i) (omega (arith, size-is g)) a)
+
+      shift : (f : Frame) (w : (j : ℕ) × (k ≡ size g + j)) → Is (linesOf g ++ linesOf r) k f → Is (linesOf r) (w .0) f
+      shift f w a =
+          let e : k ≡ length (linesOf g) + w .0 = omega (arith, w .1, size-is g) in
+          subst (λ (A : Type 0). A) (is-append (linesOf g) (linesOf r) (w .0) f) (subst (λ (j : ℕ). Is (linesOf g ++ linesOf r) j f) e a)
+
+      right : (w : (j : ℕ) × (k ≡ size g + j)) → Makes (linesOf g ++ linesOf r) k i → Makes (linesOf r) (w .0) i
+      right w (inl a) = inl (shift (Call i) w a)
+      right w (inr a) = inr (shift (Spawn i) w a)
+
+  opens-later : (e : Frame) (n c : ℕ) (o : List ℕ) (r : Body) (u : List Frame) → Opens r → step n e (c ∷ o) ≡ c ∷ o → Ctx t n (c ∷ o) (e ∷ (linesOf r ++ u)) → Paid r
+      → (k i : ℕ) → Makes (linesOf r) k i → (g : Body) × Inv t (suc (n + suc k)) (suc (n + suc k)) g
+  opens-later e n c o r u f s x h k i m =
+      found-at (suc n + k) (n + suc k) (omega arith) (f (suc n) c o u (subst (λ (l : List ℕ). Ctx t (suc n) l (linesOf r ++ u)) s (ctx-step t n c o e (linesOf r ++ u) x)) h k i m)
+
+  opens : (b : Body) → Opens b
+  opens done n c o u x h zero i (inl m) = clash (cc)
+  opens done n c o u x h zero i (inr m) = clash (cc)
+  opens done n c o u x h (suc k) i (inl m) = absurd m
+  opens done n c o u x h (suc k) i (inr m) = absurd m
+  opens (spend v r) n c o u x h zero i (inl m) = clash (cc)
+  opens (spend v r) n c o u x h zero i (inr m) = clash (cc)
+  opens (spend v r) n c o u x h (suc k) i m = opens-later (Cost v) n c o r u (opens r) refl x (h .1) k i m
+  opens (sync r) n c o u x h zero i (inl m) = clash (cc)
+  opens (sync r) n c o u x h zero i (inr m) = clash (cc)
+  opens (sync r) n c o u x h (suc k) i m = opens-later Sync n c o r u (opens r) refl x h k i m
+  opens (call s g r) n c o u x h zero i m =
+      found-at n (n + 0) (omega arith) (g, inner t n (c ∷ o) g (linesOf r ++ u) (ctx-in t n c o g r u (ctx-step t n c o (Call s) ((linesOf g ++ linesOf r) ++ u) x)) (h .0))
+  opens (call s g r) n c o u x h (suc k) i m =
+      opens-two g r (opens g) (opens r) n c o u (ctx-in t n c o g r u (ctx-step t n c o (Call s) ((linesOf g ++ linesOf r) ++ u) x)) (h .0) (h .1) k i m
+  opens (spawn s g r) n c o u x h zero i m =
+      found-at n (n + 0) (omega arith) (g, inner t n (c ∷ o) g (linesOf r ++ u) (ctx-in t n c o g r u (ctx-step t n c o (Spawn s) ((linesOf g ++ linesOf r) ++ u) x)) (h .0))
+  opens (spawn s g r) n c o u x h (suc k) i m =
+      opens-two g r (opens g) (opens r) n c o u (ctx-in t n c o g r u (ctx-step t n c o (Spawn s) ((linesOf g ++ linesOf r) ++ u) x)) (h .0) (h .1) k i m
+
+-- LAW: every call or spawn line opens an invocation with a body
+pub made-inv : (D : ℕ) (t : List Frame) → Parts D t → (k i : ℕ) → Makes t k i → (g : Body) × Inv t (suc k) (suc k) g
+made-inv D t p k i m = elim (below (length (p .heads)) k) [
+  | inl l ↦ absurd (early l m)
+  | inr w ↦ found-at t (length (p .heads) + w .0) k (sym (w .1)) (opens t (p .body) (length (p .heads)) root [] [] (root-ctx D t p) (root-paid D t p) (w .0) i (late w m))
+]
+  where
+    early : k < length (p .heads) → Makes t k i → ⊥
+    early l (inl a) = before-body D t p k (Call i) l a
+    early l (inr a) = before-body D t p k (Spawn i) l a
+
+    shift : (f : Frame) (w : (j : ℕ) × (k ≡ length (p .heads) + j)) → Is t k f → Is (linesOf (p .body)) (w .0) f
+    shift f w a =
+        subst (λ (A : Type 0). A) (is-append (p .heads) (linesOf (p .body)) (w .0) f)
+        (subst (λ (j : ℕ). Is (p .heads ++ linesOf (p .body)) j f) (w .1) (subst (λ (z : List Frame). Is z k f) (p .lines) a))
+
+    late : (w : (j : ℕ) × (k ≡ length (p .heads) + j)) → Makes t k i → Makes (linesOf (p .body)) (w .0) i
+    late w (inl a) = inl (shift (Call i) w a)
+    late w (inr a) = inr (shift (Spawn i) w a)
+
+-- ── sums over the invocations of a row ──
+
+module _ (t : List Frame) (s : ℕ) (p : ℕ → ℕ → Type 0) (h : Body → ℕ) (is : (F n : ℕ) (g : Body) → Inv t F n g → p F (h g)) where
+  abbrev Adds : Body → Type 0
+  Adds b = (n c : ℕ) (o : List ℕ) (u : List Frame) (q : ℕ) → Paid b → Ctx t n (c ∷ o) (linesOf b ++ u) → Sum p (made (n + size b) u s) q → Sum p (made n (linesOf b ++ u) s) (madeSum h s b + q)
+
+  move : (m k : ℕ) (u : List Frame) (q : ℕ) → m ≡ k → Sum p (made m u s) q → Sum p (made k u s) q
+  move m k u q e w = subst (λ (j : ℕ). Sum p (made j u s) q) e w
+
+  one-more : (b : Bool) (F a q : ℕ) (l : List ℕ) → p F a → Sum p l q → Sum p (cond b (F ∷ l) l) (cond b a 0 + q)
+  one-more true F a q l x y = (a, q, x, y, refl)
+  one-more false F a q l x y = let e : q ≡ 0 + q = omega arith in subst (Sum p l) e y
+
+  adds-two : (i : ℕ) (g r : Body) → Adds g → Adds r → (n c : ℕ) (o : List ℕ) (u : List Frame) (q : ℕ) → Paid g → Paid r
+      → Ctx t (suc n) (suc n ∷ c ∷ o) ((linesOf g ++ linesOf r) ++ u) → Sum p (made (n + suc (size g + size r)) u s) q
+      → Sum p (cond (eqb i s) (suc n ∷ made (suc n) ((linesOf g ++ linesOf r) ++ u) s) (made (suc n) ((linesOf g ++ linesOf r) ++ u) s)) (cond (eqb i s) (h g) 0 + (madeSum h s g + madeSum h s r) + q)
+  adds-two i g r f f′ n c o u q pg pr x w =
+      let y = ctx-in t n c o g r u x in
+      let a = f′ (suc n + size g) c o u q pr (ctx-skip t g (suc n) (suc n) (c ∷ o) (linesOf r ++ u) y) (move (n + suc (size g + size r)) (suc n + size g + size r) u q (omega arith) w) in
+      let b = f (suc n) (suc n) (c ∷ o) (linesOf r ++ u) (madeSum h s r + q) pg y a in
+      let d = subst (λ (l : List Frame). Sum p (made (suc n) l s) (madeSum h s g + (madeSum h s r + q))) (sym (append-assoc (linesOf g) (linesOf r) u)) b in
+      let e : cond (eqb i s) (h g) 0 + (madeSum h s g + (madeSum h s r + q)) ≡ cond (eqb i s) (h g) 0 + (madeSum h s g + madeSum h s r) + q = omega arith in
+      subst (Sum p (cond (eqb i s) (suc n ∷ made (suc n) ((linesOf g ++ linesOf r) ++ u) s) (made (suc n) ((linesOf g ++ linesOf r) ++ u) s))) e
+      (one-more (eqb i s) (suc n) (h g) (madeSum h s g + (madeSum h s r + q)) (made (suc n) ((linesOf g ++ linesOf r) ++ u) s) (is (suc n) (suc n) g (inner t n (c ∷ o) g (linesOf r ++ u) y pg)) d)
+
+  adds : (b : Body) → Adds b
+  adds done n c o u q h x w =
+      let e : q ≡ 0 + q = omega arith in
+      subst (Sum p (made (suc n) u s)) e (move (n + 1) (suc n) u q (omega arith) w)
+  adds (spend v r) n c o u q h x w = adds r (suc n) c o u q (h .1) (ctx-step t n c o (Cost v) (linesOf r ++ u) x) (move (n + suc (size r)) (suc n + size r) u q (omega arith) w)
+  adds (sync r) n c o u q h x w = adds r (suc n) c o u q h (ctx-step t n c o Sync (linesOf r ++ u) x) (move (n + suc (size r)) (suc n + size r) u q (omega arith) w)
+  adds (call i g r) n c o u q h x w = adds-two i g r (adds g) (adds r) n c o u q (h .0) (h .1) (ctx-step t n c o (Call i) ((linesOf g ++ linesOf r) ++ u) x) w
+  adds (spawn i g r) n c o u q h x w = adds-two i g r (adds g) (adds r) n c o u q (h .0) (h .1) (ctx-step t n c o (Spawn i) ((linesOf g ++ linesOf r) ++ u) x) w
+
+-- sites make nothing
+pub made-heads : (h u : List Frame) (n s : ℕ) → AllSites h → made n (h ++ u) s ≡ made (n + length h) u s
+made-heads [] u n s k = let e : n ≡ n + 0 = omega arith in ap (λ (m : ℕ). made m u s) e
+made-heads (Site i p ∷ h) u n s k = let e : suc n + length h ≡ n + suc (length h) = omega arith in made-heads h u (suc n) s (k .1) ∙ ap (λ (m : ℕ). made m u s) e
+made-heads (Call i ∷ h) u n s k = absurd (k .0)
+made-heads (Spawn i ∷ h) u n s k = absurd (k .0)
+made-heads (Sync ∷ h) u n s k = absurd (k .0)
+made-heads (Return ∷ h) u n s k = absurd (k .0)
+made-heads (Cost v ∷ h) u n s k = absurd (k .0)
+
+-- LAW: what is said of each invocation by its body adds up over a row as it does over the tree
+pub row-sum : (D : ℕ) (t : List Frame) (x : Parts D t) (p : ℕ → ℕ → Type 0) (h : Body → ℕ) → ((F n : ℕ) (g : Body) → Inv t F n g → p F (h g)) → (s : ℕ) → Sum p (ofRow t s) (rowSum h s (x .body))
+row-sum D t x p h is zero = (h (x .body), 0, is root (length (x .heads)) (x .body) (root-inv D t x), refl, omega arith)
+row-sum D t x p h is (suc s) =
+    let e : 0 + length (x .heads) ≡ length (x .heads) = omega arith in
+    let f : madeSum h (suc s) (x .body) + 0 ≡ madeSum h (suc s) (x .body) = omega arith in
+    let l : made 0 t (suc s) ≡ made (length (x .heads)) (linesOf (x .body) ++ []) (suc s) =
+    ap (λ (z : List Frame). made 0 z (suc s)) (whole D t x) ∙ made-heads (x .heads) (linesOf (x .body) ++ []) 0 (suc s) (x .all-sites) ∙ ap (λ (m : ℕ). made m (linesOf (x .body) ++ []) (suc s)) e in
+    subst (λ (z : List ℕ). Sum p z (madeSum h (suc s) (x .body))) (sym l)
+    (subst (Sum p (made (length (x .heads)) (linesOf (x .body) ++ []) (suc s))) f (adds t (suc s) p h is (x .body) (length (x .heads)) root [] [] 0 (root-paid D t x) (root-ctx D t x) refl))

@@ -1,0 +1,154 @@
+-- Sums of costs over a stretch of lines, and the work and the span of an invocation by its body.
+use mathlib.Core.Path.{_≡_, refl, sym, _∙_, ap, subst}
+use mathlib.Core.Logic.{inl, inr}
+use mathlib.Core.Bool.{Bool, true, false, cond}
+use mathlib.Core.List.{List, [], _∷_, _++_}
+use Prim.Native.Nat.{ℕ, zero, suc, _+_, _≤_, _<_}
+use native.Mathlib.Omega.{arith}
+use lib.ListN.{length, length-append}
+use lib.Dec.{T}
+use Rattle.line.specs.declared.Frame.{Frame}
+use Rattle.line.specs.declared.Frame.the-variants.{Site, Call, Spawn, Sync, Return, Cost}
+use Rattle.trace.specs.Shape.{Is, step, walk, openAt, has}
+use Rattle.trace.specs.Series.{value, valueAt, CostIn, Span}
+use Rattle.trace.specs.Rows.{sumOf, costsWhere, inside}
+use Rattle.trace.specs.Tree.{Body, done, spend, sync, call, spawn, linesOf, size, AllSites, workOf, spanOf}
+use Rattle.trace.proofs.Basics.{below, cond-same}
+use Rattle.trace.proofs.Tree.{IsSite, size-is}
+use Rattle.trace.proofs.Recurrence.{weight-chain}
+use Rattle.trace.proofs.Context.{Ctx, walk-append}
+use Rattle.trace.proofs.Chains.{is-length, is-right, span-of}
+use Rattle.trace.proofs.Chains as C
+use Rattle.trace.proofs.Invocations.{Inv}
+
+pub walk-left : (n : ℕ) (o : List ℕ) (u v : List Frame) (j : ℕ) → j < length u → walk n o (u ++ v) j ≡ walk n o u j
+walk-left n o [] v j l = absurd (omega arith)
+walk-left n o (e ∷ u) v zero l = refl
+walk-left n o (e ∷ u) v (suc j) l = walk-left (suc n) (step n e o) u v j (omega arith)
+
+pub sum-append : (p : ℕ → List ℕ → Bool) (n : ℕ) (o : List ℕ) (u v : List Frame) → sumOf p n o (u ++ v) ≡ sumOf p n o u + sumOf p (n + length u) (walk n o u (length u)) v
+sum-append p n o [] v = let e : n ≡ n + 0 = omega arith in omega (arith, ap (λ (k : ℕ). sumOf p k o v) e)
+sum-append p n o (e ∷ u) v =
+    let q : suc n + length u ≡ n + suc (length u) = omega arith in
+    omega (arith, sum-append p (suc n) (step n e o) u v, ap (λ (k : ℕ). sumOf p k (walk (suc n) (step n e o) u (length u)) v) q)
+
+module _ (p : ℕ → List ℕ → Bool) where
+  -- what p says of the first line, and of the lines behind it
+  here : (n : ℕ) (o : List ℕ) → T (p n o) → T (p (n + 0) o)
+  here n o h = let e : n ≡ n + 0 = omega arith in subst (λ (k : ℕ). T (p k o)) e h
+
+  there : (n j : ℕ) (o : List ℕ) → T (p (suc n + j) o) → T (p (n + suc j) o)
+  there n j o h = let e : suc n + j ≡ n + suc j = omega arith in subst (λ (k : ℕ). T (p k o)) e h
+
+  back : (n j : ℕ) (o : List ℕ) → T (p (n + suc j) o) → T (p (suc n + j) o)
+  back n j o h = let e : n + suc j ≡ suc n + j = omega arith in subst (λ (k : ℕ). T (p k o)) e h
+
+  -- no line that p picks weighs anything
+  pub quiet : (n : ℕ) (o : List ℕ) (u : List Frame) → ((j : ℕ) (f : Frame) → Is u j f → T (p (n + j) (walk n o u j)) → value f ≡ 0) → sumOf p n o u ≡ 0
+  quiet n o [] h = refl
+  quiet n o (e ∷ u) h = omega (arith, first (p n o) (λ k. h 0 e refl (here n o k)), quiet (suc n) (step n e o) u (λ j f i k. h (suc j) f i (there n j (walk (suc n) (step n e o) u j) k)))
+    where
+      first : (b : Bool) → (T b → value e ≡ 0) → cond b (value e) 0 ≡ 0
+      first true f = f tt
+      first false f = refl
+
+  -- p picks every line
+  pub every : (n : ℕ) (o : List ℕ) (u : List Frame) → ((j : ℕ) → j < length u → T (p (n + j) (walk n o u j))) → sumOf p n o u ≡ sumOf (λ k o. true) n o u
+  every n o [] h = refl
+  every n o (e ∷ u) h =
+      omega (arith, first (p n o) (now (h 0 (omega arith))), every (suc n) (step n e o) u (λ j l. back n j (walk (suc n) (step n e o) u j) (h (suc j) (omega arith))))
+    where
+      now : T (p (n + 0) o) → T (p n o)
+      now k = let q : n + 0 ≡ n = omega arith in subst (λ (i : ℕ). T (p i o)) q k
+
+      first : (b : Bool) → T b → cond b (value e) 0 ≡ value e
+      first true k = refl
+      first false k = absurd k
+
+-- all costs of a body's lines
+pub all-costs : (b : Body) (n : ℕ) (o : List ℕ) → sumOf (λ k o. true) n o (linesOf b) ≡ workOf b
+all-costs done n o = refl
+all-costs (spend v r) n o = omega (arith, all-costs r (suc n) o)
+all-costs (sync r) n o = omega (arith, all-costs r (suc n) o)
+all-costs (call s g r) n o =
+    omega (
+      arith,
+      sum-append (λ k o. true) (suc n) (suc n ∷ o) (linesOf g) (linesOf r),
+      all-costs g (suc n) (suc n ∷ o),
+      all-costs r (suc n + length (linesOf g)) (walk (suc n) (suc n ∷ o) (linesOf g) (length (linesOf g))),
+    )
+all-costs (spawn s g r) n o =
+    omega (
+      arith,
+      sum-append (λ k o. true) (suc n) (suc n ∷ o) (linesOf g) (linesOf r),
+      all-costs g (suc n) (suc n ∷ o),
+      all-costs r (suc n + length (linesOf g)) (walk (suc n) (suc n ∷ o) (linesOf g) (length (linesOf g))),
+    )
+
+site-weighs : (f : Frame) → IsSite f → value f ≡ 0
+site-weighs (Site s p) h = refl
+site-weighs (Call s) h = absurd h
+site-weighs (Spawn s) h = absurd h
+site-weighs Sync h = absurd h
+site-weighs Return h = absurd h
+site-weighs (Cost v) h = absurd h
+
+-- site lines weigh nothing
+pub heads-sum : (p : ℕ → List ℕ → Bool) (n : ℕ) (o : List ℕ) (h : List Frame) → AllSites h → sumOf p n o h ≡ 0
+heads-sum p n o [] s = refl
+heads-sum p n o (f ∷ h) s = omega (arith, ap (λ (v : ℕ). cond (p n o) v 0) (site-weighs f (s .0)), cond-same (p n o), heads-sum p (suc n) (step n f o) h (s .1))
+
+module _ (t : List Frame) (F n : ℕ) (g : Body) (i : Inv t F n g) where
+  -- no cost line inside it is before its body
+  pub starts : (k : ℕ) → CostIn t F k → n ≤ k
+  starts k c = elim (below n k) [ inl l ↦ absurd (i .start k (Cost (valueAt t k)) l (c .is) (c .inside)) | inr w ↦ omega (arith, w .1) ]
+
+  -- LAW: the span of an invocation is what Cilkprof's recurrence gives
+  pub span-is : Span t F (spanOf g)
+  span-is = subst (Span t F) (weight-chain g n 0) (span-of t n 0 F (i .around) g (i .post) (i .ctx) starts (i .paid))
+
+  abbrev in-it : ℕ → List ℕ → Bool
+  in-it k o = has F o
+
+  abbrev opened : List ℕ
+  opened = walk n (F ∷ i .around) (linesOf g) (length (linesOf g))
+
+  before : sumOf in-it 0 (0 ∷ []) (i .ctx .pre) ≡ 0
+  before = quiet in-it 0 (0 ∷ []) (i .ctx .pre) (λ j f h k. site-weighs f (site j f h k))
+    where
+      site : (j : ℕ) (f : Frame) → Is (i .ctx .pre) j f → T (has F (walk 0 (0 ∷ []) (i .ctx .pre) j)) → IsSite f
+      site j f h k =
+          let l = is-length (i .ctx .pre) j f h in
+          let e : openAt t j ≡ walk 0 (0 ∷ []) (i .ctx .pre) j = ap (λ (z : List Frame). openAt z j) (i .ctx .whole) ∙ walk-left 0 (0 ∷ []) (i .ctx .pre) (linesOf g ++ i .post) j l in
+          i .start j f (omega (arith, i .ctx .count)) (subst (λ (z : List Frame). Is z j f) (sym (i .ctx .whole)) (is-right (i .ctx .pre) (linesOf g ++ i .post) j f h)) (subst (λ (l : List ℕ). T (has F l)) (sym e) k)
+
+  within : sumOf in-it n (F ∷ i .around) (linesOf g) ≡ workOf g
+  within =
+      every in-it n (F ∷ i .around) (linesOf g)
+      (λ j l. subst (λ (l : List ℕ). T (has F l)) (walk-left n (F ∷ i .around) (linesOf g) (i .post) j l) (C.inside t n 0 F (i .around) g (i .post) (i .ctx) starts j (omega (arith, size-is g))))
+      ∙ all-costs g n (F ∷ i .around)
+
+  behind : sumOf in-it (n + length (linesOf g)) opened (i .post) ≡ 0
+  behind = quiet in-it (n + length (linesOf g)) opened (i .post) (λ j f h k. absurd (out j f h k))
+    where
+      out : (j : ℕ) (f : Frame) → Is (i .post) j f → T (has F (walk (n + length (linesOf g)) opened (i .post) j)) → ⊥
+      out j f h k =
+          let l = C.within t n 0 F (i .around) g (i .post) (i .ctx) starts (length (linesOf g) + j) (omega (arith, is-length (i .post) j f h, length-append (linesOf g) (i .post)))
+          (subst (λ (l : List ℕ). T (has F l)) (sym (walk-append n (F ∷ i .around) (linesOf g) (i .post) j)) k) in
+          omega (arith, size-is g)
+
+  -- LAW: all costs inside an invocation are those of its body
+  pub inside-is : inside t F ≡ workOf g
+  inside-is =
+      let e : 0 + length (i .ctx .pre) ≡ n = omega (arith, i .ctx .count) in
+      omega (
+        arith,
+        ap (λ (z : List Frame). sumOf in-it 0 (0 ∷ []) z) (i .ctx .whole),
+        sum-append in-it 0 (0 ∷ []) (i .ctx .pre) (linesOf g ++ i .post),
+        ap (λ (k : ℕ). sumOf in-it k (walk 0 (0 ∷ []) (i .ctx .pre) (length (i .ctx .pre))) (linesOf g ++ i .post)) e,
+        ap (λ (o : List ℕ). sumOf in-it n o (linesOf g ++ i .post)) (i .ctx .opened),
+        sum-append in-it n (F ∷ i .around) (linesOf g) (i .post),
+        before,
+        within,
+        behind,
+      )

@@ -1,0 +1,125 @@
+-- The twelve traces of document 01: the definitions say of each what its table says.
+use mathlib.Core.Path.{_≡_, refl, sym, _∙_, ap, subst}
+use mathlib.Core.Bool.{true}
+use mathlib.Core.List.{List, [], _∷_, _++_, map}
+use Prim.Native.Nat.{ℕ}
+use lib.ListN.{length}
+use Rattle.line.specs.declared.Frame.{Frame}
+use Rattle.line.specs.declared.Frame.the-variants.{Site}
+use Rattle.chain.specs.Plan.{choose}
+use Rattle.trace.specs.Shape.{root}
+use Rattle.trace.specs.Series.{Span, Chosen}
+use Rattle.trace.specs.Rows.{total, Spans, onSpan}
+use Rattle.trace.specs.Refusals.{Verdict, accepted, verdict}
+use Rattle.trace.specs.Tree.{Body, done, spend, sync, call, spawn, linesOf, Parts, spanOf, spansIn}
+use Rattle.trace.specs.Fold.{chainOf, linesIn}
+use Rattle.trace.specs.Twelve.{Case, twelve, Holds, AllHold, K, RowOne, Claim}
+use Rattle.trace.proofs.Basics.{clash}
+use Rattle.trace.proofs.Tree.{parts-one}
+use Rattle.trace.proofs.Scan.{accepted-fine}
+use Rattle.trace.proofs.Parse.{parts}
+use Rattle.trace.proofs.Root.{root-span, root-chosen}
+use Rattle.trace.proofs.Columns.{spans-tree}
+
+-- the trees, which the law finds the chosen chains with
+abbrev trees : List Body
+trees =
+    done
+    ∷ spend 5 (spend 3 done)
+    ∷ spawn 1 (spend 4 done) (spend 4 done)
+    ∷ spawn 1 (spend 4 done) (spend 5 done)
+    ∷ spawn 1 (spend 4 done) (sync (spend 4 done))
+    ∷ call 1 (spend 4 done) (spend 4 done)
+    ∷ spend 1 (spawn 1 (spend 10 done) (spend 2 (spawn 2 (spend 8 done) (spend 1 done))))
+    ∷ spend 1 (spawn 1 (spend 10 done) (spend 2 (spawn 2 (spend 9 done) (spend 1 done))))
+    ∷ call 1 (spawn 2 (spend 7 done) (spend 1 done)) (spend 2 done)
+    ∷ spawn 1 (spend 3 done) (call 2 (spend 1 (sync (spend 1 done))) done)
+    ∷ call 1 (spend 1 (call 1 (spend 2 done) done)) done
+    ∷ spawn 1 (spawn 2 (spend 6 done) (spend 1 done)) (spend 2 (sync (spend 1 done)))
+    ∷ []
+
+-- the two sites
+abbrev heads : List Frame
+heads = Site 1 (record { file = 1; line = 10; column = 5 }) ∷ Site 2 (record { file = 1; line = 20; column = 9 }) ∷ []
+
+record Row : Type 0 where
+  answer : Verdict
+  work : ℕ
+  span : ℕ
+  on0 : ℕ
+  on1 : ℕ
+  on2 : ℕ
+
+abbrev expected : Case → Row
+expected c = record { answer = verdict (c .trace) 4 2 true; work = c .work; span = c .span; on0 = c .on0; on1 = c .on1; on2 = c .on2 }
+
+abbrev computed : Body → Row
+computed b =
+    record {
+      answer = accepted (heads ++ linesOf b);
+      work = total (heads ++ linesOf b);
+      span = spanOf b;
+      on0 = onSpan (heads ++ linesOf b) (linesIn (chainOf 2 0 b)) 0;
+      on1 = onSpan (heads ++ linesOf b) (linesIn (chainOf 2 0 b)) 1;
+      on2 = onSpan (heads ++ linesOf b) (linesIn (chainOf 2 0 b)) 2;
+    }
+
+-- the one computed test
+test : map expected twelve ≡ map computed trees
+unfolding choose
+test = refl
+
+-- what the laws say of a text that is accepted as the two sites and the body b
+module _ (s : List ℕ) (b : Body) (e : verdict s 4 2 true ≡ accepted (heads ++ linesOf b)) where
+  abbrev t : List Frame
+  t = heads ++ linesOf b
+
+  p : Parts 4 t
+  p = parts 4 2 t (accepted-fine s 4 2 true t e)
+
+  same : (p .heads ≡ heads) × (p .body ≡ b)
+  same = parts-one (p .heads) heads (p .body) b (p .all-sites) (tt, (tt, tt)) (sym (p .lines))
+
+  span-here : Span t root (spanOf b)
+  span-here = subst (λ (c : Body). Span t root (spanOf c)) (same .1) (root-span 4 t p)
+
+  chosen-here : Chosen t (linesIn (chainOf 2 0 b))
+  chosen-here =
+      subst (λ (h : List Frame). Chosen t (linesIn (chainOf (length h) 0 b))) (same .0)
+      (subst (λ (c : Body). Chosen t (linesIn (chainOf (length (p .heads)) 0 c))) (same .1) (root-chosen 4 t p))
+
+  spans-here : (i : ℕ) → Spans t i (spansIn i b)
+  spans-here i = subst (λ (c : Body). Spans t i (spansIn i c)) (same .1) (spans-tree 4 t p i)
+
+holds : (c : Case) (b : Body) → expected c ≡ computed b → Holds c
+holds c b e =
+    let a = ap (λ (r : Row). r .answer) e in
+    record {
+      t = heads ++ linesOf b;
+      is-accepted = a;
+      work-is = sym (ap (λ (r : Row). r .work) e);
+      span-is = subst (Span (heads ++ linesOf b) root) (sym (ap (λ (r : Row). r .span) e)) (span-here (c .trace) b a);
+      chain = linesIn (chainOf 2 0 b);
+      chosen = chosen-here (c .trace) b a;
+      on0-is = sym (ap (λ (r : Row). r .on0) e);
+      on1-is = sym (ap (λ (r : Row). r .on1) e);
+      on2-is = sym (ap (λ (r : Row). r .on2) e);
+    }
+
+all-hold : (cs : List Case) (bs : List Body) → map expected cs ≡ map computed bs → AllHold cs
+all-hold [] bs e = tt
+all-hold (c ∷ cs) [] e = clash (cc)
+all-hold (c ∷ cs) (b ∷ bs) e =
+    let h : expected c ≡ computed b = cc in
+    let k : map expected cs ≡ map computed bs = cc in
+    (holds c b h, all-hold cs bs k)
+
+abbrev K-tree : Body
+K-tree = call 1 (spend 1 (call 1 (spend 2 done) done)) done
+
+K-row : RowOne K 2 5 5 3
+K-row = record { t = heads ++ linesOf K-tree; is-accepted = refl; calls-is = refl; work-is = refl; span-is = spans-here (K .trace) K-tree refl 1; local-is = refl }
+
+-- THE CLAIM
+pub twelve-hold : Claim
+twelve-hold = (all-hold twelve trees test, K-row)

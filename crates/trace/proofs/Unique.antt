@@ -1,0 +1,44 @@
+-- There is one span of an invocation, one chosen chain, and one sum of spans.
+use mathlib.Core.Path.{_≡_, refl, sym, _∙_, ap, subst}
+use mathlib.Core.Logic.{_⊎_, inl, inr}
+use mathlib.Core.List.{List, [], _∷_}
+use Prim.Native.Nat.{ℕ, _+_, _≤_, _<_}
+use native.Mathlib.Omega.{arith}
+use Rattle.line.specs.declared.Frame.{Frame}
+use Rattle.trace.specs.Series.{Chain, weight, Span, Before, Chosen}
+use Rattle.trace.specs.Rows.{counted, Sum, Spans}
+
+-- LAW
+pub span-unique : (t : List Frame) (F m n : ℕ) → Span t F m → Span t F n → m ≡ n
+span-unique t F m n h k = omega (arith, h .greatest (k .chain) (k .is-chain), k .greatest (h .chain) (h .is-chain), h .weighs, k .weighs)
+
+before-asym : (c d : List ℕ) → Before c d → Before d c → ⊥
+before-asym [] d h k = h
+before-asym (x ∷ c) [] h k = h
+before-asym (x ∷ c) (y ∷ d) (inl h) (inl k) = omega arith
+before-asym (x ∷ c) (y ∷ d) (inl h) (inr k) = omega arith
+before-asym (x ∷ c) (y ∷ d) (inr h) (inl k) = omega arith
+before-asym (x ∷ c) (y ∷ d) (inr h) (inr k) = before-asym c d (h .1) (k .1)
+
+-- LAW
+pub chosen-unique : (t : List Frame) (c d : List ℕ) → Chosen t c → Chosen t d → c ≡ d
+chosen-unique t c d h k =
+    let l = h .heaviest d (k .chain) in
+    let m = k .heaviest c (h .chain) in
+    go (h .first d (k .chain) (omega arith)) (k .first c (h .chain) (omega arith))
+  where
+    go : (d ≡ c) ⊎ Before c d → (c ≡ d) ⊎ Before d c → c ≡ d
+    go (inl e) f = sym e
+    go (inr e) (inl f) = f
+    go (inr e) (inr f) = absurd (before-asym c d e f)
+
+sum-unique : (p : ℕ → ℕ → Type 0) → ((x a b : ℕ) → p x a → p x b → a ≡ b) → (l : List ℕ) (m n : ℕ) → Sum p l m → Sum p l n → m ≡ n
+sum-unique p u [] m n h k = omega arith
+sum-unique p u (x ∷ l) m n h k =
+    let e = u x (h .0) (k .0) (h .2) (k .2) in
+    let f = sum-unique p u l (h .1) (k .1) (h .3) (k .3) in
+    omega (arith, h .4, k .4)
+
+-- LAW
+pub spans-unique : (t : List Frame) (s m n : ℕ) → Spans t s m → Spans t s n → m ≡ n
+spans-unique t s m n h k = sum-unique (Span t) (span-unique t) (counted t s) m n h k
