@@ -7,13 +7,19 @@ use native.Mathlib.Numerals.{add-one}
 use native.Mathlib.Omega.{arith}
 use lib.ListN.{length, take, drop, set, getD, length-set, drop-of-length-le}
 use lib.Seq.{drop-cons, take-suc-set}
-use lib.Dec.{eqb}
-use borrow.Author.Tests.{eqb-true, eqb-false, eq-eqb, ne-eqb}
+use lib.Dec.{eqb, ltb}
+use borrow.Author.Tests.{ltb-true, eqb-true, eqb-false, eq-eqb, ne-eqb}
 use Rattle.line.specs.declared.Place.{Place}
 use Rattle.line.specs.declared.Frame.{Frame}
 use Rattle.line.specs.declared.Frame.the-variants.{Site, Call, Spawn, Sync, Return, Cost}
+use Rattle.line.specs.declared.Read.the-variants.{Line}
+use Rattle.line.specs.Table.{table, fieldsOf}
+use Rattle.line.specs.Read.{lineAt, readAt}
+use Rattle.line.specs.Write.{narrow, isFrame}
+use Rattle.line.proofs.RoundTrip.{read-write}
 use Rattle.trace.specs.Shape.{ifSite, has, sites}
 use Rattle.trace.specs.Refusals.{samePlace, placed, placeAgain}
+use Rattle.trace.proofs.Basics.{both}
 use Rattle.trace.proofs.Sites.{sites-append}
 use Rattle.admit.specs.Step.{key, seen, kept}
 
@@ -80,6 +86,20 @@ NarrowSites (f ∷ t) = NarrowSite f × NarrowSites t
 pub narrow-snoc : (t : List Frame) (f : Frame) → NarrowSites t → NarrowSite f → NarrowSites (t ++ f ∷ [])
 narrow-snoc [] f h n = (n, tt)
 narrow-snoc (e ∷ t) f h n = (h .0, narrow-snoc t f (h .1) n)
+
+-- a line that reads as a site has a narrow place
+pub read-narrow : (s : List ℕ) (n k : ℕ) (f : Frame) → readAt s n ≡ Line k f → NarrowSite f
+read-narrow s n k (Site i p) e =
+    let w = both (narrow (fieldsOf (Site i p))) (isFrame (table (fieldsOf (Site i p)))) (read-write (lineAt s n) n k (Site i p) e .1) .0 in
+    let c = both (ltb 1 256 && ltb i 65536 && ltb (p .line) 4294967296 && ltb (p .file) 65536) (ltb (p .column) 65536) w in
+    let f = both (ltb 1 256 && ltb i 65536 && ltb (p .line) 4294967296) (ltb (p .file) 65536) (c .0) in
+    let l = both (ltb 1 256 && ltb i 65536) (ltb (p .line) 4294967296) (f .0) in
+    record { file = ltb-true (p .file) 65536 (f .1); line = ltb-true (p .line) 4294967296 (l .1); column = ltb-true (p .column) 65536 (c .1) }
+read-narrow s n k (Call i) e = tt
+read-narrow s n k (Spawn i) e = tt
+read-narrow s n k Sync e = tt
+read-narrow s n k Return e = tt
+read-narrow s n k (Cost v) e = tt
 
 -- their keys, in their order
 abbrev pub keysOf : List Frame → List ℕ

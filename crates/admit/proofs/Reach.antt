@@ -27,11 +27,8 @@ use Rattle.admit.specs.declared.Tallied.the-variants.{Next}
 use Rattle.admit.specs.declared.Tallied.the-variants.{Refused as Stop}
 use Rattle.admit.specs.Answer.{answerOf}
 use Rattle.admit.specs.Step.{tallyOf, judgedBy, keptBy, stepped, seen, kept, Limits, Within}
-use Rattle.admit.proofs.Keys.{NarrowSite, NarrowSites, narrow-snoc, keysOf, seen-is, kept-is, kept-length}
+use Rattle.admit.proofs.Keys.{NarrowSite, NarrowSites, narrow-snoc, read-narrow, keysOf, seen-is, kept-is, kept-length}
 use Rattle.admit.proofs.Tallies.{Numbered, numbered-start, numbered-snoc, within-snoc, none-open, judgement, step-is}
-
-pub read-narrow : (s : List ℕ) (n k : ℕ) (f : Frame) → readAt s n ≡ Line k f → NarrowSite f
-read-narrow s n k f e = ?
 
 -- what is known behind the lines before
 pub record Known (D M : ℕ) (s ks : List ℕ) (before : List Frame) : Type 0 where
@@ -121,17 +118,17 @@ module _ (D M : ℕ) (s ks : List ℕ) (limits : Limits D M s) where
               let c = faultless D M before f (eqb-true (fault D M before f) 0 b) in
               let q : u ≡ tallyOf (before ++ f ∷ []) = cc in
               let k : Known D M s (kept ks (sites before) f) (before ++ f ∷ []) =
-                  record {
-                    left = unrolled .0;
-                    whole = omega (arith, one-more f, unrolled .1);
-                    rest = ap (λ (m : ℕ). scan D M (before ++ f ∷ []) (readsFrom s m (unrolled .0))) (one-more f) ∙ w;
-                    numbered = numbered-snoc before f (c .not8) (r .numbered);
-                    within = within-snoc M before f (c .not8) (c .not9) (r .numbered) (r .within);
-                    safe = safe-snoc D (limits .most) (limits .least) before f (r .safe) (read-line (lineAt s n) n k f h .1) (c .not12);
-                    narrow = narrow-snoc before f (r .narrow) (read-narrow s n k f h);
-                    room = kept-length ks before (r .keys) f ∙ r .room;
-                    keys = kept-is ks before (r .keys) f (omega (arith, r .within, limits .sites-most, r .room));
-                  } in
+              record {
+                left = unrolled .0;
+                whole = omega (arith, one-more f, unrolled .1);
+                rest = ap (λ (m : ℕ). scan D M (before ++ f ∷ []) (readsFrom s m (unrolled .0))) (one-more f) ∙ w;
+                numbered = numbered-snoc before f (c .not8) (r .numbered);
+                within = within-snoc M before f (c .not8) (c .not9) (r .numbered) (r .within);
+                safe = safe-snoc D (limits .most) (limits .least) before f (r .safe) (read-line (lineAt s n) n k f h .1) (c .not12);
+                narrow = narrow-snoc before f (r .narrow) (read-narrow s n k f h);
+                room = kept-length ks before (r .keys) f ∙ r .room;
+                keys = kept-is ks before (r .keys) f (omega (arith, r .within, limits .sites-most, r .room));
+              } in
               (ap (λ (v : Tally). v .lines) q ∙ one-more f, record { before = before ++ f ∷ []; tally = q; known = k })
           on k f false h b e w = clash (cc)
 

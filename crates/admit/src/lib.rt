@@ -3,7 +3,6 @@
 use line::Frame;
 use line::Place;
 use line::Read;
-
 ghost use mathlib.Core.Path.{_≡_};
 ghost use mathlib.Core.List.{[]};
 ghost use Prim.Native.Nat.{_+_, _*_, _≤_, _<_};
@@ -213,13 +212,7 @@ fn rows_room(sites: usize) -> usize
 }
 
 // Acceptance for the table engine, lent `scratch` numbers of scratch and `rows` row numbers.
-pub fn for_tables(
-    trace: &[u8],
-    depth: usize,
-    sites: usize,
-    scratch: usize,
-    rows: usize,
-) -> Verdict
+pub fn for_tables(trace: &[u8], depth: usize, sites: usize, scratch: usize, rows: usize) -> Verdict
     ensures { λ r. ⌜ r ≡ answerOf (verdict (now (trace .entry)) depth sites (roomy Engine.tables (now (trace .entry)) depth sites scratch rows 0)) ⌝ }
 {
     let first = opening(trace.len(), depth, sites);

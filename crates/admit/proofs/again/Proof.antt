@@ -17,10 +17,6 @@ use Rattle.admit.specs.Step.{seen, kept}
 use borrow.Author.Needs.{needs}
 use Rattle.admit.proofs.again.Statement.{statement}
 use Rattle.admit.proofs.again.Tie as tie
-use Rattle.admit.proofs.again.Reads as reads
-use Rattle.admit.proofs.again.Lts as lts
-use Rattle.admit.proofs.key.Reads as key-reads
-use Rattle.admit.proofs.known.Reads as known-reads
 
 -- a line of another kind declares nothing
 other : (ks : List ℕ) (n : ℕ) (f : Frame) → OneOf (1 ∷ 2 ∷ 3 ∷ 4 ∷ 5 ∷ []) (tagOf the-type f) → (false ≡ seen ks n f) × (ks ≡ kept ks n f)

@@ -3,9 +3,6 @@ use borrow.Author.Tests.{lt-ltb, le-ltb, eq-eqb, ne-eqb}
 use borrow.Author.Needs.{needs}
 use Rattle.admit.proofs.declare.Statement.{statement}
 use Rattle.admit.proofs.declare.Tie as tie
-use Rattle.admit.proofs.declare.Reads as reads
-use Rattle.admit.proofs.declare.Lts as lts
-use Rattle.admit.proofs.onward.Reads as onward-reads
 
 returns : tie.Need-returns
 returns c = simp (ne-eqb _ _ (c .if1 .taken))

@@ -3,9 +3,6 @@ use borrow.Author.Tests.{lt-ltb, le-ltb, le-leb, lt-leb, eq-eqb, ne-eqb}
 use borrow.Author.Needs.{needs}
 use Rattle.admit.proofs.enter.Statement.{statement}
 use Rattle.admit.proofs.enter.Tie as tie
-use Rattle.admit.proofs.enter.Reads as reads
-use Rattle.admit.proofs.enter.Lts as lts
-use Rattle.admit.proofs.onward.Reads as onward-reads
 
 returns : tie.Need-returns
 returns c = simp (eq-eqb _ _ (c .if1 .taken))

@@ -10,11 +10,6 @@ use Rattle.admit.specs.Answer.{opening, roomy}
 use Rattle.admit.proofs.Entry.{opening-refused, opening-limits, room-refused, room-scanned, first-short, second-short, third-short, none-short, scratch-small}
 use Rattle.admit.proofs.for_marks.Statement.{statement}
 use Rattle.admit.proofs.for_marks.Tie as tie
-use Rattle.admit.proofs.for_marks.Reads as reads
-use Rattle.admit.proofs.for_marks.Lts as lts
-use Rattle.admit.proofs.lines.Reads as lines-reads
-use Rattle.admit.proofs.opening.Reads as opening-reads
-use Rattle.admit.proofs.rows_room.Reads as rows-room-reads
 
 opening-requires : tie.Need-opening-requires
 opening-requires c κs = search needs

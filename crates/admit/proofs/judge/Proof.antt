@@ -7,10 +7,6 @@ use Rattle.admit.specs.Step.{stepped}
 use borrow.Author.Needs.{needs}
 use Rattle.admit.proofs.judge.Statement.{statement}
 use Rattle.admit.proofs.judge.Tie as tie
-use Rattle.admit.proofs.judge.Reads as reads
-use Rattle.admit.proofs.judge.Lts as lts
-use Rattle.admit.proofs.again.Reads as again-reads
-use Rattle.admit.proofs.step.Reads as step-reads
 
 read-at-requires : tie.Need-read-at-requires
 read-at-requires c κs = search needs
@@ -31,14 +27,14 @@ same-length : tie.Need-same-length
 same-length c = search needs
 
 returns : tie.Need-returns
-returns c = 
+returns c =
     let a = c .before .before .before .before .before .before .before .before .before .before .before .args in
     let g = c .before .before .before .before .before .before .frame .given in
     let e : readAt (a .trace .now) (a .t .lines) ≡ Line (g .0 .0) (g .0 .1 .0) = sym (c .before .before .before .before .before .before .before .before .read-at .ensures) ∙ g .1 in
     rw e (c .step .ensures ∙ ap (λ (b : Bool). stepped (a .depth) (a .sites) b (a .t) (g .0 .1 .0)) (c .before .before .before .again .ensures .0), c .before .before .before .again .ensures .1)
 
 returns-2 : tie.Need-returns-2
-returns-2 c = 
+returns-2 c =
     let a = c .before .before .before .before .before .before .args in
     let e : readAt (a .trace .now) (a .t .lines) ≡ Refused _ _ = sym (c .before .before .before .read-at .ensures) ∙ c .before .number .given .1 in
     rw e (refl, refl)

@@ -9,8 +9,6 @@ use Rattle.trace.specs.Shape.{has}
 use Rattle.admit.proofs.Keys.{found-here, found-elsewhere, found-all}
 use Rattle.admit.proofs.known.Statement.{statement}
 use Rattle.admit.proofs.known.Tie as tie
-use Rattle.admit.proofs.known.Reads as reads
-use Rattle.admit.proofs.known.Lts as lts
 
 abbrev Inv-loop : tie.InvT-loop
 Inv-loop keys key found₀ i₀ found i = (i ≤ length keys) × ((found || has key (drop i keys)) ≡ has key keys)
@@ -39,10 +37,10 @@ loop-again c =
     let a = c .before .before .before .before .args in (
       search needs,
       ⊎-elim
-      (λ w. found-here (a .key) (a .keys .now) (l .i) (l .found) (c .if1 .found) (search needs) (w .0 .taken) (w .1))
-      (λ w. found-elsewhere (a .key) (a .keys .now) (l .i) (l .found) (c .if1 .found) (search needs) (w .0 .left) (w .1))
-      (c .if1 .came)
-      ∙ l .inv .1,
+          (λ w. found-here (a .key) (a .keys .now) (l .i) (l .found) (c .if1 .found) (search needs) (w .0 .taken) (w .1))
+          (λ w. found-elsewhere (a .key) (a .keys .now) (l .i) (l .found) (c .if1 .found) (search needs) (w .0 .left) (w .1))
+          (c .if1 .came)
+          ∙ l .inv .1,
     )
 
 returns : tie.Need-returns Inv-loop μ-loop

@@ -10,9 +10,6 @@ use Rattle.trace.specs.Refusals.{lineCount}
 use Rattle.admit.proofs.Reach.{Reached, reached-start, reached-within, reached-end, reached-refused, reached-next}
 use Rattle.admit.proofs.lines.Statement.{statement}
 use Rattle.admit.proofs.lines.Tie as tie
-use Rattle.admit.proofs.lines.Reads as reads
-use Rattle.admit.proofs.lines.Lts as lts
-use Rattle.admit.proofs.judge.Reads as judge-reads
 
 abbrev Inv-loop : tie.InvT-loop
 Inv-loop trace depth sites count keys₀ tally₀ keys tally = Reached depth sites trace keys tally

@@ -3,8 +3,6 @@ use native.Mathlib.Omega.{arith}
 use borrow.Author.Tests.{lt-ltb, le-ltb, eq-eqb, ne-eqb, le-leb, lt-leb}
 use Rattle.admit.proofs.opening.Statement.{statement}
 use Rattle.admit.proofs.opening.Tie as tie
-use Rattle.admit.proofs.opening.Reads as reads
-use Rattle.admit.proofs.opening.Lts as lts
 
 returns : tie.Need-returns
 returns c = simp (lt-leb 1 (c .before .args .depth) (omega (arith, c .if1 .taken)))

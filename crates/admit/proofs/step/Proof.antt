@@ -3,11 +3,6 @@ use borrow.Author.Tests.{eq-eqb, ne-eqb}
 use borrow.Author.Needs.{needs}
 use Rattle.admit.proofs.step.Statement.{statement}
 use Rattle.admit.proofs.step.Tie as tie
-use Rattle.admit.proofs.step.Reads as reads
-use Rattle.admit.proofs.step.Lts as lts
-use Rattle.admit.proofs.declare.Reads as declare-reads
-use Rattle.admit.proofs.enter.Reads as enter-reads
-use Rattle.admit.proofs.onward.Reads as onward-reads
 
 returns : tie.Need-returns
 returns c = simp (eq-eqb _ _ (c .if1 .taken))
