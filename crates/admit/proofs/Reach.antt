@@ -49,16 +49,16 @@ pub record Reached (D M : ℕ) (s ks : List ℕ) (t : Tally) : Type 0 where
   pub known : Known D M s ks before
 
 -- before the first line
-pub reached-start : (D M : ℕ) (s ks : List ℕ) → Limits D M s → length ks ≡ 256 → Reached D M s ks (record { lines = 0; sites = 0; depth = 1 })
-reached-start D M s ks h r =
+pub reached-start : {D M : ℕ} {s : List ℕ} (ks : List ℕ) → Limits D M s → length ks ≡ 256 → Reached D M s ks (record { lines = 0; sites = 0; depth = 1 })
+reached-start {D} {M} {s} ks h r =
     record {
       before = [];
       tally = refl;
       known = record { left = lineCount s; whole = omega arith; rest = refl; numbered = numbered-start; within = omega arith; safe = safe-start D (h .most) (h .least); narrow = tt; room = r; keys = refl };
     }
 
-module _ (D M : ℕ) (s ks : List ℕ) (limits : Limits D M s) where
-  module _ (before : List Frame) (r : Known D M s ks before) where
+module _ {D M : ℕ} {s ks : List ℕ} (limits : Limits D M s) where
+  module _ {before : List Frame} (r : Known D M s ks before) where
     abbrev n : ℕ
     n = length before
 
@@ -137,7 +137,7 @@ module _ (D M : ℕ) (s ks : List ℕ) (limits : Limits D M s) where
           go (Line k f) h e w = on k f (eqb (fault D M before f) 0) h refl (sym (judged-is k f h) ∙ e) w
 
   -- the same by the tally
-  module _ (t : Tally) (r : Reached D M s ks t) where
+  module _ {t : Tally} (r : Reached D M s ks t) where
     pub reached-within : t .lines < lineCount s → Within D ks t
     reached-within l =
         let a : t .lines ≡ length (r .before) = ap (λ (u : Tally). u .lines) (r .tally) in
@@ -152,14 +152,14 @@ module _ (D M : ℕ) (s ks : List ℕ) (limits : Limits D M s) where
     pub reached-end : lineCount s ≤ t .lines → answerOf (scan D M [] (reads s)) ≡ cond (eqb (t .depth) 0) (Accepted (t .sites) (t .lines)) (Denied 14 (t .lines))
     reached-end =
         subst⁻¹ (λ (v : Tally). lineCount s ≤ v .lines → answerOf (scan D M [] (reads s)) ≡ cond (eqb (v .depth) 0) (Accepted (v .sites) (v .lines)) (Denied 14 (v .lines))) (r .tally)
-        (end-is (r .before) (r .known))
+        (end-is (r .known))
 
     pub reached-refused : t .lines < lineCount s → (number line : ℕ) → judgedBy D M ks t (readAt s (t .lines)) ≡ Stop number line → answerOf (scan D M [] (reads s)) ≡ Denied number line
     reached-refused =
         subst⁻¹ (λ (v : Tally). v .lines < lineCount s → (number line : ℕ) → judgedBy D M ks v (readAt s (v .lines)) ≡ Stop number line → answerOf (scan D M [] (reads s)) ≡ Denied number line) (r .tally)
-        (refused-is (r .before) (r .known))
+        (refused-is (r .known))
 
     pub reached-next : t .lines < lineCount s → (u : Tally) → judgedBy D M ks t (readAt s (t .lines)) ≡ Next u → (u .lines ≡ suc (t .lines)) × Reached D M s (keptBy ks t (readAt s (t .lines))) u
     reached-next =
         subst⁻¹ (λ (v : Tally). v .lines < lineCount s → (u : Tally) → judgedBy D M ks v (readAt s (v .lines)) ≡ Next u → (u .lines ≡ suc (v .lines)) × Reached D M s (keptBy ks v (readAt s (v .lines))) u) (r .tally)
-        (next-is (r .before) (r .known))
+        (next-is (r .known))

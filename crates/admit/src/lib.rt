@@ -9,9 +9,9 @@ ghost use Prim.Native.Nat.{_+_, _*_, _≤_, _<_};
 ghost use lib.ListN.{length};
 ghost use Rattle.line.specs.Read.{readAt};
 ghost use Rattle.trace.specs.Shape.{has};
-ghost use Rattle.trace.specs.Refusals.{scan, reads, lineCount, verdict};
+ghost use Rattle.trace.specs.Refusals.{scan, reads};
 ghost use Rattle.trace.specs.Promise.{Engine, rowsRoom};
-ghost use Rattle.admit.specs.Answer.{answerOf, roomy, opening};
+ghost use Rattle.admit.specs.Answer.{answerOf, admission, opening};
 ghost use Rattle.admit.specs.Step.{key, seen, kept, onward, declaring, entering, stepped, judgedBy, keptBy, Within, Limits};
 
 // What acceptance answers: the numbers of sites and of lines, or a refusal's number and line.
@@ -213,7 +213,7 @@ fn rows_room(sites: usize) -> usize
 
 // Acceptance for the table engine, lent `scratch` numbers of scratch and `rows` row numbers.
 pub fn for_tables(trace: &[u8], depth: usize, sites: usize, scratch: usize, rows: usize) -> Verdict
-    ensures { λ r. ⌜ r ≡ answerOf (verdict (now (trace .entry)) depth sites (roomy Engine.tables (now (trace .entry)) depth sites scratch rows 0)) ⌝ }
+    ensures { λ r. ⌜ r ≡ admission Engine.tables (now (trace .entry)) depth sites scratch rows 0 ⌝ }
 {
     let first = opening(trace.len(), depth, sites);
     if first != 0 {
@@ -237,7 +237,7 @@ pub fn for_marks(
     rows: usize,
     marks: usize,
 ) -> Verdict
-    ensures { λ r. ⌜ r ≡ answerOf (verdict (now (trace .entry)) depth sites (roomy Engine.marks (now (trace .entry)) depth sites scratch rows marks)) ⌝ }
+    ensures { λ r. ⌜ r ≡ admission Engine.marks (now (trace .entry)) depth sites scratch rows marks ⌝ }
 {
     let first = opening(trace.len(), depth, sites);
     if first != 0 {

@@ -1,20 +1,18 @@
 -- `admit::again` meets its contract: a site line's key is looked for among those before it, and is kept behind them.
-use mathlib.Core.Path.{_≡_, refl, sym, ap, _∙_}
+use mathlib.Core.Path.{_≡_, refl, sym}
 use mathlib.Core.Logic.{_⊎_, inl, inr}
 use mathlib.Core.Bool.{false}
 use mathlib.Core.List.{List, [], _∷_}
 use Prim.Native.Nat.{ℕ}
 use native.Mathlib.Omega.{arith}
-use lib.ListN.{take, set}
 use lib.Seq.{length-take-le}
+use borrow.Author.Needs.{needs}
 use types.Run.{OneOf}
 use denote.Enum.Declared.{tagOf}
 use Rattle.line.proofs.Frame.{the-type}
 use Rattle.line.specs.declared.Frame.{Frame}
 use Rattle.line.specs.declared.Frame.the-variants.{Site, Call, Spawn, Sync, Return, Cost}
-use Rattle.trace.specs.Shape.{has}
 use Rattle.admit.specs.Step.{seen, kept}
-use borrow.Author.Needs.{needs}
 use Rattle.admit.proofs.again.Statement.{statement}
 use Rattle.admit.proofs.again.Tie as tie
 
@@ -59,7 +57,9 @@ same-length : tie.Need-same-length
 same-length c = search needs
 
 returns : tie.Need-returns
-returns c = rw (c .before .before .before .before .frame .given .1) (c .known .ensures ∙ ap (λ (k : ℕ). has k (take (c .before .before .before .before .before .before .before .args .count) (c .before .before .before .before .before .before .before .args .keys .now))) (c .before .before .key .ensures), ap (set (c .before .before .before .before .before .before .before .args .keys .now) (c .before .before .before .before .before .before .before .args .count)) (c .before .before .key .ensures))
+returns c =
+    let k = c .before .before .key .ensures in
+    rw (c .before .before .before .before .frame .given .1, ← k) (c .known .ensures, refl)
 
 returns-2 : tie.Need-returns-2
 returns-2 c = other (c .before .before .args .keys .now) (c .before .before .args .count) (c .before .before .args .frame) (c .match .keys2)

@@ -1,13 +1,12 @@
 -- `admit::for_marks` meets its contract: checks 1 to 4 in their order, then the lines.
-use borrow.Author.Needs.{needs}
-use mathlib.Core.Path.{_≡_, sym, ap, _∙_}
-use Prim.Native.Nat.{ℕ, _+_, _*_}
+use mathlib.Core.Path.{_∙_}
+use Prim.Native.Nat.{_≤_, _<_}
 use native.Mathlib.Omega.{arith}
-use lib.ListN.{length}
-use Rattle.trace.specs.Promise.{marks, rowsRoom, marksRoom}
-use Rattle.admit.specs.declared.Verdict.the-variants.{Refused}
-use Rattle.admit.specs.Answer.{opening, roomy}
-use Rattle.admit.proofs.Entry.{opening-refused, opening-limits, room-refused, room-scanned, first-short, second-short, third-short, none-short, scratch-small}
+use borrow.Author.Needs.{needs}
+use borrow.Author.Tests.{le-leb, lt-leb}
+use Rattle.trace.specs.Promise.{marks, rowsRoom}
+use Rattle.admit.specs.Answer.{roomy}
+use Rattle.admit.proofs.Entry.{failed, passed, limits, short, decided}
 use Rattle.admit.proofs.for_marks.Statement.{statement}
 use Rattle.admit.proofs.for_marks.Tie as tie
 
@@ -17,63 +16,52 @@ opening-requires c κs = search needs
 returns : tie.Need-returns
 returns c =
     let a = c .before .before .before .args in
-    ap (λ (k : ℕ). Refused k 0) (c .before .opening .ensures)
-    ∙ sym (opening-refused (a .trace .now) (a .depth) (a .sites) (roomy marks (a .trace .now) (a .depth) (a .sites) (a .scratch) (a .rows) (a .marks)) (λ q. c .if1 .taken (c .before .opening .ensures ∙ q)))
+    failed (a .trace .now) (a .depth) (a .sites) (roomy marks (a .trace .now) (a .depth) (a .sites) (a .scratch) (a .rows) (a .marks)) (c .before .opening .result) (c .before .opening .ensures) (c .if1 .taken)
 
 mul-if2 : tie.Need-mul-if2
 mul-if2 c =
     let a = c .before .before .before .args in
-    let h : opening (length (a .trace .now)) (a .depth) (a .sites) ≡ 0 = sym (c .before .opening .ensures) ∙ c .if1 .left in
-    let l = opening-limits (a .trace .now) (a .depth) (a .sites) h in
-    omega (arith, l .most, l .sites-most)
+    let p = passed (a .trace .now) (a .depth) (a .sites) (c .before .opening .result) (c .before .opening .ensures) (c .if1 .left) in
+    omega (arith, limits p .most, limits p .sites-most)
 
 returns-2 : tie.Need-returns-2
 returns-2 c =
     let a = c .before .before .before .before .args in
-    let h : opening (length (a .trace .now)) (a .depth) (a .sites) ≡ 0 = sym (c .before .before .opening .ensures) ∙ c .before .if1 .left in
-    sym (room-refused (a .trace .now) (a .depth) (a .sites) h (roomy marks (a .trace .now) (a .depth) (a .sites) (a .scratch) (a .rows) (a .marks)) (first-short (8 * a .depth) (rowsRoom (a .sites)) (marksRoom marks (a .trace .now)) (a .scratch) (a .rows) (a .marks) (c .if2 .taken)))
+    let p = passed (a .trace .now) (a .depth) (a .sites) (c .before .before .opening .result) (c .before .before .opening .ensures) (c .before .if1 .left) in
+    short p (roomy marks (a .trace .now) (a .depth) (a .sites) (a .scratch) (a .rows) (a .marks)) (simp (lt-leb _ _ (c .if2 .taken)))
 
 rows-room-requires : tie.Need-rows-room-requires
 rows-room-requires c κs =
     let a = c .before .before .before .before .args in
-    let h : opening (length (a .trace .now)) (a .depth) (a .sites) ≡ 0 = sym (c .before .before .opening .ensures) ∙ c .before .if1 .left in
-    opening-limits (a .trace .now) (a .depth) (a .sites) h .sites-most
+    let p = passed (a .trace .now) (a .depth) (a .sites) (c .before .before .opening .result) (c .before .before .opening .ensures) (c .before .if1 .left) in
+    limits p .sites-most
 
 returns-3 : tie.Need-returns-3
 returns-3 c =
     let a = c .before .before .before .before .before .before .args in
-    let h : opening (length (a .trace .now)) (a .depth) (a .sites) ≡ 0 = sym (c .before .before .before .before .opening .ensures) ∙ c .before .before .before .if1 .left in
-    sym (room-refused (a .trace .now) (a .depth) (a .sites) h (roomy marks (a .trace .now) (a .depth) (a .sites) (a .scratch) (a .rows) (a .marks)) (second-short (8 * a .depth) (rowsRoom (a .sites)) (marksRoom marks (a .trace .now)) (a .scratch) (a .rows) (a .marks) (c .before .before .if2 .left) (omega (arith, c .before .rows-room .ensures, c .if3 .taken))))
+    let p = passed (a .trace .now) (a .depth) (a .sites) (c .before .before .before .before .opening .result) (c .before .before .before .before .opening .ensures) (c .before .before .before .if1 .left) in
+    let l : a .rows < rowsRoom (a .sites) = omega (arith, c .before .rows-room .ensures, c .if3 .taken) in
+    short p (roomy marks (a .trace .now) (a .depth) (a .sites) (a .scratch) (a .rows) (a .marks)) (simp (le-leb _ _ (c .before .before .if2 .left), lt-leb _ _ l))
 
 returns-4 : tie.Need-returns-4
 returns-4 c =
     let a = c .before .before .before .before .before .before .before .args in
-    let h : opening (length (a .trace .now)) (a .depth) (a .sites) ≡ 0 = sym (c .before .before .before .before .before .opening .ensures) ∙ c .before .before .before .before .if1 .left in
-    sym (room-refused (a .trace .now) (a .depth) (a .sites) h (roomy marks (a .trace .now) (a .depth) (a .sites) (a .scratch) (a .rows) (a .marks)) (third-short (8 * a .depth) (rowsRoom (a .sites)) (marksRoom marks (a .trace .now)) (a .scratch) (a .rows) (a .marks) (c .before .before .before .if2 .left) (omega (arith, c .before .before .rows-room .ensures, c .before .if3 .left)) (c .if4 .taken)))
+    let p = passed (a .trace .now) (a .depth) (a .sites) (c .before .before .before .before .before .opening .result) (c .before .before .before .before .before .opening .ensures) (c .before .before .before .before .if1 .left) in
+    let l : rowsRoom (a .sites) ≤ a .rows = omega (arith, c .before .before .rows-room .ensures, c .before .if3 .left) in
+    short p (roomy marks (a .trace .now) (a .depth) (a .sites) (a .scratch) (a .rows) (a .marks)) (simp (le-leb _ _ (c .before .before .before .if2 .left), le-leb _ _ l, lt-leb _ _ (c .if4 .taken)))
 
 lines-requires : tie.Need-lines-requires
 lines-requires c κs =
     let a = c .before .before .before .before .before .before .before .args in
-    let h : opening (length (a .trace .now)) (a .depth) (a .sites) ≡ 0 = sym (c .before .before .before .before .before .opening .ensures) ∙ c .before .before .before .before .if1 .left in
-    opening-limits (a .trace .now) (a .depth) (a .sites) h
+    let p = passed (a .trace .now) (a .depth) (a .sites) (c .before .before .before .before .before .opening .result) (c .before .before .before .before .before .opening .ensures) (c .before .before .before .before .if1 .left) in
+    limits p
 
 returns-5 : tie.Need-returns-5
 returns-5 c =
     let a = c .before .before .before .before .before .before .before .before .args in
-    let h : opening (length (a .trace .now)) (a .depth) (a .sites) ≡ 0 = sym (c .before .before .before .before .before .before .opening .ensures) ∙ c .before .before .before .before .before .if1 .left in
-    c .lines .ensures
-    ∙ sym (room-scanned (a .trace .now) (a .depth) (a .sites) h (roomy marks (a .trace .now) (a .depth) (a .sites) (a .scratch) (a .rows) (a .marks)) (none-short (8 * a .depth) (rowsRoom (a .sites)) (marksRoom marks (a .trace .now)) (a .scratch) (a .rows) (a .marks) (c .before .before .before .before .if2 .left) (omega (arith, c .before .before .before .rows-room .ensures, c .before .before .if3 .left)) (c .before .if4 .left)))
+    let p = passed (a .trace .now) (a .depth) (a .sites) (c .before .before .before .before .before .before .opening .result) (c .before .before .before .before .before .before .opening .ensures) (c .before .before .before .before .before .if1 .left) in
+    let l : rowsRoom (a .sites) ≤ a .rows = omega (arith, c .before .before .before .rows-room .ensures, c .before .before .if3 .left) in
+    c .lines .ensures ∙ decided p (roomy marks (a .trace .now) (a .depth) (a .sites) (a .scratch) (a .rows) (a .marks)) (simp (le-leb _ _ (c .before .before .before .before .if2 .left), le-leb _ _ l, le-leb _ _ (c .before .if4 .left)))
 
 pub for-marks-spec : {M : Type 1} → statement M
-for-marks-spec =
-    tie.close
-    (tie.spec
-    opening-requires
-    returns
-    mul-if2
-    returns-2
-    rows-room-requires
-    returns-3
-    returns-4
-    lines-requires
-    returns-5)
+for-marks-spec = tie.close (tie.spec opening-requires returns mul-if2 returns-2 rows-room-requires returns-3 returns-4 lines-requires returns-5)

@@ -1,10 +1,10 @@
+-- `admit::judge` meets its contract: a line that reads as a frame is stepped over with what the lookup found.
 use mathlib.Core.Path.{_≡_, refl, sym, ap, _∙_}
 use mathlib.Core.Bool.{Bool}
+use borrow.Author.Needs.{needs}
 use Rattle.line.specs.declared.Read.the-variants.{Line, Refused}
 use Rattle.line.specs.Read.{readAt}
 use Rattle.admit.specs.Step.{stepped}
--- `admit::judge` meets its contract: a line that reads as a frame is stepped over with what the lookup found.
-use borrow.Author.Needs.{needs}
 use Rattle.admit.proofs.judge.Statement.{statement}
 use Rattle.admit.proofs.judge.Tie as tie
 
