@@ -2,3 +2,4 @@ pub mod Keys
 pub mod Tallies
 pub mod Reach
 pub mod Entry
+pub mod Admitted

@@ -1,33 +1,31 @@
 -- What the flat check knows at each line: some lines lie before it, with this tally and these keys, and the verdict is what becomes of the rest.
 use mathlib.Core.Path.{_≡_, refl, sym, _∙_, ap, subst⁻¹}
-use mathlib.Core.Bool.{Bool, true, false, cond, _&&_}
+use mathlib.Core.Bool.{Bool, true, false, cond}
 use mathlib.Core.List.{List, [], _∷_, _++_}
 use Prim.Native.Nat.{ℕ, zero, suc, _+_, _≤_, _<_}
 use native.Mathlib.Omega.{arith}
 use lib.ListN.{length, take, length-append}
 use lib.Dec.{eqb}
-use borrow.Author.Tests.{eqb-true, eqb-false}
+use borrow.Author.Tests.{eqb-true}
 use Rattle.line.specs.declared.Frame.{Frame}
 use Rattle.line.specs.declared.Read.{Read}
 use Rattle.line.specs.declared.Read.the-variants.{Line, Refused}
 use Rattle.line.specs.Read.{lineAt, readAt}
 use Rattle.trace.specs.Shape.{sites}
-use Rattle.trace.specs.Refusals.{lineCount, openNow, empty, afterRoot, fault, accepted, refused, judged, scan, readsFrom, reads}
+use Rattle.trace.specs.Refusals.{lineCount, openNow, afterRoot, fault, accepted, refused, judged, scan, readsFrom, reads}
 use Rattle.trace.specs.Refusals.{Verdict as Judgement}
 use Rattle.trace.proofs.Basics.{clash}
-use Rattle.trace.proofs.Scan.{InTable, read-line, Faultless, faultless}
-use Rattle.trace.proofs.Sites.{sites-append, sites-le}
+use Rattle.trace.proofs.Scan.{read-line, faultless}
+use Rattle.trace.proofs.Sites.{sites-le}
 use Rattle.trace.proofs.Bounds.{Safe, thirteen-never, safe-snoc, safe-start}
-use Rattle.admit.specs.declared.Verdict.{Verdict}
 use Rattle.admit.specs.declared.Verdict.the-variants.{Accepted}
 use Rattle.admit.specs.declared.Verdict.the-variants.{Refused as Denied}
 use Rattle.admit.specs.declared.Tally.{Tally}
-use Rattle.admit.specs.declared.Tallied.{Tallied}
 use Rattle.admit.specs.declared.Tallied.the-variants.{Next}
 use Rattle.admit.specs.declared.Tallied.the-variants.{Refused as Stop}
 use Rattle.admit.specs.Answer.{answerOf}
 use Rattle.admit.specs.Step.{tallyOf, judgedBy, keptBy, stepped, seen, kept, Limits, Within}
-use Rattle.admit.proofs.Keys.{NarrowSite, NarrowSites, narrow-snoc, read-narrow, keysOf, seen-is, kept-is, kept-length}
+use Rattle.admit.proofs.Keys.{NarrowSites, narrow-snoc, read-narrow, keysOf, seen-is, kept-is, kept-length}
 use Rattle.admit.proofs.Tallies.{Numbered, numbered-start, numbered-snoc, within-snoc, none-open, judgement, step-is}
 
 -- what is known behind the lines before

@@ -1,25 +1,24 @@
 -- A line's fault by the tally: the step on numbers gives what the refusals say of the line behind the lines before it.
 use mathlib.Core.Path.{_≡_, refl, sym, _∙_, ap}
-use mathlib.Core.Bool.{Bool, true, false, not, cond, _&&_, _||_, or-false, or-assoc}
+use mathlib.Core.Bool.{Bool, true, false, not, cond, _||_, or-false, or-assoc}
 use mathlib.Core.List.{List, [], _∷_, _++_}
-use Prim.Native.Nat.{ℕ, zero, suc, _+_, _-_, _≤_, _<_}
+use Prim.Native.Nat.{ℕ, suc, _+_, _-_, _≤_}
 use native.Mathlib.Omega.{arith}
 use lib.ListN.{length, length-append}
 use lib.Dec.{eqb, ltb, leb}
-use borrow.Author.Tests.{eqb-true, eqb-false, ltb-true, ltb-false, leb-true, leb-false, eq-eqb, ne-eqb, lt-ltb, le-ltb, le-leb, lt-leb, not-false}
-use Rattle.line.specs.declared.Place.{Place}
+use borrow.Author.Tests.{eqb-true, eqb-false, ltb-false, leb-true, leb-false, ne-eqb, lt-ltb, le-ltb, le-leb, lt-leb, not-false}
 use Rattle.line.specs.declared.Frame.{Frame}
 use Rattle.line.specs.declared.Frame.the-variants.{Site, Call, Spawn, Sync, Return, Cost}
 use Rattle.trace.specs.Shape.{ifSite, closed, step, sites}
 use Rattle.trace.specs.Refusals.{openNow, empty, afterRoot, lastSite, allSites, misplaced, aboveM, placed, placeAgain, declared, beyond, fault}
 use Rattle.trace.proofs.Basics.{neither}
 use Rattle.trace.proofs.Scan.{now}
-use Rattle.trace.proofs.Sites.{sites-append, declared-same}
+use Rattle.trace.proofs.Sites.{sites-append}
 use Rattle.admit.specs.declared.Tally.{Tally}
 use Rattle.admit.specs.declared.Tallied.{Tallied}
 use Rattle.admit.specs.declared.Tallied.the-variants.{Next}
 use Rattle.admit.specs.declared.Tallied.the-variants.{Refused as Stop}
-use Rattle.admit.specs.Step.{tallyOf, onward, stepped}
+use Rattle.admit.specs.Step.{tallyOf, stepped}
 
 -- ── sites are numbered 1, 2, 3 and on ──
 

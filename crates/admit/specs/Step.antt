@@ -1,8 +1,7 @@
 -- For proofs, not for the reader of document 01: what the flat check does at each line, by the tally and the keys of the places so far.
-use Prim.Native.Nat.{ℕ, zero, suc, _+_, _*_, _-_, _≤_, _<_}
-use mathlib.Core.Path.{_≡_}
-use mathlib.Core.Bool.{Bool, true, false, cond}
-use mathlib.Core.List.{List, [], _∷_}
+use Prim.Native.Nat.{ℕ, _+_, _*_, _-_, _≤_, _<_}
+use mathlib.Core.Bool.{Bool, false, cond}
+use mathlib.Core.List.{List}
 use lib.ListN.{length, take, set}
 use lib.Dec.{eqb, ltb, leb}
 use Rattle.line.specs.declared.Place.{Place}
