@@ -31,9 +31,11 @@ seen ks n f = ifSite (λ s p. has (key p) (take n ks)) false f
 abbrev pub kept : List ℕ → ℕ → Frame → List ℕ
 kept ks n f = ifSite (λ s p. set ks n (key p)) ks f
 
+-- one line more, with the sites and the open invocations behind it
 abbrev pub onward : Tally → ℕ → ℕ → Tallied
 onward t sites depth = Next (record { lines = t .lines + 1; sites = sites; depth = depth })
 
+-- a site line of site s: refusals 8, 9 and 10
 abbrev pub declaring : ℕ → Bool → ℕ → Tally → Tallied
 declaring M again s t =
     cond (eqb (t .sites) (t .lines))
@@ -44,6 +46,7 @@ declaring M again s t =
     (Stop 8 (t .lines)))
     (Stop 8 (t .lines))
 
+-- a call or spawn of site s: refusals 11 and 12
 abbrev pub entering : ℕ → ℕ → Tally → Tallied
 entering D s t =
     cond (eqb s 0) (Stop 11 (t .lines))
@@ -51,6 +54,7 @@ entering D s t =
     (cond (leb D (t .depth)) (Stop 12 (t .lines))
     (onward t (t .sites) (t .depth + 1))))
 
+-- a line of an open root, by its kind
 abbrev pub inside : ℕ → ℕ → Bool → Tally → Frame → Tallied
 inside D M again t (Site s p) = declaring M again s t
 inside D M again t (Call s) = entering D s t
@@ -59,10 +63,11 @@ inside D M again t Sync = onward t (t .sites) (t .depth)
 inside D M again t Return = onward t (t .sites) (t .depth - 1)
 inside D M again t (Cost v) = onward t (t .sites) (t .depth)
 
+-- a line, refusal 7 first
 abbrev pub stepped : ℕ → ℕ → Bool → Tally → Frame → Tallied
 stepped D M again t f = cond (eqb (t .depth) 0) (Stop 7 (t .lines)) (inside D M again t f)
 
--- a line as it reads
+-- a line as it reads, and the keys behind it
 abbrev pub judgedBy : ℕ → ℕ → List ℕ → Tally → Read → Tallied
 judgedBy D M ks t (Refused n k) = Stop n k
 judgedBy D M ks t (Line k f) = stepped D M (seen ks (t .sites) f) t f

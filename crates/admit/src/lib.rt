@@ -5,7 +5,7 @@ use line::Place;
 use line::Read;
 ghost use mathlib.Core.Path.{_≡_};
 ghost use mathlib.Core.List.{[]};
-ghost use Prim.Native.Nat.{_+_, _*_, _≤_, _<_};
+ghost use Prim.Native.Nat.{_≤_, _<_};
 ghost use lib.ListN.{length};
 ghost use Rattle.line.specs.Read.{readAt};
 ghost use Rattle.trace.specs.Shape.{has};
@@ -33,7 +33,7 @@ pub enum Tallied {
     Refused(u8, usize),
 }
 
-// A place as one number, 16 bits of file, 32 of line and 16 of column: two places are the same exactly when their keys are.
+// A place as one number: 16 bits of file, 32 of line, 16 of column. Two places are the same exactly when their keys are.
 fn key(p: Place) -> u64
     ensures { λ r. ⌜ r ≡ key p ⌝ }
 {
