@@ -1,24 +1,13 @@
--- Laws of writing: a digit by arithmetic alone, how many digits there are, and digits written from the last to the first.
+-- Laws of writing: how many digits there are, and digits written from the last to the first.
 -- Assumes nothing.
-use Prim.Native.Nat.{ℕ, zero, suc, _+_, _*_, _-_, _/_, _%_, _≤_, _<_}
-use mathlib.Core.Bool.{Bool, true, false}
+use Prim.Native.Nat.{ℕ, zero, suc, _+_, _-_, _/_, _%_, _≤_, _<_}
 use mathlib.Core.List.{List, [], _∷_, _++_, append-assoc}
 use mathlib.Core.Path.{_≡_, refl, ap, _∙_, sym}
-use native.Mathlib.Nat.{mod-lt}
 use native.Mathlib.Numerals.{add-one}
 use native.Mathlib.Omega.{arith}
-use borrow.Author.Tests.{ltb-true, ltb-false}
-use lib.Dec.{ltb}
-use lib.ListN.{length, drop, getD, set, length-append, length-set}
+use lib.ListN.{length, drop, set, length-append, length-set}
 use lib.Seq.{drop-cons, drop-set-lt, getD-set-same}
 use Rattle.digits.specs.Digits.{digit, digits}
-
--- 39 characters stand between `9` and `a`, and (d + 6) / 16 is 1 from ten on
-pub digit-sum : (d : ℕ) → d < 16 → 48 + d + (d + 6) / 16 * 39 ≡ digit d
-digit-sum d h = go (ltb d 10) refl where
-  go : (t : Bool) → ltb d 10 ≡ t → 48 + d + (d + 6) / 16 * 39 ≡ digit d
-  go true e = rw e (omega (arith, ltb-true d 10 e))
-  go false e = rw e (omega (arith, ltb-false d 10 e))
 
 -- as many digits as asked
 pub digits-length : (n x : ℕ) → length (digits n x) ≡ n

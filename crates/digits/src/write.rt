@@ -4,12 +4,15 @@ ghost use Prim.Native.Nat.{_%_};
 ghost use lib.ListN.{length};
 ghost use Rattle.digits.specs.Digits.{digit, digits};
 
-// The digit's character of the last digit of n: 39 characters stand between `9` and `a`, and (d + 6) / 16 is 1 from ten on.
+// The character of n's last digit.
 pub fn digit(n: u64) -> u8
     ensures { λ r. ⌜ r ≡ digit (n % 16) ⌝ }
 {
     let d = (n % 16) as u8;
-    48 + d + (d + 6) / 16 * 39
+    if d < 10 {
+        return 48 + d;
+    }
+    87 + d
 }
 
 // Fills a part with the last digits of x, as many as the part has, most significant first.

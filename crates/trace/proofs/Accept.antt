@@ -3,22 +3,22 @@ use mathlib.Core.Path.{_≡_, refl, sym, _∙_, ap, subst}
 use mathlib.Core.Logic.{_↔_}
 use mathlib.Core.Bool.{Bool, true, false, not, cond, _||_}
 use mathlib.Core.List.{List, [], _∷_, _++_, append-assoc, append-nil}
-use Prim.Native.Nat.{ℕ, zero, suc, _+_, _%_, _≤_, _<_}
+use Prim.Native.Nat.{ℕ, suc, _+_, _%_, _≤_, _<_}
 use native.Mathlib.Omega.{arith}
 use lib.ListN.{length, length-append}
 use lib.Seq.{append-snoc}
-use lib.Dec.{eqb, ltb, leb}
-use borrow.Author.Tests.{eqb-true, eq-eqb, ne-eqb, le-ltb, le-leb, not-false}
+use lib.Dec.{eqb, ltb}
+use borrow.Author.Tests.{eqb-true, eq-eqb, ne-eqb, ltb-false, le-ltb, le-leb, not-false}
 use Rattle.line.specs.declared.Frame.{Frame}
 use Rattle.line.specs.declared.Frame.the-variants.{Site, Call, Spawn, Sync, Return, Cost}
 use Rattle.line.specs.declared.Read.{Read}
-use Rattle.trace.specs.Shape.{root, step}
+use Rattle.trace.specs.Shape.{root, step, sites}
 use Rattle.trace.specs.Refusals.{lineCount, openNow, empty, allSites, lastSite, misplaced, aboveM, placeAgain, declared, undeclared, tooDeep, fault, accepted, refused, judged, scan, reads, verdict}
-use Rattle.trace.specs.Tree.{Body, done, spend, sync, call, spawn, linesOf, Within, AllSites, Parts}
+use Rattle.trace.specs.Tree.{Body, done, spend, sync, call, spawn, linesOf, Within, AllSites}
 use Rattle.trace.proofs.Basics.{neither}
-use Rattle.trace.proofs.Tree.{IsSite, NotSite}
+use Rattle.trace.proofs.Tree.{IsSite, NotSite, no-sites-lines}
 use Rattle.trace.proofs.Scan.{InTable, Clean, Reads, reads-length, reads-from-length, Fine, Accepts, accepted-is, faultless, fault-zero, now}
-use Rattle.trace.proofs.Sites.{Numb, numb-start, numb-snoc, declared-same}
+use Rattle.trace.proofs.Sites.{sites-none, sites-append, sites-all, Numb, numb-start, numb-snoc, declared-same}
 use Rattle.trace.proofs.Parse.{parts}
 use Rattle.trace.proofs.Bounds.{Safe, thirteen-never, safe-snoc, safe-start}
 
@@ -231,6 +231,33 @@ pub fine-is-trace : (D M : ℕ) (t : List Frame) → Fine D M t → IsTrace D M 
 fine-is-trace D M t f =
     let p = parts D M t f in
     record { heads = p .heads; body = p .body; lines = p .lines; heads-ok = heads-pass D M [] (p .heads) (linesOf (p .body)) (p .all-sites) (subst (Clean D M []) (p .lines) (f .clean)); within = p .within }
+
+-- there are at most M sites
+heads-le : (M : ℕ) (before h : List Frame) → HeadsOk M before h → Numb before → length before ≤ M → length (before ++ h) ≤ M
+heads-le M before [] k n l = omega (arith, ap length (append-nil before))
+heads-le M before (Site s p ∷ h) k n l =
+    let x = neither (not (allSites before)) (not (eqb s (suc (lastSite 0 before)))) (k .1) in
+    let e = eqb-true s (suc (lastSite 0 before)) (not-false (eqb s (suc (lastSite 0 before))) (x .1)) in
+    let r = heads-le M (before ++ Site s p ∷ []) h (k .4) (numb-snoc before s p n e) (omega (arith, ltb-false M s (k .2), n .last, length-append before (Site s p ∷ []))) in
+    omega (arith, length-append (before ++ Site s p ∷ []) h, length-append before (Site s p ∷ []), length-append before (Site s p ∷ h))
+heads-le M before (Call s ∷ h) k n l = absurd (k .0)
+heads-le M before (Spawn s ∷ h) k n l = absurd (k .0)
+heads-le M before (Sync ∷ h) k n l = absurd (k .0)
+heads-le M before (Return ∷ h) k n l = absurd (k .0)
+heads-le M before (Cost v ∷ h) k n l = absurd (k .0)
+
+-- LAW: an accepted trace has at most M sites
+pub sites-le-M : (D M : ℕ) (t : List Frame) → Fine D M t → sites t ≤ M
+sites-le-M D M t f =
+    let x = fine-is-trace D M t f in
+    omega (
+      arith,
+      ap sites (x .lines),
+      sites-append (x .heads) (linesOf (x .body)),
+      sites-all (x .heads) (heads-sites M [] (x .heads) (x .heads-ok)),
+      sites-none (linesOf (x .body)) (no-sites-lines (x .body)),
+      heads-le M [] (x .heads) (x .heads-ok) numb-start (omega arith),
+    )
 
 pub trace-is-fine : (D M : ℕ) (t : List Frame) → 1 ≤ D → D ≤ 64 → M ≤ 255 → length t ≤ 65536 → IsTrace D M t → Fine D M t
 trace-is-fine D M t a b c d x = record { clean = tree-passes D M b a t d x; least = a; most = b; sites-most = c; lines-most = d }

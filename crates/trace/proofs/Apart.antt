@@ -1,7 +1,7 @@
 -- The plan of a body is ordered, and two of its costs are apart in it exactly where their lines are beside each other.
-use mathlib.Core.Path.{_≡_, refl, sym, _∙_, ap, subst, subst₂}
+use mathlib.Core.Path.{_≡_, sym, ap, subst, subst₂}
 use mathlib.Core.Logic.{_⊎_, inl, inr, ⊎-map}
-use mathlib.Core.List.{List, [], _∷_, _++_, append-assoc, List·Memᴰ, List·Memᴰ·not-nil, List·Memᴰ·cases-cons, List·Memᴰ·append-cases}
+use mathlib.Core.List.{List, _∷_, _++_, append-assoc, List·Memᴰ·not-nil, List·Memᴰ·cases-cons, List·Memᴰ·append-cases}
 use Prim.Native.Nat.{ℕ, zero, suc, _+_, _≤_, _<_}
 use native.Mathlib.Nat.{le-dest}
 use native.Mathlib.Omega.{arith}
@@ -12,7 +12,7 @@ use Rattle.chain.proofs.Lists.{all-map, all-at, all-append, pairs-append}
 use Rattle.chain.proofs.Parts.{apart-on}
 use Rattle.trace.specs.Tree.{Body, done, spend, sync, call, spawn, linesOf, size}
 use Rattle.trace.specs.Fold.{costAt, block, after, plan}
-use Rattle.trace.proofs.Levels.{bsize, bsize-le, In, Past, Beside, in-lt, in-of, past-out, past-of, near-of, near-lt, par-shift, par-unshift, par-within}
+use Rattle.trace.proofs.Levels.{bsize, bsize-le, In, Past, Beside, in-lt, in-of, past-out, past-of, near-of, near-lt, beside-shift, beside-unshift, beside-within}
 
 -- the line is from m on and before k
 abbrev Between : ℕ → ℕ → CostLine → Type 0
@@ -165,7 +165,7 @@ module _ (n s v : ℕ) (g r : Body) (x y : CostLine) where
         let ei : (m : ℕ) × (size g + m ≡ i) = le-dest (omega arith) in
         let ej : (m : ℕ) × (size g + m ≡ j) = le-dest (omega arith) in
         subst₂ (λ (a b : ℕ). Beside lines a b) (ei .1) (ej .1)
-        (par-unshift g (linesOf r ++ u) (ei .0) (ej .0) (f′ (suc n + size g) s u x y (ei .0) (ej .0) (omega (arith, ei .1)) (omega (arith, ej .1)) a))
+        (beside-unshift g (linesOf r ++ u) (ei .0) (ej .0) (f′ (suc n + size g) s u x y (ei .0) (ej .0) (omega (arith, ei .1)) (omega (arith, ej .1)) a))
 
     to-here : On G x × On B y → In lines i × Past lines j
     to-here a =
@@ -180,7 +180,7 @@ module _ (n s v : ℕ) (g r : Body) (x y : CostLine) where
     from-two f f′ (inl ox) (inr oy) l a =
         let lx = on-range g (suc n) v x ox in
         let ly = on-range r (suc n + size g) s y oy in
-        absurd (omega (arith, par-within g (linesOf r ++ u) i j (omega arith) a))
+        absurd (omega (arith, beside-within g (linesOf r ++ u) i j (omega arith) a))
     from-two f f′ (inr ox) (inl oy) l a =
         let lx = on-range r (suc n + size g) s x ox in
         let ly = on-range g (suc n) v y oy in
@@ -191,7 +191,7 @@ module _ (n s v : ℕ) (g r : Body) (x y : CostLine) where
         let ei : (m : ℕ) × (size g + m ≡ i) = le-dest (omega arith) in
         let ej : (m : ℕ) × (size g + m ≡ j) = le-dest (omega arith) in
         let a′ = subst₂ (λ (a b : ℕ). Beside lines a b) (sym (ei .1)) (sym (ej .1)) a in
-        inr (f′ (suc n + size g) s u x y (ei .0) (ej .0) (omega (arith, ei .1)) (omega (arith, ej .1)) ox oy l (par-shift g (linesOf r ++ u) (ei .0) (ej .0) a′))
+        inr (f′ (suc n + size g) s u x y (ei .0) (ej .0) (omega (arith, ei .1)) (omega (arith, ej .1)) ox oy l (beside-shift g (linesOf r ++ u) (ei .0) (ej .0) a′))
 
     -- the spawned body has the one line, and the block that follows it the other
     from-here : On G x ⊎ On R x → On G y ⊎ On R y → In lines i × Past lines j → On G x × On B y

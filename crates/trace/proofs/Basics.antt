@@ -2,9 +2,8 @@
 use mathlib.Core.Path.{_≡_, refl, sym}
 use mathlib.Core.Logic.{_⊎_, inl, inr}
 use mathlib.Core.Bool.{Bool, true, false, cond, _&&_, _||_}
-use Prim.Native.Nat.{ℕ, zero, suc, _+_, _≤_, _<_}
+use Prim.Native.Nat.{ℕ, zero, suc, _+_, _<_}
 use native.Mathlib.Omega.{arith}
-use lib.Dec.{T}
 
 pub clash : {A : Type 0} → _≡_ {A = ℕ} 0 1 → A
 clash e = absurd (omega arith)
@@ -30,15 +29,7 @@ below (suc m) (suc i) = go (below m i)
     go (inl h) = inl (omega arith)
     go (inr h) = inr (h .0, (omega (arith, h .1)))
 
--- what a test lets through
+-- nothing, tested or not, is nothing
 pub cond-same : (b : Bool) → _≡_ {A = ℕ} (cond b 0 0) 0
 cond-same true = refl
 cond-same false = refl
-
-pub cond-all : (b : Bool) (v : ℕ) → T b → cond b v 0 ≡ v
-cond-all true v h = refl
-cond-all false v h = absurd h
-
-pub cond-none : (b : Bool) (v : ℕ) → (T b → ⊥) → cond b v 0 ≡ 0
-cond-none true v h = absurd (h tt)
-cond-none false v h = refl

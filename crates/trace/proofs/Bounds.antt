@@ -13,7 +13,7 @@ use Rattle.trace.specs.Shape.{root, closed, step, walk, has, firstIs, si
 use Rattle.trace.specs.Series.{value}
 use Rattle.trace.specs.Rows.{makes, made, ofRow, sumOf, total, inside, direct, sum, calls, work, local}
 use Rattle.trace.specs.Refusals.{openNow, tooDeep, wide, wideRows, beyond}
-use Rattle.trace.proofs.Scan.{InTable, Clean, Fine, faultless, now}
+use Rattle.trace.proofs.Scan.{InTable, now}
 use Rattle.trace.proofs.Sums.{sum-made, sum-add}
 
 -- each value is below 2 ^ 32, and at most 64 invocations are open

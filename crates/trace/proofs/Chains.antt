@@ -1,7 +1,7 @@
 -- The chains, the span and the chosen chain of an invocation are those of its body's plan, which the recurrence gives.
 use mathlib.Core.Path.{_≡_, refl, sym, _∙_, ap, subst, subst₂}
 use mathlib.Core.Logic.{_⊎_, inl, inr}
-use mathlib.Core.List.{List, [], _∷_, _++_, append-assoc, List·Memᴰ, List·Memᴰ·head, List·Memᴰ·tail, List·Memᴰ·not-nil, List·Memᴰ·cases-cons, List·Memᴰ·append-cases, Memᴰ·append-left, Memᴰ·append-right}
+use mathlib.Core.List.{List, [], _∷_, _++_, append-assoc, List·Memᴰ, List·Memᴰ·head, List·Memᴰ·tail, List·Memᴰ·not-nil, List·Memᴰ·cases-cons, Memᴰ·append-left, Memᴰ·append-right}
 use Prim.Native.Nat.{ℕ, zero, suc, _+_, _≤_, _<_}
 use native.Mathlib.Omega.{arith}
 use native.Mathlib.Nat.{le-dest}
@@ -9,9 +9,9 @@ use lib.ListN.{length, length-append}
 use lib.Dec.{T}
 use Rattle.line.specs.declared.Frame.{Frame}
 use Rattle.line.specs.declared.Frame.the-variants.{Call, Spawn, Cost}
-use Rattle.chain.specs.Plan.{CostLine, Plan, costs, All, Pairs, Less, On, Apart}
+use Rattle.chain.specs.Plan.{CostLine, costs, All, Pairs, On, Apart}
 use Rattle.chain.specs.Plan as P
-use Rattle.trace.specs.Shape.{Is, root, walk, openAt, has, Contains, Parallel}
+use Rattle.trace.specs.Shape.{Is, root, walk, openAt, has, Parallel}
 use Rattle.trace.specs.Series.{Each, EachTwo, Series, value, valueAt, CostIn, Chain, weight, Span, Before, Chosen}
 use Rattle.trace.specs.Tree.{Body, done, spend, sync, call, spawn, linesOf, size}
 use Rattle.trace.specs.Fold.{costAt, block, after, plan, chainOf, linesIn}
@@ -144,7 +144,7 @@ module _ (t : List Frame) (n s F : ℕ) (o : List ℕ) (g : Body) (post : List F
   within i l h = in-lt g post i (in-from F zero n (F ∷ o) (linesOf g ++ post) i (x .low .0) (refl, x .low .1) l h)
 
   -- a cost line inside is a cost of the plan
-  cost-on : (k : ℕ) → CostIn t F k → Found (costs (plan n s g)) k (valueAt t k)
+  pub cost-on : (k : ℕ) → CostIn t F k → Found (costs (plan n s g)) k (valueAt t k)
   cost-on k c = go (le-dest (start k c))
     where
       go : (i : ℕ) × (n + i ≡ k) → Found (costs (plan n s g)) k (valueAt t k)
@@ -158,7 +158,7 @@ module _ (t : List Frame) (n s F : ℕ) (o : List ℕ) (g : Body) (post : List F
           found-line (costs (plan n s g)) (n + i) k (valueAt t k) (w .1) (where-on g n s i (valueAt t k) (is-left (linesOf g) post i (Cost (valueAt t k)) (omega (arith, size-is g)) h))
 
   -- and back
-  on-cost : (y : CostLine) → On (plan n s g) y → CostIn t F (y .line) × (valueAt t (y .line) ≡ y .value)
+  pub on-cost : (y : CostLine) → On (plan n s g) y → CostIn t F (y .line) × (valueAt t (y .line) ≡ y .value)
   on-cost y m = go (on-where g n s y m)
     where
       go : Where n (linesOf g) y → CostIn t F (y .line) × (valueAt t (y .line) ≡ y .value)

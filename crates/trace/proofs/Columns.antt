@@ -1,26 +1,25 @@
 -- The five columns by the tree: what an engine adds up. Columns 4 and 5 by the costs of the plan, each with its row.
 use mathlib.Core.Path.{_≡_, refl, sym, _∙_, ap, subst}
 use mathlib.Core.Logic.{_⊎_, inl, inr}
-use mathlib.Core.Bool.{Bool, true, false, cond, _&&_, _||_, and-true, and-false}
-use mathlib.Core.List.{List, [], _∷_, _++_, append-assoc, append-nil, List·Memᴰ, List·Memᴰ·not-nil, List·Memᴰ·cases-cons}
-use Prim.Native.Nat.{ℕ, zero, suc, _+_, _≤_, _<_}
+use mathlib.Core.Bool.{Bool, true, false, cond, _&&_, and-true}
+use mathlib.Core.List.{List, [], _∷_, _++_, append-assoc, append-nil}
+use Prim.Native.Nat.{ℕ, zero, suc, _+_, _≤_}
 use native.Mathlib.Omega.{arith}
 use lib.ListN.{length}
 use lib.Dec.{eqb}
 use borrow.Author.Tests.{eq-eqb, ne-eqb}
 use Rattle.line.specs.declared.Frame.{Frame}
 use Rattle.line.specs.declared.Frame.the-variants.{Call, Spawn, Sync, Return, Cost}
-use Rattle.chain.specs.Plan.{CostLine, costs, All, Pairs, Less}
-use Rattle.chain.proofs.Lists.{all-map, all-both, all-at}
-use Rattle.trace.specs.Shape.{Is, root, step, walk, has, firstIs, sites}
+use Rattle.chain.specs.Plan.{CostLine, costs}
+use Rattle.trace.specs.Shape.{Is, root, step, walk, has, firstIs}
 use Rattle.trace.specs.Series.{value, Span}
-use Rattle.trace.specs.Rows.{makes, made, ofRow, sumOf, costsWhere, total, inside, direct, directOn, sum, Sum, calls, work, Spans, local, onSpan}
-use Rattle.trace.specs.Tree.{Body, done, spend, sync, call, spawn, linesOf, size, Within, Parts, workOf, spanOf, localOf, madeSum, rowSum, callsIn, workIn, spansIn, localIn}
-use Rattle.trace.specs.Fold.{costAt, block, after, plan, chainOf, onRow, linesIn}
+use Rattle.trace.specs.Rows.{makes, made, ofRow, sumOf, costsWhere, total, inside, sum, Sum, calls, work, Spans, local, onSpan}
+use Rattle.trace.specs.Tree.{Body, done, spend, sync, call, spawn, linesOf, size, Within, Parts, workOf, spanOf, localOf, madeSum, callsIn, workIn, spansIn, localIn}
+use Rattle.trace.specs.Fold.{block, after, plan}
 use Rattle.trace.proofs.Basics.{cond-same}
 use Rattle.trace.proofs.Sums.{not-made, makesAt, has-made, sum-made, sum-zero, sum-add, sum-same}
 use Rattle.trace.proofs.Context.{Ctx, at-is}
-use Rattle.trace.proofs.Invocations.{ctx-step, ctx-in, ctx-skip, Inv, root-ctx, heads-open, whole, row-sum}
+use Rattle.trace.proofs.Invocations.{ctx-step, ctx-in, ctx-skip, root-ctx, heads-open, whole, row-sum}
 use Rattle.trace.proofs.Stretches.{sum-append, all-costs, heads-sum, span-is, inside-is}
 
 -- ── columns 1, 2 and 3 ──

@@ -1,6 +1,6 @@
 -- A line of a trace with what is open there and the lines from there on; and parallel lines inside one invocation.
 use mathlib.Core.Path.{_≡_, refl, sym, _∙_, ap, subst}
-use mathlib.Core.Logic.{_⊎_, inl, inr}
+use mathlib.Core.Logic.{inl, inr}
 use mathlib.Core.Bool.{Bool, true, false}
 use mathlib.Core.List.{List, [], _∷_, _++_}
 use Prim.Native.Nat.{ℕ, zero, suc, _+_, _≤_, _<_}
@@ -14,7 +14,7 @@ use Rattle.trace.specs.Shape.{Is, step, walk, openAt, has, firstIs, Para
 use Rattle.trace.proofs.Basics.{below}
 use Rattle.trace.proofs.Levels.{climb, never, Beside}
 use Rattle.trace.proofs.Open.{has-cases, has-later, first-has, Below, Low, Nth, gone, in-from}
-use Rattle.trace.proofs.Parallels.{Par, Alive, low-step, low-not, par-to, par-from}
+use Rattle.trace.proofs.Parallels.{ParallelFrom, Alive, low-step, low-not, beside-parallel, parallel-beside}
 
 pub walk-append : (n : ℕ) (o : List ℕ) (p v : List Frame) (j : ℕ) → walk n o (p ++ v) (length p + j) ≡ walk (n + length p) (walk n o p (length p)) v j
 walk-append n o [] v j =
@@ -73,7 +73,7 @@ module _ (t : List Frame) (n : ℕ) (o : List ℕ) (v : List Frame) (x : Ctx t n
   from-here : (k : ℕ) → n ≤ k → (j : ℕ) × (n + j ≡ k)
   from-here k l = le-dest l
 
-  pub to-abs : (i j : ℕ) → Par n o v i j → Parallel t (n + i) (n + j)
+  pub to-abs : (i j : ℕ) → ParallelFrom n o v i j → Parallel t (n + i) (n + j)
   to-abs i j p =
       let nm : suc (n + p .g) ≡ p .G = sym (p .named) in
       record {
@@ -101,12 +101,12 @@ module _ (t : List Frame) (n : ℕ) (o : List ℕ) (v : List Frame) (x : Ctx t n
           (omega (arith, q .1)) (omega (arith, q .1))
 
   -- the spawn stands at the context's line or behind it
-  pub to-rel : (i j : ℕ) (p : Parallel t (n + i) (n + j)) → n ≤ p .g → Par n o v i j
+  pub to-rel : (i j : ℕ) (p : Parallel t (n + i) (n + j)) → n ≤ p .g → ParallelFrom n o v i j
   to-rel i j p l =
       let e : p .g < p .end = has-le t (p .end) (suc (p .g)) (first-has (suc (p .g)) (openAt t (p .end)) (p .returned .its-own)) in
       go (from-here (p .g) l) (from-here (p .end) (omega arith))
     where
-      go : (a : ℕ) × (n + a ≡ p .g) → (b : ℕ) × (n + b ≡ p .end) → Par n o v i j
+      go : (a : ℕ) × (n + a ≡ p .g) → (b : ℕ) × (n + b ≡ p .end) → ParallelFrom n o v i j
       go a b =
           let nm : suc (p .g) ≡ suc (n + a .0) = omega (arith, a .1) in
           record {
@@ -166,8 +166,8 @@ module _ (t : List Frame) (n F : ℕ) (o : List ℕ) (v : List Frame) (x : Ctx t
   local-to p = elim (below n (p .g)) [
     | inl m ↦ absurd (p .without (subst (λ (l : List ℕ). T (has (suc (p .g)) l)) (sym (at-open t n (F ∷ o) v x j))
         (outer (suc (p .g)) (omega arith) (subst (λ (l : List ℕ). T (has (suc (p .g)) l)) (at-open t n (F ∷ o) v x i) (p .contains)))))
-    | inr w ↦ par-from n (F ∷ o) v i j (x .low) (x .alive) li lj (to-rel t n (F ∷ o) v x i j p (omega (arith, w .1)))
+    | inr w ↦ parallel-beside n (F ∷ o) v i j (x .low) (x .alive) li lj (to-rel t n (F ∷ o) v x i j p (omega (arith, w .1)))
   ]
 
   pub local-from : Beside v i j → Parallel t (n + i) (n + j)
-  local-from p = to-abs t n (F ∷ o) v x i j (par-to n (F ∷ o) v i j (x .low) (x .alive) p)
+  local-from p = to-abs t n (F ∷ o) v x i j (beside-parallel n (F ∷ o) v i j (x .low) (x .alive) p)

@@ -3,9 +3,8 @@ use mathlib.Core.Path.{_≡_, refl}
 use mathlib.Core.Bool.{Bool, true, false}
 use mathlib.Core.List.{List, [], _∷_, _++_, map}
 use Prim.Native.Nat.{ℕ}
-use lib.ListN.{length, take, replicate}
-use Rattle.line.specs.declared.Frame.{Frame}
-use Rattle.line.specs.declared.Frame.the-variants.{Site, Call, Return, Cost}
+use lib.ListN.{take, replicate}
+use Rattle.line.specs.declared.Frame.the-variants.{Site, Return}
 use Rattle.trace.specs.Refusals.{Verdict, accepted, refused, verdict}
 use Rattle.trace.specs.Twelve.{text}
 
@@ -42,6 +41,8 @@ asks =
     ∷ ask (0x0100010000000a00010005 ∷ 0x0100020000000a00010005 ∷ []) 4 2 (refused 10 1)
     ∷ ask (0x0100010000000a00010005 ∷ 0x0100010000000a00010006 ∷ []) 4 2 (refused 8 1)
     ∷ ask (0x0600000000000100000000 ∷ 0x0100010000000a00010005 ∷ []) 4 2 (refused 8 1)
+    -- places that differ in the file, in the line or in the column alone
+    ∷ ask (0x0100010000000a00010005 ∷ 0x0100020000000a00020005 ∷ 0x0100030000000b00010005 ∷ 0x0100040000000a00010006 ∷ []) 4 4 (refused 14 4)
     -- within a line the smallest number: 7 before 11, but 6 and 5 before 7; 8 before 9 and 10
     ∷ ask (0x0500000000000000000000 ∷ 0x0200000000000000000000 ∷ []) 4 2 (refused 7 1)
     ∷ ask (0x0500000000000000000000 ∷ 0x0600000000000000000000 ∷ []) 4 2 (refused 6 1)

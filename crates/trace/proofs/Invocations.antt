@@ -3,14 +3,14 @@ use mathlib.Core.Path.{_≡_, refl, sym, _∙_, ap, subst}
 use mathlib.Core.Logic.{_⊎_, inl, inr}
 use mathlib.Core.Bool.{Bool, true, false, cond}
 use mathlib.Core.List.{List, [], _∷_, _++_, append-assoc, append-nil}
-use Prim.Native.Nat.{ℕ, zero, suc, _+_, _≤_, _<_}
+use Prim.Native.Nat.{ℕ, zero, suc, _+_, _<_}
 use native.Mathlib.Omega.{arith}
 use lib.ListN.{length, length-append}
 use lib.Seq.{append-snoc}
 use lib.Dec.{T, eqb}
 use Rattle.line.specs.declared.Frame.{Frame}
 use Rattle.line.specs.declared.Frame.the-variants.{Site, Call, Spawn, Sync, Return, Cost}
-use Rattle.trace.specs.Shape.{ifMakes, Is, root, step, walk, openAt, has, sites}
+use Rattle.trace.specs.Shape.{Is, root, step, walk, openAt, has, sites}
 use Rattle.trace.specs.Rows.{made, ofRow, Sum}
 use Rattle.trace.specs.Tree.{Body, done, spend, sync, call, spawn, linesOf, size, AllSites, Parts, madeSum, rowSum}
 use Rattle.trace.proofs.Basics.{below, clash}
@@ -20,7 +20,7 @@ use Rattle.trace.proofs.Sites.{sites-append, sites-all, sites-none}
 use Rattle.trace.proofs.Recurrence.{Paid, paid}
 use Rattle.trace.proofs.Parallels.{Alive, low-step}
 use Rattle.trace.proofs.Context.{Ctx, is-append, has-le}
-use Rattle.trace.proofs.Chains.{is-left, is-length}
+use Rattle.trace.proofs.Chains.{is-left}
 
 -- ── contexts ──
 

@@ -1,6 +1,6 @@
 -- Levels along lines: which lines an invocation contains, and which two lines are beside each other, by recursion on the lines;
 -- and what both say of the lines of a body.
-use mathlib.Core.Path.{_≡_, refl, sym, _∙_, ap, subst, subst₂}
+use mathlib.Core.Path.{_≡_, refl, _∙_, subst, subst₂}
 use mathlib.Core.Logic.{_⊎_, inl, inr}
 use mathlib.Core.Bool.{Bool, true, false}
 use mathlib.Core.List.{List, [], _∷_, _++_, append-assoc}
@@ -197,29 +197,29 @@ near-lt (spawn s g r) u zero h = omega arith
 near-lt (spawn s g r) u (suc i) h = near-level g r u i (near-lt r u) (rw (append-assoc (linesOf g) (linesOf r) u) at h)
 
 -- lines past a body are parallel where they are so without it
-pub par-shift : (b : Body) (u : List Frame) (i j : ℕ) → Beside (linesOf b ++ u) (size b + i) (size b + j) → Beside u i j
-par-shift done u i j h = rw (one-add i, one-add j) at h
-par-shift (spend v r) u i j h = par-shift r u i j (rw (suc-add (size r) i, suc-add (size r) j) at h)
-par-shift (sync r) u i j h = par-shift r u i j (rw (suc-add (size r) i, suc-add (size r) j) at h)
-par-shift (call s g r) u i j h =
-    par-shift r u i j (par-shift g (linesOf r ++ u) (size r + i) (size r + j) (rw (suc-add (size g + size r) i, suc-add (size g + size r) j, append-assoc (linesOf g) (linesOf r) u, add-assoc (size g) (size r) i, add-assoc (size g) (size r) j) at h))
-par-shift (spawn s g r) u i j h =
-    par-shift r u i j (par-shift g (linesOf r ++ u) (size r + i) (size r + j) (go (rw (suc-add (size g + size r) i, suc-add (size g + size r) j, append-assoc (linesOf g) (linesOf r) u, add-assoc (size g) (size r) i, add-assoc (size g) (size r) j) at h)))
+pub beside-shift : (b : Body) (u : List Frame) (i j : ℕ) → Beside (linesOf b ++ u) (size b + i) (size b + j) → Beside u i j
+beside-shift done u i j h = rw (one-add i, one-add j) at h
+beside-shift (spend v r) u i j h = beside-shift r u i j (rw (suc-add (size r) i, suc-add (size r) j) at h)
+beside-shift (sync r) u i j h = beside-shift r u i j (rw (suc-add (size r) i, suc-add (size r) j) at h)
+beside-shift (call s g r) u i j h =
+    beside-shift r u i j (beside-shift g (linesOf r ++ u) (size r + i) (size r + j) (rw (suc-add (size g + size r) i, suc-add (size g + size r) j, append-assoc (linesOf g) (linesOf r) u, add-assoc (size g) (size r) i, add-assoc (size g) (size r) j) at h))
+beside-shift (spawn s g r) u i j h =
+    beside-shift r u i j (beside-shift g (linesOf r ++ u) (size r + i) (size r + j) (go (rw (suc-add (size g + size r) i, suc-add (size g + size r) j, append-assoc (linesOf g) (linesOf r) u, add-assoc (size g) (size r) i, add-assoc (size g) (size r) j) at h)))
   where
     go : Beside (Spawn s ∷ (linesOf g ++ (linesOf r ++ u))) (suc (size g + (size r + i))) (suc (size g + (size r + j))) → Beside (linesOf g ++ (linesOf r ++ u)) (size g + (size r + i)) (size g + (size r + j))
     go (inl k) = absurd (omega (arith, in-lt g (linesOf r ++ u) (size g + (size r + i)) (k .0)))
     go (inr k) = k
 
-pub par-unshift : (b : Body) (u : List Frame) (i j : ℕ) → Beside u i j → Beside (linesOf b ++ u) (size b + i) (size b + j)
-par-unshift done u i j h = rw (one-add i, one-add j) h
-par-unshift (spend v r) u i j h = rw (suc-add (size r) i, suc-add (size r) j) (par-unshift r u i j h)
-par-unshift (sync r) u i j h = rw (suc-add (size r) i, suc-add (size r) j) (par-unshift r u i j h)
-par-unshift (call s g r) u i j h =
+pub beside-unshift : (b : Body) (u : List Frame) (i j : ℕ) → Beside u i j → Beside (linesOf b ++ u) (size b + i) (size b + j)
+beside-unshift done u i j h = rw (one-add i, one-add j) h
+beside-unshift (spend v r) u i j h = rw (suc-add (size r) i, suc-add (size r) j) (beside-unshift r u i j h)
+beside-unshift (sync r) u i j h = rw (suc-add (size r) i, suc-add (size r) j) (beside-unshift r u i j h)
+beside-unshift (call s g r) u i j h =
     rw (suc-add (size g + size r) i, suc-add (size g + size r) j, append-assoc (linesOf g) (linesOf r) u, add-assoc (size g) (size r) i, add-assoc (size g) (size r) j)
-    (par-unshift g (linesOf r ++ u) (size r + i) (size r + j) (par-unshift r u i j h))
-par-unshift (spawn s g r) u i j h =
+    (beside-unshift g (linesOf r ++ u) (size r + i) (size r + j) (beside-unshift r u i j h))
+beside-unshift (spawn s g r) u i j h =
     rw (suc-add (size g + size r) i, suc-add (size g + size r) j, append-assoc (linesOf g) (linesOf r) u, add-assoc (size g) (size r) i, add-assoc (size g) (size r) j)
-    (inr (par-unshift g (linesOf r ++ u) (size r + i) (size r + j) (par-unshift r u i j h)))
+    (inr (beside-unshift g (linesOf r ++ u) (size r + i) (size r + j) (beside-unshift r u i j h)))
 
 -- what is parallel to a line of the body, and later, is in the body
 within-level : (g r : Body) (u : List Frame) (i j : ℕ) → i < size g + size r
@@ -233,25 +233,25 @@ within-level g r u i j l f f′ h = go (below (size g) i) (below (size g) j)
     go (inr a) (inl b) = omega arith
     go (inr a) (inr b) =
         let k = subst₂ (λ (m n : ℕ). Beside (linesOf g ++ (linesOf r ++ u)) m n) (a .1) (b .1) h in
-        omega (arith, b .1, f′ (a .0) (b .0) (omega (arith, a .1)) (par-shift g (linesOf r ++ u) (a .0) (b .0) k))
+        omega (arith, b .1, f′ (a .0) (b .0) (omega (arith, a .1)) (beside-shift g (linesOf r ++ u) (a .0) (b .0) k))
 
-pub par-within : (b : Body) (u : List Frame) (i j : ℕ) → i < size b → Beside (linesOf b ++ u) i j → j < size b
-par-within done u zero j l h = absurd h
-par-within done u (suc i) j l h = absurd (omega arith)
-par-within (spend v r) u zero j l h = absurd h
-par-within (spend v r) u (suc i) zero l h = absurd h
-par-within (spend v r) u (suc i) (suc j) l h = omega (arith, par-within r u i j (omega arith) h)
-par-within (sync r) u zero j l h = absurd h
-par-within (sync r) u (suc i) zero l h = absurd h
-par-within (sync r) u (suc i) (suc j) l h = omega (arith, par-within r u i j (omega arith) h)
-par-within (call s g r) u zero j l h = absurd h
-par-within (call s g r) u (suc i) zero l h = absurd h
-par-within (call s g r) u (suc i) (suc j) l h =
-    omega (arith, within-level g r u i j (omega arith) (par-within g (linesOf r ++ u) i j) (par-within r u) (rw (append-assoc (linesOf g) (linesOf r) u) at h))
-par-within (spawn s g r) u zero j l h = absurd h
-par-within (spawn s g r) u (suc i) zero l h = absurd h
-par-within (spawn s g r) u (suc i) (suc j) l h =
-    omega (arith, go (within-level g r u i j (omega arith) (par-within g (linesOf r ++ u) i j) (par-within r u)) (rw (append-assoc (linesOf g) (linesOf r) u) at h))
+pub beside-within : (b : Body) (u : List Frame) (i j : ℕ) → i < size b → Beside (linesOf b ++ u) i j → j < size b
+beside-within done u zero j l h = absurd h
+beside-within done u (suc i) j l h = absurd (omega arith)
+beside-within (spend v r) u zero j l h = absurd h
+beside-within (spend v r) u (suc i) zero l h = absurd h
+beside-within (spend v r) u (suc i) (suc j) l h = omega (arith, beside-within r u i j (omega arith) h)
+beside-within (sync r) u zero j l h = absurd h
+beside-within (sync r) u (suc i) zero l h = absurd h
+beside-within (sync r) u (suc i) (suc j) l h = omega (arith, beside-within r u i j (omega arith) h)
+beside-within (call s g r) u zero j l h = absurd h
+beside-within (call s g r) u (suc i) zero l h = absurd h
+beside-within (call s g r) u (suc i) (suc j) l h =
+    omega (arith, within-level g r u i j (omega arith) (beside-within g (linesOf r ++ u) i j) (beside-within r u) (rw (append-assoc (linesOf g) (linesOf r) u) at h))
+beside-within (spawn s g r) u zero j l h = absurd h
+beside-within (spawn s g r) u (suc i) zero l h = absurd h
+beside-within (spawn s g r) u (suc i) (suc j) l h =
+    omega (arith, go (within-level g r u i j (omega arith) (beside-within g (linesOf r ++ u) i j) (beside-within r u)) (rw (append-assoc (linesOf g) (linesOf r) u) at h))
   where
     go : (Beside (linesOf g ++ (linesOf r ++ u)) i j → j < size g + size r) → Beside (Spawn s ∷ (linesOf g ++ (linesOf r ++ u))) (suc i) (suc j) → j < size g + size r
     go f (inl k) =

@@ -19,6 +19,11 @@ pub mod Unique
 pub mod Root
 pub mod Columns
 pub mod OnChain
+pub mod AtMost
 pub mod Small
+pub mod Outcome
+pub mod Places
+pub mod Declared
+pub mod Interval
 pub mod Twelve
 pub mod Further

@@ -3,21 +3,20 @@ use mathlib.Core.Path.{_≡_, refl, sym, _∙_, ap, subst}
 use mathlib.Core.Logic.{_⊎_, inl, inr}
 use mathlib.Core.Bool.{Bool, true, false, cond, _&&_, _||_, and-true, and-false}
 use mathlib.Core.List.{List, [], _∷_, _++_, List·Memᴰ, List·Memᴰ·not-nil, List·Memᴰ·cases-cons}
-use Prim.Native.Nat.{ℕ, zero, suc, _+_, _≤_, _<_}
+use Prim.Native.Nat.{ℕ, zero, suc, _+_, _≤_}
 use native.Mathlib.Omega.{arith}
 use lib.ListN.{length}
 use lib.Dec.{eqb}
 use borrow.Author.Tests.{eq-eqb, ne-eqb}
 use Rattle.line.specs.declared.Frame.{Frame}
-use Rattle.chain.specs.Plan.{CostLine, costs, All, Pairs, Less, On}
+use Rattle.chain.specs.Plan.{CostLine, costs, All, Pairs, Less}
 use Rattle.chain.specs.Plan as P
 use Rattle.chain.proofs.Lists.{all-map, all-both, all-at, all-append, pairs-map}
 use Rattle.trace.specs.Shape.{root, has, sites}
 use Rattle.trace.specs.Series.{Span, Chosen}
 use Rattle.trace.specs.Rows.{total, local, onSpan}
-use Rattle.trace.specs.Tree.{Body, done, spend, sync, call, spawn, linesOf, size, Within, Parts, workOf, spanOf}
-use Rattle.trace.specs.Fold.{costAt, block, after, plan, chainOf, onRow, linesIn}
-use Rattle.trace.proofs.Basics.{clash}
+use Rattle.trace.specs.Tree.{Body, done, spend, sync, call, spawn, size, Within, Parts, workOf}
+use Rattle.trace.specs.Fold.{block, after, plan, onRow, linesIn}
 use Rattle.trace.proofs.Apart.{plan-ordered}
 use Rattle.trace.proofs.Recurrence.{chain-chosen, weight-chain}
 use Rattle.trace.proofs.Sums.{upTo, up-add, up-same, up-one}
@@ -77,6 +76,19 @@ module _ (w : CostLine → Bool) where
 row-of : (s : ℕ) (d : List CostLine) → sumWhere (λ x. eqb (x .row) s) d ≡ onRow s d
 row-of s [] = refl
 row-of s (x ∷ d) = omega (arith, row-of s d)
+
+-- LAW: a chain's part in a row adds up along the chain, and is at most its weight
+pub row-append : (s : ℕ) (c d : List CostLine) → onRow s (c ++ d) ≡ onRow s c + onRow s d
+row-append s [] d = omega arith
+row-append s (x ∷ c) d = omega (arith, row-append s c d)
+
+pub row-le : (s : ℕ) (c : List CostLine) → onRow s c ≤ P.weight c
+row-le s [] = omega arith
+row-le s (x ∷ c) = omega (arith, row-le s c, go (eqb (x .row) s))
+  where
+    go : (b : Bool) → cond b (x .value) 0 ≤ x .value
+    go true = omega arith
+    go false = omega arith
 
 weight-of : (d : List CostLine) → sumWhere (λ x. true) d ≡ P.weight d
 weight-of [] = refl

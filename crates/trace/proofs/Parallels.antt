@@ -1,8 +1,8 @@
 -- The definition of parallel lines, over lines with what is open at the first of them, is that they are beside each other.
-use mathlib.Core.Path.{_≡_, refl, sym, _∙_, ap, subst}
-use mathlib.Core.Logic.{_⊎_, inl, inr}
-use mathlib.Core.List.{List, [], _∷_, _++_}
-use Prim.Native.Nat.{ℕ, zero, suc, _+_, _≤_, _<_}
+use mathlib.Core.Path.{_≡_, refl, sym, subst}
+use mathlib.Core.Logic.{inl, inr}
+use mathlib.Core.List.{List, [], _∷_}
+use Prim.Native.Nat.{ℕ, zero, suc, _+_, _<_}
 use native.Mathlib.Omega.{arith}
 use lib.ListN.{length}
 use lib.Dec.{T}
@@ -13,7 +13,7 @@ use Rattle.trace.proofs.Levels.{In, Past, Beside}
 use Rattle.trace.proofs.Open.{first-eq, first-of, first-has, Low, below-not, low-below, low-on, low-push, in-to, in-from, Passed, passed-cons, passed-tail, past-to, past-from}
 
 -- the definition over lines u, the first of which is line n, where o are open; lines are counted from there
-pub record Par (n : ℕ) (o : List ℕ) (u : List Frame) (i j : ℕ) : Type 0 where
+pub record ParallelFrom (n : ℕ) (o : List ℕ) (u : List Frame) (i j : ℕ) : Type 0 where
   pub g : ℕ
   pub site : ℕ
   pub F : ℕ
@@ -39,8 +39,8 @@ low-step n Return [] l = tt
 low-step n Return (c ∷ o) l = low-on n o (l .2)
 low-step n (Cost v) o l = low-on n o l
 
-par-cons : (n : ℕ) (o : List ℕ) (e : Frame) (u : List Frame) (i j : ℕ) → Par (suc n) (step n e o) u i j → Par n o (e ∷ u) (suc i) (suc j)
-par-cons n o e u i j p =
+parallel-cons : (n : ℕ) (o : List ℕ) (e : Frame) (u : List Frame) (i j : ℕ) → ParallelFrom (suc n) (step n e o) u i j → ParallelFrom n o (e ∷ u) (suc i) (suc j)
+parallel-cons n o e u i j p =
     record {
       g = suc (p .g);
       site = p .site;
@@ -53,18 +53,18 @@ par-cons n o e u i j p =
       passed = passed-cons (p .G) (p .F) n o e u j (p .passed);
     }
 
-pub par-to : (n : ℕ) (o : List ℕ) (u : List Frame) (i j : ℕ) → Low n o → Alive n o u → Beside u i j → Par n o u i j
-par-to n o [] i j l a w = absurd w
-par-to n [] (e ∷ u) i j l a w = absurd a
-par-to n (c ∷ o) (e ∷ u) zero j l a w = absurd w
-par-to n (c ∷ o) (e ∷ u) (suc i) zero l a w = absurd w
-par-to n (c ∷ o) (Site s p ∷ u) (suc i) (suc j) l a w = par-cons n (c ∷ o) (Site s p) u i j (par-to (suc n) (c ∷ o) u i j (low-on n (c ∷ o) l) a w)
-par-to n (c ∷ o) (Cost v ∷ u) (suc i) (suc j) l a w = par-cons n (c ∷ o) (Cost v) u i j (par-to (suc n) (c ∷ o) u i j (low-on n (c ∷ o) l) a w)
-par-to n (c ∷ o) (Sync ∷ u) (suc i) (suc j) l a w = par-cons n (c ∷ o) Sync u i j (par-to (suc n) (c ∷ o) u i j (low-on n (c ∷ o) l) a w)
-par-to n (c ∷ o) (Return ∷ u) (suc i) (suc j) l a w = par-cons n (c ∷ o) Return u i j (par-to (suc n) o u i j (low-on n o (l .2)) a w)
-par-to n (c ∷ o) (Call s ∷ u) (suc i) (suc j) l a w = par-cons n (c ∷ o) (Call s) u i j (par-to (suc n) (suc n ∷ c ∷ o) u i j (low-push n (c ∷ o) l) a w)
-par-to n (c ∷ o) (Spawn s ∷ u) (suc i) (suc j) l a (inr w) = par-cons n (c ∷ o) (Spawn s) u i j (par-to (suc n) (suc n ∷ c ∷ o) u i j (low-push n (c ∷ o) l) a w)
-par-to n (c ∷ o) (Spawn s ∷ u) (suc i) (suc j) l a (inl w) =
+pub beside-parallel : (n : ℕ) (o : List ℕ) (u : List Frame) (i j : ℕ) → Low n o → Alive n o u → Beside u i j → ParallelFrom n o u i j
+beside-parallel n o [] i j l a w = absurd w
+beside-parallel n [] (e ∷ u) i j l a w = absurd a
+beside-parallel n (c ∷ o) (e ∷ u) zero j l a w = absurd w
+beside-parallel n (c ∷ o) (e ∷ u) (suc i) zero l a w = absurd w
+beside-parallel n (c ∷ o) (Site s p ∷ u) (suc i) (suc j) l a w = parallel-cons n (c ∷ o) (Site s p) u i j (beside-parallel (suc n) (c ∷ o) u i j (low-on n (c ∷ o) l) a w)
+beside-parallel n (c ∷ o) (Cost v ∷ u) (suc i) (suc j) l a w = parallel-cons n (c ∷ o) (Cost v) u i j (beside-parallel (suc n) (c ∷ o) u i j (low-on n (c ∷ o) l) a w)
+beside-parallel n (c ∷ o) (Sync ∷ u) (suc i) (suc j) l a w = parallel-cons n (c ∷ o) Sync u i j (beside-parallel (suc n) (c ∷ o) u i j (low-on n (c ∷ o) l) a w)
+beside-parallel n (c ∷ o) (Return ∷ u) (suc i) (suc j) l a w = parallel-cons n (c ∷ o) Return u i j (beside-parallel (suc n) o u i j (low-on n o (l .2)) a w)
+beside-parallel n (c ∷ o) (Call s ∷ u) (suc i) (suc j) l a w = parallel-cons n (c ∷ o) (Call s) u i j (beside-parallel (suc n) (suc n ∷ c ∷ o) u i j (low-push n (c ∷ o) l) a w)
+beside-parallel n (c ∷ o) (Spawn s ∷ u) (suc i) (suc j) l a (inr w) = parallel-cons n (c ∷ o) (Spawn s) u i j (beside-parallel (suc n) (suc n ∷ c ∷ o) u i j (low-push n (c ∷ o) l) a w)
+beside-parallel n (c ∷ o) (Spawn s ∷ u) (suc i) (suc j) l a (inl w) =
     let b = low-below n (suc n) (c ∷ o) l (omega arith) in
     let p = past-to (suc n) c zero (suc n) (suc n ∷ c ∷ o) u j (omega arith) (omega arith) (refl, b, (refl, l .1)) (w .1) in
     record {
@@ -82,13 +82,13 @@ par-to n (c ∷ o) (Spawn s ∷ u) (suc i) (suc j) l a (inl w) =
 pub low-not : (n G : ℕ) (o : List ℕ) → Low n o → n < G → T (has G o) → ⊥
 low-not n G o l h k = below-not G o (low-below n G o l h) k
 
-pub par-from : (n : ℕ) (o : List ℕ) (u : List Frame) (i j : ℕ) → Low n o → Alive n o u → i < j → j < length u → Par n o u i j → Beside u i j
-par-from n o [] i j l a lt m p = absurd (omega arith)
-par-from n [] (e ∷ u) i j l a lt m p = absurd a
-par-from n (c ∷ o) (e ∷ u) zero j l a lt m p = low-not n (p .G) (c ∷ o) l (omega (arith, p .named)) (p .contains)
-par-from n (c ∷ o) (e ∷ u) (suc i) zero l a lt m p = absurd (omega arith)
-par-from n (c ∷ o) (e ∷ u) (suc i) (suc j) l a lt m p =
-    go (p .g) (p .named) (p .spawned) (p .spawner) (par-from (suc n) (step n e (c ∷ o)) u i j (low-step n e (c ∷ o) l) a (omega arith) (omega arith))
+pub parallel-beside : (n : ℕ) (o : List ℕ) (u : List Frame) (i j : ℕ) → Low n o → Alive n o u → i < j → j < length u → ParallelFrom n o u i j → Beside u i j
+parallel-beside n o [] i j l a lt m p = absurd (omega arith)
+parallel-beside n [] (e ∷ u) i j l a lt m p = absurd a
+parallel-beside n (c ∷ o) (e ∷ u) zero j l a lt m p = low-not n (p .G) (c ∷ o) l (omega (arith, p .named)) (p .contains)
+parallel-beside n (c ∷ o) (e ∷ u) (suc i) zero l a lt m p = absurd (omega arith)
+parallel-beside n (c ∷ o) (e ∷ u) (suc i) (suc j) l a lt m p =
+    go (p .g) (p .named) (p .spawned) (p .spawner) (parallel-beside (suc n) (step n e (c ∷ o)) u i j (low-step n e (c ∷ o) l) a (omega arith) (omega arith))
   where
     rest : (f : Frame) → Beside u i j → Beside (f ∷ u) (suc i) (suc j)
     rest (Site s q) w = w
@@ -112,7 +112,7 @@ par-from n (c ∷ o) (e ∷ u) (suc i) (suc j) l a lt m p =
               (passed-tail (suc n) c n (c ∷ o) (Spawn s) u j (λ z f. low-not n (suc n) (c ∷ o) l (omega arith) (first-has (suc n) (c ∷ o) f)) y),
         )
 
-    go : (g : ℕ) → p .G ≡ suc (n + g) → Is (e ∷ u) g (Spawn (p .site)) → T (firstIs (p .F) (walk n (c ∷ o) (e ∷ u) g)) → (Par (suc n) (step n e (c ∷ o)) u i j → Beside u i j) → Beside (e ∷ u) (suc i) (suc j)
+    go : (g : ℕ) → p .G ≡ suc (n + g) → Is (e ∷ u) g (Spawn (p .site)) → T (firstIs (p .F) (walk n (c ∷ o) (e ∷ u) g)) → (ParallelFrom (suc n) (step n e (c ∷ o)) u i j → Beside u i j) → Beside (e ∷ u) (suc i) (suc j)
     go zero nm is fs rec =
         let q : Spawn (p .site) ≡ e = sym is in
         subst (λ (f : Frame). Beside (f ∷ u) (suc i) (suc j)) q (inl (here (p .site) q (omega arith) (first-eq (p .F) c o fs)))

@@ -4,19 +4,18 @@ use mathlib.Core.Bool.{Bool, true, false, not, _||_}
 use mathlib.Core.List.{List, [], _∷_, _++_, append-assoc, append-nil}
 use Prim.Native.Nat.{ℕ, zero, suc, _+_, _≤_, _<_}
 use native.Mathlib.Omega.{arith}
-use lib.ListN.{length, length-append}
+use lib.ListN.{length}
 use lib.Seq.{append-snoc}
 use lib.Dec.{eqb, ltb}
 use borrow.Author.Tests.{eqb-true, eqb-false, ltb-false, not-false}
-use Rattle.line.specs.declared.Place.{Place}
 use Rattle.line.specs.declared.Frame.{Frame}
 use Rattle.line.specs.declared.Frame.the-variants.{Site, Call, Spawn, Sync, Return, Cost}
 use Rattle.trace.specs.Shape.{root, step}
-use Rattle.trace.specs.Refusals.{openNow, empty, allSites, lastSite, declared}
+use Rattle.trace.specs.Refusals.{openNow, empty, allSites, lastSite, declared, accepted, verdict}
 use Rattle.trace.specs.Tree.{Body, done, spend, sync, call, spawn, linesOf, Within, AllSites, Parts}
 use Rattle.trace.proofs.Basics.{no-way, neither}
-use Rattle.trace.proofs.Tree.{NotSite, NoSites, no-sites-right, no-sites-lines}
-use Rattle.trace.proofs.Scan.{Clean, Fine, faultless, now}
+use Rattle.trace.proofs.Tree.{NotSite, NoSites, no-sites-right, no-sites-lines, parts-one}
+use Rattle.trace.proofs.Scan.{Clean, Fine, accepted-fine, faultless, now}
 use Rattle.trace.proofs.Sites.{other-before, no-sites-after, Numb, numb-start, numb-snoc, declared-same}
 
 -- the sites, and the rest
@@ -192,3 +191,10 @@ parts D M t f =
       all-sites = s .all-sites;
       within = p .within;
     }
+
+pub accepted-parts : (s : List ℕ) (D M : ℕ) (room : Bool) (t : List Frame) → verdict s D M room ≡ accepted t → Parts D t
+accepted-parts s D M room t e = parts D M t (accepted-fine s D M room t e)
+
+-- LAW: there is one way to take a trace apart
+pub parts-unique : (D E : ℕ) (t : List Frame) (p : Parts D t) (q : Parts E t) → (p .heads ≡ q .heads) × (p .body ≡ q .body)
+parts-unique D E t p q = parts-one (p .heads) (q .heads) (p .body) (q .body) (p .all-sites) (q .all-sites) (sym (p .lines) ∙ q .lines)

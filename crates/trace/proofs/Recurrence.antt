@@ -1,16 +1,16 @@
 -- Cilkprof's recurrence with the join at a return: with chains for numbers it gives the pick of the body's plan, and on numbers its weight.
-use mathlib.Core.Path.{_≡_, refl, sym, _∙_, ap, subst}
+use mathlib.Core.Path.{_≡_, sym, _∙_, ap}
 use mathlib.Core.Logic.{_⊎_, inl, inr}
 use mathlib.Core.Bool.{Bool, true, false, cond}
 use mathlib.Core.List.{List, [], _∷_, _++_, append-nil, append-assoc}
-use Prim.Native.Nat.{ℕ, zero, suc, _+_, _≤_, _<_}
+use Prim.Native.Nat.{ℕ, suc, _+_, _≤_, _<_}
 use native.Mathlib.Omega.{arith}
 use lib.Dec.{ltb}
-use Rattle.chain.specs.Plan.{CostLine, Plan, costs, All, Worth, Positive, weight, choose, pick, Chosen}
+use Rattle.chain.specs.Plan.{CostLine, costs, All, Worth, Positive, weight, choose, pick, Chosen}
 use Rattle.chain.proofs.Lists.{all-append, weight-append}
 use Rattle.chain.proofs.Choose.{test, choose-cases, choose-left, choose-right, choose-empty}
 use Rattle.chain.proofs.Laws.{pick-worth, pick-chosen, chosen-unique}
-use Rattle.trace.specs.Tree.{Body, done, spend, sync, call, spawn, size, Within, larger, spanFrom, spanOf}
+use Rattle.trace.specs.Tree.{Body, done, spend, sync, call, spawn, size, Within, workOf, larger, spanFrom, spanOf}
 use Rattle.trace.specs.Fold.{costAt, block, after, plan, Chains, nothing, spent, joined, called, spawned, run, chainOf}
 use Rattle.trace.proofs.Apart.{plan-ordered}
 
@@ -157,3 +157,24 @@ weight-run (spawn i g r) n s k =
 -- LAW: the recurrence on numbers gives the weight of that chain, whatever the line and the row
 pub weight-chain : (b : Body) (n s : ℕ) → weight (chainOf n s b) ≡ spanOf b
 weight-chain b n s = weight-run b n s nothing
+
+-- LAW: a span is at most what it starts from and the work; so no partial sum of an engine is above its final load
+pub span-le : (b : Body) (p l c : ℕ) → spanFrom p l c b ≤ p + l + c + workOf b
+span-le done p l c = go (ltb l c)
+  where
+    go : (t : Bool) → p + cond t c l ≤ p + l + c + 0
+    go true = omega arith
+    go false = omega arith
+span-le (spend v r) p l c = omega (arith, span-le r p l (c + v))
+span-le (sync r) p l c = omega (arith, span-le r (p + larger l c) 0 0, go (ltb l c))
+  where
+    go : (t : Bool) → cond t c l ≤ l + c
+    go true = omega arith
+    go false = omega arith
+span-le (call i g r) p l c = omega (arith, span-le g 0 0 0, span-le r p l (c + spanOf g))
+span-le (spawn i g r) p l c = go (ltb l (c + spanOf g)) (span-le g 0 0 0) (span-le r (p + c) (spanOf g) 0) (span-le r p l c)
+  where
+    go : (t : Bool) → spanOf g ≤ 0 + 0 + 0 + workOf g → spanFrom (p + c) (spanOf g) 0 r ≤ p + c + spanOf g + 0 + workOf r → spanFrom p l c r ≤ p + l + c + workOf r
+        → cond t (spanFrom (p + c) (spanOf g) 0 r) (spanFrom p l c r) ≤ p + l + c + (workOf g + workOf r)
+    go true a x y = omega arith
+    go false a x y = omega arith

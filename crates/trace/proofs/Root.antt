@@ -1,22 +1,41 @@
--- The root's span and chosen chain are what the recurrence gives for the trace's body, and nothing else.
-use mathlib.Core.Path.{_≡_, refl, sym, _∙_, ap, subst}
+-- The trace's plan has its cost lines and its parallel pairs; the root's span and chosen chain are what the recurrence gives, and nothing else.
+use mathlib.Core.Path.{_≡_, refl}
+use mathlib.Core.Logic.{_↔_}
 use mathlib.Core.List.{List, []}
-use Prim.Native.Nat.{ℕ}
+use Prim.Native.Nat.{ℕ, _<_}
 use lib.ListN.{length}
 use Rattle.line.specs.declared.Frame.{Frame}
-use Rattle.chain.specs.Plan.{CostLine}
-use Rattle.trace.specs.Shape.{root}
-use Rattle.trace.specs.Series.{Span, Chosen}
-use Rattle.trace.specs.Tree.{Body, Parts, spanOf}
-use Rattle.trace.specs.Fold.{chainOf, linesIn}
+use Rattle.chain.specs.Plan.{CostLine, Plan, costs, On, Apart}
+use Rattle.trace.specs.Shape.{root, Parallel}
+use Rattle.trace.specs.Series.{valueAt, CostIn, Span, Chosen}
+use Rattle.trace.specs.Tree.{Parts, spanOf}
+use Rattle.trace.specs.Fold.{plan, chainOf, linesIn}
 use Rattle.trace.proofs.Unique.{span-unique, chosen-unique}
-use Rattle.trace.proofs.Chains.{chosen-of}
+use Rattle.trace.proofs.Chains.{Found, cost-on, on-cost, apart-is-parallel, parallel-is-apart, chosen-of}
 use Rattle.trace.proofs.Invocations.{root-ctx, root-paid, root-inv}
 use Rattle.trace.proofs.Stretches.{starts, span-is}
 
 module _ (D : ℕ) (t : List Frame) (p : Parts D t) where
   abbrev pub rootChain : List CostLine
   rootChain = chainOf (length (p .heads)) 0 (p .body)
+
+  abbrev pub rootPlan : Plan
+  rootPlan = plan (length (p .heads)) 0 (p .body)
+
+  -- LAW: two cost lines are parallel exactly where they are apart in the plan
+  pub parallel-iff : (y z : CostLine) → On rootPlan y → On rootPlan z → y .line < z .line → Parallel t (y .line) (z .line) ↔ Apart rootPlan y z
+  parallel-iff y z my mz l =
+      let s = starts t root (length (p .heads)) (p .body) (root-inv D t p) in (
+        parallel-is-apart t (length (p .heads)) 0 root [] (p .body) [] (root-ctx D t p) s y z my mz l,
+        apart-is-parallel t (length (p .heads)) 0 root [] (p .body) [] (root-ctx D t p) s y z my mz l,
+      )
+
+  -- LAW: the costs of the plan are the cost lines of the trace
+  pub plan-cost : (y : CostLine) → On rootPlan y → CostIn t root (y .line) × (valueAt t (y .line) ≡ y .value)
+  plan-cost = on-cost t (length (p .heads)) 0 root [] (p .body) [] (root-ctx D t p) (starts t root (length (p .heads)) (p .body) (root-inv D t p))
+
+  pub cost-plan : (k : ℕ) → CostIn t root k → Found (costs rootPlan) k (valueAt t k)
+  cost-plan = cost-on t (length (p .heads)) 0 root [] (p .body) [] (root-ctx D t p) (starts t root (length (p .heads)) (p .body) (root-inv D t p))
 
   -- LAW
   pub root-span : Span t root (spanOf (p .body))

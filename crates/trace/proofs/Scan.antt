@@ -1,22 +1,22 @@
 -- What acceptance says of each line, apart from its characters.
 use mathlib.Core.Path.{_≡_, refl, sym, _∙_, ap, subst}
-use mathlib.Core.Bool.{Bool, true, false, not, cond, _&&_, _||_}
+use mathlib.Core.Bool.{Bool, true, false, not, cond, _&&_}
 use mathlib.Core.List.{List, [], _∷_, _++_, append-assoc, append-nil}
-use Prim.Native.Nat.{ℕ, zero, suc, _+_, _%_, _≤_, _<_}
+use Prim.Native.Nat.{ℕ, zero, suc, _+_, _%_, _≤_}
 use native.Mathlib.Omega.{arith}
-use lib.ListN.{length, length-append}
-use lib.Dec.{eqb, ltb, leb}
+use lib.ListN.{length}
+use lib.Dec.{eqb, leb}
 use borrow.Author.Tests.{eqb-true, leb-true, ltb-false, not-false}
 use Rattle.line.specs.declared.Place.{Place}
 use Rattle.line.specs.declared.Frame.{Frame}
 use Rattle.line.specs.declared.Frame.the-variants.{Site, Call, Spawn, Sync, Return, Cost}
 use Rattle.line.specs.declared.Read.{Read}
 use Rattle.line.specs.declared.Read.the-variants.{Line, Refused}
-use Rattle.line.specs.Table.{Fields, Entry, frame, none, only, table}
+use Rattle.line.specs.Table.{Entry, frame, none, only, table}
 use Rattle.line.specs.Read.{fields, wrong, tabled, readLine, lineAt, readAt}
-use Rattle.trace.specs.Shape.{Is, step, walk, openAt}
-use Rattle.trace.specs.Refusals.{outOfRange, broken, lineCount, tooMany, openNow, afterRoot, misplaced, aboveM, placeAgain, undeclared, tooDeep, beyond, fault, Verdict, accepted, refused, judged, scan, readsFrom, reads, verdict}
-use Rattle.trace.proofs.Basics.{clash, no-way, both}
+use Rattle.trace.specs.Shape.{Is, step, walk}
+use Rattle.trace.specs.Refusals.{outOfRange, broken, lineCount, tooMany, openNow, afterRoot, misplaced, aboveM, placeAgain, undeclared, tooDeep, beyond, fault, accepted, refused, judged, scan, readsFrom, reads, verdict}
+use Rattle.trace.proofs.Basics.{clash, both}
 
 -- what the table says of a frame's numbers
 abbrev pub InTable : Frame → Type 0

@@ -11,12 +11,12 @@ use Rattle.line.specs.declared.Frame.{Frame}
 use Rattle.line.specs.declared.Frame.the-variants.{Site, Call, Spawn, Sync, Return, Cost}
 use Rattle.trace.specs.Shape.{Is, step, walk, openAt, has}
 use Rattle.trace.specs.Series.{value, valueAt, CostIn, Span}
-use Rattle.trace.specs.Rows.{sumOf, costsWhere, inside}
-use Rattle.trace.specs.Tree.{Body, done, spend, sync, call, spawn, linesOf, size, AllSites, workOf, spanOf}
+use Rattle.trace.specs.Rows.{sumOf, inside}
+use Rattle.trace.specs.Tree.{Body, done, spend, sync, call, spawn, linesOf, AllSites, workOf, spanOf}
 use Rattle.trace.proofs.Basics.{below, cond-same}
 use Rattle.trace.proofs.Tree.{IsSite, size-is}
 use Rattle.trace.proofs.Recurrence.{weight-chain}
-use Rattle.trace.proofs.Context.{Ctx, walk-append}
+use Rattle.trace.proofs.Context.{walk-append}
 use Rattle.trace.proofs.Chains.{is-length, is-right, span-of}
 use Rattle.trace.proofs.Chains as C
 use Rattle.trace.proofs.Invocations.{Inv}

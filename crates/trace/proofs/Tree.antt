@@ -1,8 +1,8 @@
 -- The lines of a tree: no sites among them, how many they are, and whose they are.
 use mathlib.Core.Path.{_≡_, refl, sym, _∙_, ap, subst}
-use mathlib.Core.Bool.{Bool, true, false}
+use mathlib.Core.Bool.{true, false}
 use mathlib.Core.List.{List, [], _∷_, _++_, append-assoc, append-nil}
-use Prim.Native.Nat.{ℕ, zero, suc, _+_, _≤_, _<_}
+use Prim.Native.Nat.{ℕ, suc, _+_}
 use native.Mathlib.Omega.{arith}
 use lib.Dec.{T}
 use lib.ListN.{length, length-append}
@@ -101,7 +101,7 @@ site-or-not Sync h k = h
 site-or-not Return h k = h
 site-or-not (Cost v) h k = h
 
--- LAW: the sites and the tree of a trace are the only ones
+-- sites and the lines of a body are those of one list of sites and one body
 pub parts-one : (h k : List Frame) (b c : Body) → AllSites h → AllSites k → h ++ linesOf b ≡ k ++ linesOf c → (h ≡ k) × (b ≡ c)
 parts-one [] [] b c x y e = (refl, lines-one b c [] [] (append-nil (linesOf b) ∙ e ∙ sym (append-nil (linesOf c))) .0)
 parts-one [] (f ∷ k) b c x y e = absurd (site-or-not f (y .0) (subst NoSites e (no-sites-lines b) .0))

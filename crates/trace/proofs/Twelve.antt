@@ -1,5 +1,5 @@
 -- The twelve traces of document 01: the definitions say of each what its table says.
-use mathlib.Core.Path.{_≡_, refl, sym, _∙_, ap, subst}
+use mathlib.Core.Path.{_≡_, refl, sym, ap, subst}
 use mathlib.Core.Bool.{true}
 use mathlib.Core.List.{List, [], _∷_, _++_, map}
 use Prim.Native.Nat.{ℕ}
@@ -16,8 +16,7 @@ use Rattle.trace.specs.Fold.{chainOf, linesIn}
 use Rattle.trace.specs.Twelve.{Case, twelve, Holds, AllHold, K, RowOne, Claim}
 use Rattle.trace.proofs.Basics.{clash}
 use Rattle.trace.proofs.Tree.{parts-one}
-use Rattle.trace.proofs.Scan.{accepted-fine}
-use Rattle.trace.proofs.Parse.{parts}
+use Rattle.trace.proofs.Parse.{accepted-parts}
 use Rattle.trace.proofs.Root.{root-span, root-chosen}
 use Rattle.trace.proofs.Columns.{spans-tree}
 
@@ -75,7 +74,7 @@ module _ (s : List ℕ) (b : Body) (e : verdict s 4 2 true ≡ accepted (heads +
   t = heads ++ linesOf b
 
   p : Parts 4 t
-  p = parts 4 2 t (accepted-fine s 4 2 true t e)
+  p = accepted-parts s 4 2 true t e
 
   same : (p .heads ≡ heads) × (p .body ≡ b)
   same = parts-one (p .heads) heads (p .body) b (p .all-sites) (tt, (tt, tt)) (sym (p .lines))

@@ -1,11 +1,11 @@
 -- There is one span of an invocation, one chosen chain, and one sum of spans.
-use mathlib.Core.Path.{_≡_, refl, sym, _∙_, ap, subst}
+use mathlib.Core.Path.{_≡_, sym}
 use mathlib.Core.Logic.{_⊎_, inl, inr}
 use mathlib.Core.List.{List, [], _∷_}
-use Prim.Native.Nat.{ℕ, _+_, _≤_, _<_}
+use Prim.Native.Nat.{ℕ}
 use native.Mathlib.Omega.{arith}
 use Rattle.line.specs.declared.Frame.{Frame}
-use Rattle.trace.specs.Series.{Chain, weight, Span, Before, Chosen}
+use Rattle.trace.specs.Series.{Span, Before, Chosen}
 use Rattle.trace.specs.Rows.{counted, Sum, Spans}
 
 -- LAW

@@ -1,7 +1,7 @@
 -- For proofs and engines, not for the reader of document 01: the plan of a body, and Cilkprof's recurrence with chains for numbers.
 -- A body is taken with the number n of its first line and the row s of its invocation.
-use Prim.Native.Nat.{ℕ, zero, suc, _+_}
-use mathlib.Core.Bool.{Bool, true, false, cond}
+use Prim.Native.Nat.{ℕ, suc, _+_}
+use mathlib.Core.Bool.{cond}
 use mathlib.Core.List.{List, [], _∷_, _++_}
 use lib.Dec.{eqb, ltb}
 use Rattle.chain.specs.Plan.{CostLine, Plan, none, cost, seq, par, weight, choose}

@@ -11,7 +11,7 @@ use Rattle.trace.specs.declared.Answer.the-variants.{Accepted, Refused}
 use Rattle.trace.specs.Shape.{root, has, sites}
 use Rattle.trace.specs.Series.{Span, Chosen}
 use Rattle.trace.specs.Rows.{columns, total, calls, work, Spans, local, onSpan}
-use Rattle.trace.specs.Refusals.{lineCount, Verdict, accepted, refused, verdict}
+use Rattle.trace.specs.Refusals.{lineCount, accepted, refused, verdict}
 
 pub data Engine : Type 0 where
   tables marks : Engine

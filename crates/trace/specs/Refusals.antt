@@ -86,7 +86,7 @@ abbrev pub wide : ℕ → Bool
 wide n = leb 18446744073709551616 n
 
 -- Some row from 0 to s has one of the numbers calls, work and local beyond 64 bits. A span is never above the work beside it, nor an
--- on-span number above the local beside it (proved), so these two need no test of their own.
+-- on-span number above the local beside it (proofs/AtMost), so these two need no test of their own.
 abbrev pub wideRows : List Frame → ℕ → Bool
 wideRows t zero = wide (calls t 0) || wide (work t 0) || wide (local t 0)
 wideRows t (suc s) = (wide (calls t (suc s)) || wide (work t (suc s)) || wide (local t (suc s))) || wideRows t s

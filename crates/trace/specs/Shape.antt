@@ -1,8 +1,8 @@
 -- The shape of a trace over line numbers: which invocations are open at a line, and which two lines are parallel.
 -- An invocation is named by a number: the root is 0, and the one that line g opens is g + 1.
-use Prim.Native.Nat.{ℕ, zero, suc, _+_, _<_}
+use Prim.Native.Nat.{ℕ, zero, suc, _<_}
 use mathlib.Core.Path.{_≡_}
-use mathlib.Core.Bool.{Bool, true, false, _||_}
+use mathlib.Core.Bool.{Bool, false, _||_}
 use mathlib.Core.List.{List, [], _∷_}
 use lib.Dec.{T, eqb}
 use Rattle.line.specs.declared.Place.{Place}

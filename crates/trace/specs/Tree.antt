@@ -1,12 +1,12 @@
 -- For proofs and engines, not for the reader of document 01: the body of an invocation as a tree, its lines, and its numbers by the tree.
 use Prim.Native.Nat.{ℕ, zero, suc, _+_, _≤_}
 use mathlib.Core.Path.{_≡_}
-use mathlib.Core.Bool.{Bool, true, false, cond}
+use mathlib.Core.Bool.{true, false, cond}
 use mathlib.Core.List.{List, [], _∷_, _++_}
 use lib.Dec.{T, eqb, ltb}
 use lib.ListN.{length}
 use Rattle.line.specs.declared.Frame.{Frame}
-use Rattle.line.specs.declared.Frame.the-variants.{Site, Call, Spawn, Sync, Return, Cost}
+use Rattle.line.specs.declared.Frame.the-variants.{Call, Spawn, Sync, Return, Cost}
 use Rattle.trace.specs.Shape.{ifSite}
 
 -- the items of a body, each with the rest of the body behind it; a call or spawn has its site and its own body

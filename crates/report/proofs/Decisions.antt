@@ -1,0 +1,58 @@
+-- When each decision is taken, what it then promises, and that a promise leaves one outcome. Assumes nothing.
+use Prim.Native.Nat.{ℕ, _+_, _*_, _≤_, _<_}
+use mathlib.Core.List.{List, _++_}
+use mathlib.Core.Path.{_≡_, ap, _∙_, sym}
+use borrow.Author.Tests.{lt-ltb, le-ltb}
+use lib.ListN.{length, drop}
+use Rattle.line.specs.declared.Wrote.{Wrote}
+use Rattle.line.specs.declared.Wrote.the-variants.{Chars, Refused}
+use Rattle.report.specs.Room.{Decision, write, refuse, answer, leave, Writes}
+use Rattle.report.specs.Rows.{columns, width}
+use Rattle.report.specs.Report.{text, report}
+use Rattle.report.specs.Refusal.{refusalText, printRefusal}
+
+-- a refusal that is given, with the room as it was
+pub refused : {d : Decision} (number line : ℕ) (room : List ℕ) → d ≡ refuse number line → Writes d (Refused number line) room room
+refused number line room e = record { answered = sym (ap answer e); left = sym (ap (λ (d : Decision). leave d room) e) }
+
+-- a text of n characters that is written
+pub written : {d : Decision} (s before after : List ℕ) (n : ℕ) → d ≡ write s → length s ≡ n → after ≡ s ++ drop n before → Writes d (Chars n) before after
+written s before after n e l f =
+    record {
+      answered = ap Chars (sym l) ∙ sym (ap answer e);
+      left = f ∙ ap (λ (k : ℕ). s ++ drop k before) (sym l) ∙ sym (ap (λ (d : Decision). leave d before) e);
+    }
+
+-- one answer and one room for each decision
+pub one-outcome : {d : Decision} {r q : Wrote} {before after other : List ℕ} → Writes d r before after → Writes d q before other → (r ≡ q) × (after ≡ other)
+one-outcome w v = (w .answered ∙ sym (v .answered), w .left ∙ sym (v .left))
+
+module _ (rows : List ℕ) (count room : ℕ) where
+  pub report-1 : 255 < count → report rows count room ≡ refuse 1 0
+  report-1 h = simp (lt-ltb _ _ h)
+
+  module _ (few : count ≤ 255) where
+    pub report-4-rows : length rows < columns * (count + 1) → report rows count room ≡ refuse 4 0
+    report-4-rows h = simp (le-ltb _ _ few, lt-ltb _ _ h)
+
+    module _ (enough : columns * (count + 1) ≤ length rows) where
+      pub report-4-out : room < width * (count + 1) → report rows count room ≡ refuse 4 0
+      report-4-out h = simp (le-ltb _ _ few, le-ltb _ _ enough, lt-ltb _ _ h)
+
+      pub report-text : width * (count + 1) ≤ room → report rows count room ≡ write (text rows count)
+      report-text h = simp (le-ltb _ _ few, le-ltb _ _ enough, le-ltb _ _ h)
+
+module _ (number line room : ℕ) where
+  pub print-1-number : 255 < number → printRefusal number line room ≡ refuse 1 0
+  print-1-number h = simp (lt-ltb _ _ h)
+
+  module _ (fits : number ≤ 255) where
+    pub print-1-line : 4294967295 < line → printRefusal number line room ≡ refuse 1 0
+    print-1-line h = simp (le-ltb _ _ fits, lt-ltb _ _ h)
+
+    module _ (fits′ : line ≤ 4294967295) where
+      pub print-4 : room < 13 → printRefusal number line room ≡ refuse 4 0
+      print-4 h = simp (le-ltb _ _ fits, le-ltb _ _ fits′, lt-ltb _ _ h)
+
+      pub print-text : 13 ≤ room → printRefusal number line room ≡ write (refusalText number line)
+      print-text h = simp (le-ltb _ _ fits, le-ltb _ _ fits′, le-ltb _ _ h)

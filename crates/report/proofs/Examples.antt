@@ -1,0 +1,34 @@
+-- Case I's report and printed refusals, as document 01 prints them, by computing. Assumes nothing.
+use Prim.Native.Nat.{ℕ}
+use Prim.Native.Char.{code}
+use Prim.Native.String.{String}
+use Prim.Native.String as string
+use mathlib.Core.List.{List, [], _∷_, _++_, flatMap}
+use mathlib.Core.Path.{_≡_, refl}
+use Rattle.report.specs.Rows.{lineOf}
+use Rattle.report.specs.Report.{text}
+use Rattle.report.specs.Refusal.{refusalText}
+
+-- the characters of a text
+abbrev codes : String → List ℕ
+codes string.[] = []
+codes (string._∷_ c s) = code c ∷ codes s
+
+-- case I's rows: calls, work, span, local, on span
+abbrev rows : List ℕ
+rows = 1 ∷ 10 ∷ 9 ∷ 2 ∷ 2 ∷ 1 ∷ 8 ∷ 7 ∷ 1 ∷ 0 ∷ 1 ∷ 7 ∷ 7 ∷ 7 ∷ 7 ∷ []
+
+case-I : text rows 2 ≡
+    codes "00000000000000000001000000000000000a000000000000000900000000000000020000000000000002\n"
+    ++ codes "000100000000000000010000000000000008000000000000000700000000000000010000000000000000\n"
+    ++ codes "000200000000000000010000000000000007000000000000000700000000000000070000000000000007\n"
+unfolding flatMap lineOf
+case-I = refl
+
+-- "14 is `0e`"
+unended : refusalText 14 10 ≡ codes "ff0e0000000a\n"
+unended = refl
+
+-- the program's answer to too many bytes
+too-many : refusalText 3 0 ≡ codes "ff0300000000\n"
+too-many = refl

@@ -1,0 +1,98 @@
+-- Laws of report lines: how long they are, which stands where, and what comes next as they are written. Assumes nothing.
+use Prim.Native.Nat.{ℕ, zero, suc, _+_, _*_, _-_, _≤_, _<_}
+use mathlib.Core.List.{List, [], _∷_, _++_, flatMap}
+use mathlib.Core.Logic.{_⊎_, inl, inr}
+use mathlib.Core.Path.{_≡_, refl, ap, _∙_, sym}
+use native.Mathlib.Nat.{add-sub-cancel-left, eq-or-lt-of-le, le-of-suc-le-suc}
+use native.Mathlib.Numerals.{add-one}
+use native.Mathlib.Omega.{arith}
+use borrow.Rule.Slice.PartMut.{putMid, midOf, mid-len}
+use lib.ListN.{length, take, drop, getD, length-append, length-drop, List·getD-append}
+use lib.Seq.{length-take-le, take-suc, getD-at, take-append-le, drop-append-le}
+use Rattle.digits.specs.Digits.{digits}
+use Rattle.digits.proofs.Writing.{digits-length}
+use Rattle.report.specs.Rows.{columns, numbersOf, lineOf, rowLine, width}
+use Rattle.report.specs.Report.{first, linesOf}
+use Rattle.report.proofs.Pieces.{flatMap-last, Even, pieces-length, piece-at, next-piece}
+
+-- sixteen digits for each number
+numbers-even : (numbers : List ℕ) → Even (digits 16) 16 numbers
+numbers-even numbers k h = digits-length 16 (getD numbers k 0)
+
+pub numbers-length : (numbers : List ℕ) → length (flatMap (digits 16) numbers) ≡ 16 * length numbers
+numbers-length numbers = pieces-length (digits 16) 16 numbers (numbers-even numbers)
+
+pub number-at : (numbers t : List ℕ) (k : ℕ) → k < length numbers → take 16 (drop (16 * k) (flatMap (digits 16) numbers ++ t)) ≡ digits 16 (getD numbers k 0)
+number-at numbers t k h = piece-at (digits 16) 16 numbers t k (numbers-even numbers) h
+
+-- a row in reach has all its numbers
+pub row-length : (rows : List ℕ) (r : ℕ) → columns * (r + 1) ≤ length rows → length (numbersOf rows r) ≡ columns
+row-length rows r h = length-take-le columns (drop (columns * r) rows) (simp length-drop (omega arith))
+
+-- "85 characters"
+pub line-length : (r : ℕ) (numbers : List ℕ) → length numbers ≡ columns → length (lineOf r numbers) ≡ width
+unfolding lineOf
+line-length r numbers l =
+    length-append (digits 4 r) (flatMap (digits 16) numbers ++ 10 ∷ [])
+    ∙ omega (arith, digits-length 4 r, length-append (flatMap (digits 16) numbers) (10 ∷ []), numbers-length numbers)
+
+-- the first n row numbers: n of them, and number k is k
+pub first-length : (n : ℕ) → length (first n) ≡ n
+first-length zero = refl
+first-length (suc n) = length-append (first n) (n ∷ []) ∙ ap (λ (k : ℕ). k + 1) (first-length n) ∙ add-one n
+
+pub first-at : (n k : ℕ) → k < n → getD (first n) k 0 ≡ k
+first-at zero k h = absurd (omega arith)
+first-at (suc n) k h = go (eq-or-lt-of-le (le-of-suc-le-suc h)) (first-at n k) where
+  go : (k ≡ n) ⊎ (k < n) → (k < n → getD (first n) k 0 ≡ k) → getD (first (suc n)) k 0 ≡ k
+  go (inl e) i = getD-at (first n) n [] 0 k (first-length n ∙ sym e) ∙ sym e
+  go (inr l) i = List·getD-append (first n) (n ∷ []) 0 k (rw first-length l) ∙ i l
+
+-- 85 characters for each row
+lines-even : (rows : List ℕ) (n : ℕ) → columns * n ≤ length rows → Even (rowLine rows) width (first n)
+lines-even rows n h k l =
+    let below : k < n = rw first-length at l in
+    ap (λ (r : ℕ). length (rowLine rows r)) (first-at n k below) ∙ line-length k (numbersOf rows k) (row-length rows k (omega arith))
+
+pub lines-length : (rows : List ℕ) (n : ℕ) → columns * n ≤ length rows → length (linesOf rows (first n)) ≡ width * n
+lines-length rows n h = pieces-length (rowLine rows) width (first n) (lines-even rows n h) ∙ ap (λ (k : ℕ). width * k) (first-length n)
+
+pub line-at : (rows t : List ℕ) (n r : ℕ) → columns * n ≤ length rows → r < n → take width (drop (width * r) (linesOf rows (first n) ++ t)) ≡ rowLine rows r
+line-at rows t n r h l = piece-at (rowLine rows) width (first n) t r (lines-even rows n h) (rw first-length l) ∙ ap (rowLine rows) (first-at n r l)
+
+-- what stands behind the rows makes no difference
+row-front : (rows rest : List ℕ) (r : ℕ) → columns * (r + 1) ≤ length rows → numbersOf (rows ++ rest) r ≡ numbersOf rows r
+row-front rows rest r h =
+    ap (λ (l : List ℕ). take columns l) (drop-append-le (columns * r) rows rest (omega arith))
+    ∙ take-append-le columns (drop (columns * r) rows) rest (simp length-drop (omega arith))
+
+pub lines-front : (rows rest : List ℕ) (n : ℕ) → columns * n ≤ length rows → linesOf (rows ++ rest) (first n) ≡ linesOf rows (first n)
+unfolding flatMap
+lines-front rows rest zero h = refl
+lines-front rows rest (suc n) h =
+    flatMap-last (rowLine (rows ++ rest)) (first n) n
+    ∙ ap (λ (l : List ℕ). l ++ rowLine (rows ++ rest) n) (lines-front rows rest n (omega arith))
+    ∙ ap (λ (l : List ℕ). linesOf rows (first n) ++ lineOf n l) (row-front rows rest n (omega arith))
+    ∙ sym (flatMap-last (rowLine rows) (first n) n)
+
+-- a part that begins with the digits of the first k numbers, and then with those of the next one
+pub numbers-more : (numbers before part piece : List ℕ) (k : ℕ) → k < length numbers → length part ≡ 16 * length numbers
+    → part ≡ flatMap (digits 16) (take k numbers) ++ drop (16 * k) before
+    → piece ≡ digits (length (midOf (16 * k) (16 * k + 16 - 16 * k) part)) (getD numbers k 0)
+    → putMid (16 * k) (16 * k + 16 - 16 * k) part piece ≡ flatMap (digits 16) (take (k + 1) numbers) ++ drop (16 * (k + 1)) before
+numbers-more numbers before part piece k h l e f =
+    let x = getD numbers k 0 in
+    let size : length (midOf (16 * k) (16 * k + 16 - 16 * k) part) ≡ 16 = mid-len (16 * k) (16 * k + 16) part (omega arith) ∙ add-sub-cancel-left (16 * k) 16 in
+    let done : length (flatMap (digits 16) (take k numbers)) ≡ 16 * k = numbers-length (take k numbers) ∙ ap (λ (n : ℕ). 16 * n) (length-take-le k numbers (omega arith)) in
+    let more : take k numbers ++ x ∷ [] ≡ take (k + 1) numbers = rw add-one (sym (take-suc numbers k 0 h)) in
+    let place : 16 * k + 16 ≡ 16 * (k + 1) = omega arith in
+    next-piece (digits 16) 16 (take k numbers) x (16 * k) part before piece done e (f ∙ ap (λ (n : ℕ). digits n x) size)
+    ∙ ap (λ (xs : List ℕ). flatMap (digits 16) xs ++ drop (16 * k + 16) before) more
+    ∙ ap (λ (n : ℕ). flatMap (digits 16) (take (k + 1) numbers) ++ drop n before) place
+
+-- an output that begins with the lines of the first rows, and then with the line of the next one
+pub lines-more : (rows before out line : List ℕ) (row at : ℕ) → length (linesOf rows (first row)) ≡ at
+    → out ≡ linesOf rows (first row) ++ drop at before
+    → line ≡ rowLine rows row
+    → putMid at (at + width - at) out line ≡ linesOf rows (first (row + 1)) ++ drop (at + width) before
+lines-more rows before out line row at l e f = rw (add-one row) (next-piece (rowLine rows) width (first row) row at out before line l e f)

@@ -1,0 +1,4 @@
+pub mod Room
+pub mod Rows
+pub mod Report
+pub mod Refusal

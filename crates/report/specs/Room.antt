@@ -1,0 +1,27 @@
+-- What every writer of text into lent room answers and leaves there, once it is decided what it writes.
+use Prim.Native.Nat.{ℕ}
+use mathlib.Core.List.{List, _++_}
+use mathlib.Core.Path.{_≡_}
+use lib.ListN.{length, drop}
+use Rattle.line.specs.declared.Wrote.{Wrote}
+use Rattle.line.specs.declared.Wrote.the-variants.{Chars, Refused}
+
+-- a text to write, or a refusal: a number and a line
+pub data Decision : Type 0 where
+  write : List ℕ → Decision
+  refuse : ℕ → ℕ → Decision
+
+-- "The writer answers how many characters it wrote"; "Refused: a number and a line."
+abbrev pub answer : Decision → Wrote
+answer (write s) = Chars (length s)
+answer (refuse number line) = Refused number line
+
+-- "output beyond them is unchanged"; refused, "nothing changes"
+abbrev pub leave : Decision → List ℕ → List ℕ
+leave (write s) room = s ++ drop (length s) room
+leave (refuse number line) room = room
+
+-- a writer that decided so gave this answer, and made this room of what the room held before
+pub record Writes (d : Decision) (given : Wrote) (before after : List ℕ) : Type 0 where
+  pub answered : given ≡ answer d
+  pub left : after ≡ leave d before

@@ -1,0 +1,104 @@
+-- The definitions of the shape, read another way: an invocation contains the lines from its body's first to its return, and it has one return.
+use mathlib.Core.Path.{_≡_, refl, sym, _∙_, ap, subst}
+use mathlib.Core.Logic.{inl, inr, _↔_}
+use mathlib.Core.List.{List, [], _∷_, _++_}
+use Prim.Native.Nat.{ℕ, zero, suc, _+_, _≤_, _<_}
+use native.Mathlib.Omega.{arith}
+use native.Mathlib.Nat.{le-dest}
+use lib.ListN.{length, length-append}
+use lib.Dec.{T}
+use Rattle.line.specs.declared.Frame.{Frame}
+use Rattle.line.specs.declared.Frame.the-variants.{Call, Spawn, Sync, Return, Cost}
+use Rattle.trace.specs.Shape.{Is, closed, step, walk, openAt, has, firstIs, Contains, Directly, Returns}
+use Rattle.trace.specs.Tree.{Body, done, spend, sync, call, spawn, linesOf, size}
+use Rattle.trace.proofs.Basics.{below}
+use Rattle.trace.proofs.Tree.{size-is}
+use Rattle.trace.proofs.Open.{first-has, first-of, first-eq, Below, Low, below-not}
+use Rattle.trace.proofs.Context.{Ctx, at-open, low-walk}
+use Rattle.trace.proofs.Chains.{is-length, inside, within}
+use Rattle.trace.proofs.Invocations.{ctx-step, ctx-in, ctx-skip, Inv}
+use Rattle.trace.proofs.Stretches.{starts}
+use Rattle.trace.proofs.Columns.{first-is}
+
+-- the innermost invocation of a context is the one that its first line is directly in
+first-in : (t : List Frame) (n c : ℕ) (o : List ℕ) (v : List Frame) → Ctx t n (c ∷ o) v → Directly t c n
+first-in t n c o v x =
+    let f : n + 0 ≡ n = omega arith in
+    subst (λ (k : ℕ). T (firstIs c (openAt t k))) f (subst (λ (l : List ℕ). T (firstIs c l)) (sym (at-open t n (c ∷ o) v x 0)) (start v))
+  where
+    start : (v : List Frame) → T (firstIs c (walk n (c ∷ o) v 0))
+    start [] = first-of c c o refl
+    start (e ∷ v) = first-of c c o refl
+
+-- a body's last line is the return of its invocation
+last-line : (t : List Frame) (b : Body) (n c : ℕ) (o : List ℕ) (u : List Frame) → Ctx t n (c ∷ o) (linesOf b ++ u) → (r : ℕ) → suc r ≡ n + size b → Returns t c r
+last-line t done n c o u x r e =
+    let q : n ≡ r = omega arith in
+    subst (Returns t c) q (record { is = first-is t n (c ∷ o) Return u x; its-own = first-in t n c o (Return ∷ u) x })
+last-line t (spend v b) n c o u x r e = last-line t b (suc n) c o u (ctx-step t n c o (Cost v) (linesOf b ++ u) x) r (omega arith)
+last-line t (sync b) n c o u x r e = last-line t b (suc n) c o u (ctx-step t n c o Sync (linesOf b ++ u) x) r (omega arith)
+last-line t (call s a b) n c o u x r e =
+    let y = ctx-in t n c o a b u (ctx-step t n c o (Call s) ((linesOf a ++ linesOf b) ++ u) x) in
+    last-line t b (suc n + size a) c o u (ctx-skip t a (suc n) (suc n) (c ∷ o) (linesOf b ++ u) y) r (omega arith)
+last-line t (spawn s a b) n c o u x r e =
+    let y = ctx-in t n c o a b u (ctx-step t n c o (Spawn s) ((linesOf a ++ linesOf b) ++ u) x) in
+    last-line t b (suc n + size a) c o u (ctx-skip t a (suc n) (suc n) (c ∷ o) (linesOf b ++ u) y) r (omega arith)
+
+-- what is open one line further
+open-suc : (n : ℕ) (o : List ℕ) (u : List Frame) (k : ℕ) (e : Frame) → Is u k e → walk n o u (suc k) ≡ step (n + k) e (walk n o u k)
+open-suc n o [] k e h = absurd h
+open-suc n o (f ∷ u) zero e h =
+    let q : n ≡ n + 0 = omega arith in
+    at-start u ∙ ap (λ (x : Frame). step n x o) h ∙ ap (λ (m : ℕ). step m e o) q
+  where
+    at-start : (u : List Frame) → walk (suc n) (step n f o) u zero ≡ step n f o
+    at-start [] = refl
+    at-start (g ∷ u) = refl
+open-suc n o (f ∷ u) (suc k) e h =
+    let q : suc n + k ≡ n + suc k = omega arith in
+    open-suc (suc n) (step n f o) u k e h ∙ ap (λ (m : ℕ). step m e (walk (suc n) (step n f o) u k)) q
+
+module _ (t : List Frame) (F n : ℕ) (g : Body) (i : Inv t F n g) where
+  abbrev lines : List Frame
+  lines = linesOf g ++ i .post
+
+  long : length t ≡ n + length lines
+  long = ap length (i .ctx .whole) ∙ length-append (i .ctx .pre) lines ∙ ap (λ (m : ℕ). m + length lines) (i .ctx .count)
+
+  -- LAW: the lines that an invocation contains, from its body's first line on
+  pub contains-iff : (k : ℕ) → n ≤ k → k < length t → Contains t F k ↔ (k < n + size g)
+  contains-iff k l lk = (to (le-dest l), from (le-dest l))
+    where
+      to : (j : ℕ) × (n + j ≡ k) → Contains t F k → k < n + size g
+      to w h =
+          let m = within t n 0 F (i .around) g (i .post) (i .ctx) (starts t F n g i) (w .0) (omega (arith, w .1, long))
+          (subst (λ (l : List ℕ). T (has F l)) (at-open t n (F ∷ i .around) lines (i .ctx) (w .0)) (subst (λ (z : ℕ). T (has F (openAt t z))) (sym (w .1)) h)) in
+          omega (arith, w .1)
+
+      from : (j : ℕ) × (n + j ≡ k) → k < n + size g → Contains t F k
+      from w m =
+          subst (λ (z : ℕ). T (has F (openAt t z))) (w .1)
+          (subst (λ (l : List ℕ). T (has F l)) (sym (at-open t n (F ∷ i .around) lines (i .ctx) (w .0))) (inside t n 0 F (i .around) g (i .post) (i .ctx) (starts t F n g i) (w .0) (omega (arith, w .1))))
+
+  -- LAW: its return is its last line, and no other
+  pub return-iff : (r : ℕ) → Returns t F r ↔ (suc r ≡ n + size g)
+  return-iff r = (to, last-line t g n F (i .around) (i .post) (i .ctx) r)
+    where
+      popped : (l : List ℕ) → Low (0 + r) l → T (firstIs F l) → T (has F (closed l)) → ⊥
+      popped [] w f h = f
+      popped (c ∷ l) w f h = below-not F l (subst (λ (z : ℕ). Below z l) (sym (first-eq F c l f)) (w .1)) h
+
+      gone : Is t r Return → Directly t F r → Contains t F (suc r) → ⊥
+      gone a d h = popped (openAt t r) (low-walk 0 (0 ∷ []) t r (omega arith, tt, tt)) d (subst (λ (l : List ℕ). T (has F l)) (open-suc 0 (0 ∷ []) t r Return a) h)
+
+      to : Returns t F r → suc r ≡ n + size g
+      to h =
+          let l = is-length t r Return (h .is) in
+          let m = first-has F (openAt t r) (h .its-own) in
+          elim (below n r) [
+            | inl k ↦ absurd (i .start r Return k (h .is) m)
+            | inr w ↦ elim (below (n + size g) (suc r)) [
+              | inl k ↦ absurd (gone (h .is) (h .its-own) (contains-iff (suc r) (omega (arith, w .1)) (omega (arith, long, length-append (linesOf g) (i .post), size-is g)) .1 k))
+              | inr v ↦ (let q = contains-iff r (omega (arith, w .1)) l .0 m in omega (arith, v .1))
+            ]
+          ]

@@ -1,0 +1,269 @@
+-- The promise determines its outcome, which is the one by the tree; and some outcome always meets it.
+use mathlib.Core.Path.{_≡_, refl, sym, _∙_, ap, subst}
+use mathlib.Core.Logic.{inl, inr}
+use mathlib.Core.Bool.{Bool, true, cond, _&&_}
+use mathlib.Core.List.{List, [], _∷_}
+use Prim.Native.Nat.{ℕ, zero, suc, _+_, _*_, _/_, _%_, _≤_, _<_}
+use native.Mathlib.Omega.{arith}
+use lib.ListN.{length, getD, replicate, length-append, List·getD-eq-default}
+use lib.Dec.{ltb, leb}
+use lib.Seq.{ext-getD}
+use borrow.Author.Tests.{leb-true, lt-ltb, le-ltb}
+use Rattle.line.specs.declared.Frame.{Frame}
+use Rattle.trace.specs.declared.Answer.{Answer}
+use Rattle.trace.specs.declared.Answer.the-variants.{Accepted}
+use Rattle.trace.specs.Shape.{has, sites}
+use Rattle.trace.specs.Rows.{columns, Spans}
+use Rattle.trace.specs.Refusals.{lineCount, Verdict, accepted, refused, verdict}
+use Rattle.trace.specs.Promise.{Engine, tables, marks, Lent, scratchRoom, marksRoom, rowsRoom, enough, acceptance, refusal, Row, Marked, Profile, Promise}
+use Rattle.trace.specs.Tree.{Body, linesOf, size, Parts, workOf, spanOf, spansIn}
+use Rattle.trace.specs.Fold.{chainOf, linesIn}
+use Rattle.trace.specs.ByTree.{cell, RowsBy, ProfileBy}
+use Rattle.trace.proofs.Basics.{clash, below, both}
+use Rattle.trace.proofs.Tree.{size-is}
+use Rattle.trace.proofs.Scan.{Fine, accepted-is, accepted-fine, accepted-length}
+use Rattle.trace.proofs.Parse.{parts, accepted-parts}
+use Rattle.trace.proofs.Accept.{sites-le-M}
+use Rattle.trace.proofs.Unique.{spans-unique}
+use Rattle.trace.proofs.Invocations.{sites-are}
+use Rattle.trace.proofs.Root.{rootChain, root-span, root-chosen, root-span-only, root-chosen-only}
+use Rattle.trace.proofs.Columns.{calls-tree, work-tree, spans-tree, local-tree, total-tree}
+use Rattle.trace.proofs.OnChain.{on-span-tree}
+use Rattle.trace.proofs.Small.{Small, fine-small}
+
+lent-same : (a b : Lent) → a .scratch ≡ b .scratch → a .rows ≡ b .rows → a .marks ≡ b .marks → a ≡ b
+lent-same a b x y z =
+    ap (λ (s : List ℕ). record { scratch = s; rows = a .rows; marks = a .marks }) x
+    ∙ ap (λ (s : List ℕ). record { scratch = b .scratch; rows = s; marks = a .marks }) y
+    ∙ ap (λ (s : List ℕ). record { scratch = b .scratch; rows = b .rows; marks = s }) z
+
+-- ── a profile is what the tree says ──
+
+module _ (D : ℕ) (t : List Frame) (p : Parts D t) where
+  abbrev m : ℕ
+  m = length (p .heads)
+
+  pub length-is : length t ≡ m + size (p .body)
+  length-is = ap length (p .lines) ∙ length-append (p .heads) (linesOf (p .body)) ∙ ap (λ (k : ℕ). m + k) (size-is (p .body))
+
+  answer-is : acceptance t (spanOf (p .body)) ≡ Accepted (workOf (p .body)) (spanOf (p .body)) m (m + size (p .body))
+  answer-is =
+      ap (λ (w : ℕ). Accepted w (spanOf (p .body)) (sites t) (length t)) (total-tree D t p)
+      ∙ ap (λ (k : ℕ). Accepted (workOf (p .body)) (spanOf (p .body)) k (length t)) (sites-are D t p)
+      ∙ ap (Accepted (workOf (p .body)) (spanOf (p .body)) m) length-is
+
+  first : (l : List ℕ) (s : ℕ) → getD l (columns * s) 0 ≡ getD l (columns * s + 0) 0
+  first l s = let e : columns * s ≡ columns * s + 0 = omega arith in ap (λ (i : ℕ). getD l i 0) e
+
+  row-from : (l : List ℕ) (s : ℕ) → ((j : ℕ) → j < columns → getD l (columns * s + j) 0 ≡ cell m (p .body) s j) → Row t (linesIn (rootChain D t p)) l s
+  row-from l s h =
+      record {
+        calls-is = first l s ∙ h 0 (omega arith) ∙ sym (calls-tree D t p s);
+        work-is = h 1 (omega arith) ∙ sym (work-tree D t p s);
+        span-is = subst (Spans t s) (sym (h 2 (omega arith))) (spans-tree D t p s);
+        local-is = h 3 (omega arith) ∙ sym (local-tree D t p s);
+        on-span-is = h 4 (omega arith) ∙ sym (on-span-tree D t p s);
+      }
+
+  row-to : (l : List ℕ) (s : ℕ) → Row t (linesIn (rootChain D t p)) l s → (j : ℕ) → j < columns → getD l (columns * s + j) 0 ≡ cell m (p .body) s j
+  row-to l s r zero h = sym (first l s) ∙ r .calls-is ∙ calls-tree D t p s
+  row-to l s r (suc zero) h = r .work-is ∙ work-tree D t p s
+  row-to l s r (suc (suc zero)) h = spans-unique t s _ _ (r .span-is) (spans-tree D t p s)
+  row-to l s r (suc (suc (suc zero))) h = r .local-is ∙ local-tree D t p s
+  row-to l s r (suc (suc (suc (suc zero)))) h = r .on-span-is ∙ on-span-tree D t p s
+  row-to l s r (suc (suc (suc (suc (suc j))))) h = absurd (omega arith)
+
+  -- LAW: what the tree says is a profile
+  pub tree-profile : (e : Engine) (before : Lent) (r : Answer) (after : Lent) → ProfileBy e m (p .body) before r after → Profile e t before r after
+  tree-profile e before r after h =
+      record {
+        chain = linesIn (rootChain D t p);
+        chosen = root-chosen D t p;
+        span = spanOf (p .body);
+        is-span = root-span D t p;
+        answer = h .answer ∙ sym answer-is;
+        rows = record {
+          same-length = h .rows .same-length;
+          rows-are = λ s l. row-from (after .rows) s (λ j k. h .rows .cells s j (omega (arith, sites-are D t p)) k);
+          rest = λ i l. h .rows .rest i (omega (arith, sites-are D t p));
+        };
+        scratch = h .scratch;
+        marked = subst (λ (n : ℕ). Marked e n (linesIn (rootChain D t p)) (before .marks) (after .marks)) (sym length-is) (h .marked);
+      }
+
+  -- LAW: and a profile is what the tree says
+  pub profile-tree : (e : Engine) (before : Lent) (r : Answer) (after : Lent) → Profile e t before r after → ProfileBy e m (p .body) before r after
+  profile-tree e before r after h =
+      let c = root-chosen-only D t p (h .chain) (h .chosen) in
+      record {
+        answer = h .answer ∙ ap (acceptance t) (root-span-only D t p (h .span) (h .is-span)) ∙ answer-is;
+        rows = record {
+          same-length = h .rows .same-length;
+          cells = λ s j l k. row-to (after .rows) s (subst (λ (d : List ℕ). Row t d (after .rows) s) c (h .rows .rows-are s (omega (arith, sites-are D t p)))) j k;
+          rest = λ i l. h .rows .rest i (omega (arith, sites-are D t p));
+        };
+        scratch = h .scratch;
+        marked = subst (λ (n : ℕ). Marked e n (linesIn (rootChain D t p)) (before .marks) (after .marks)) length-is (subst (λ (d : List ℕ). Marked e (length t) d (before .marks) (after .marks)) c (h .marked));
+      }
+
+  -- LAW: within the limits each number of the tree is below 2 ^ 54
+  pub cell-small : (M : ℕ) → Fine D M t → (s j : ℕ) → j < columns → Small (cell m (p .body) s j)
+  cell-small M f s zero l = subst Small (calls-tree D t p s) (fine-small D M t f .calls-are s)
+  cell-small M f s (suc zero) l = subst Small (work-tree D t p s) (fine-small D M t f .work-is s)
+  cell-small M f s (suc (suc zero)) l = fine-small D M t f .spans-are s (spansIn s (p .body)) (spans-tree D t p s)
+  cell-small M f s (suc (suc (suc zero))) l = subst Small (local-tree D t p s) (fine-small D M t f .local-is s)
+  cell-small M f s (suc (suc (suc (suc zero)))) l = subst Small (on-span-tree D t p s) (fine-small D M t f .on-span-is (linesIn (rootChain D t p)) s)
+  cell-small M f s (suc (suc (suc (suc (suc j))))) l = absurd (omega arith)
+
+  pub work-small : (M : ℕ) → Fine D M t → Small (workOf (p .body))
+  work-small M f = subst Small (total-tree D t p) (fine-small D M t f .total-is)
+
+-- ── there is one ──
+
+rows-unique : (m : ℕ) (b : Body) (before a c : List ℕ) → RowsBy m b before a → RowsBy m b before c → a ≡ c
+rows-unique m b before a c h k = ext-getD 0 a c (h .same-length ∙ sym (k .same-length)) at
+  where
+    low : (i : ℕ) → i / columns ≤ m → getD a i 0 ≡ getD c i 0
+    low i l =
+        let e : columns * (i / columns) + i % columns ≡ i = omega arith in
+        let n : i % columns < columns = omega arith in
+        subst (λ (j : ℕ). getD a j 0 ≡ getD c j 0) e (h .cells (i / columns) (i % columns) l n ∙ sym (k .cells (i / columns) (i % columns) l n))
+
+    at : (i : ℕ) → i < length a → getD a i 0 ≡ getD c i 0
+    at i l = elim (below (columns * (m + 1)) i) [ inl g ↦ low i (omega arith) | inr w ↦ h .rest i (omega (arith, w .1)) ∙ sym (k .rest i (omega (arith, w .1))) ]
+
+marked-unique : (e : Engine) (n : ℕ) (c before a d : List ℕ) → Marked e n c before a → Marked e n c before d → a ≡ d
+marked-unique tables n c before a d h k = h ∙ sym k
+marked-unique marks n c before a d h k =
+    ext-getD 0 a d (h .same-length ∙ sym (k .same-length))
+    (λ i l. elim (below n i) [ inl g ↦ h .marks-are i g ∙ sym (k .marks-are i g) | inr w ↦ h .rest i (omega (arith, w .1)) ∙ sym (k .rest i (omega (arith, w .1))) ])
+
+by-tree-unique : (e : Engine) (m : ℕ) (b : Body) (before : Lent) (r q : Answer) (x y : Lent) → ProfileBy e m b before r x → ProfileBy e m b before q y → (r ≡ q) × (x ≡ y)
+by-tree-unique e m b before r q x y h k = (
+  h .answer ∙ sym (k .answer),
+  lent-same x y (h .scratch ∙ sym (k .scratch)) (rows-unique m b (before .rows) (x .rows) (y .rows) (h .rows) (k .rows))
+      (marked-unique e (m + size b) (linesIn (chainOf m 0 b)) (before .marks) (x .marks) (y .marks) (h .marked) (k .marked)),
+)
+
+-- LAW: two outcomes that meet the promise for the same text, limits and room are equal
+pub promise-unique : (e : Engine) (s : List ℕ) (D M : ℕ) (before : Lent) (r q : Answer) (x y : Lent) → Promise e s D M before r x → Promise e s D M before q y → (r ≡ q) × (x ≡ y)
+promise-unique e s D M before r q x y h k = go (verdict s D M (enough e s D M before)) refl
+  where
+    go : (v : Verdict) → verdict s D M (enough e s D M before) ≡ v → (r ≡ q) × (x ≡ y)
+    go (accepted t) a =
+        let p = accepted-parts s D M (enough e s D M before) t a in
+        by-tree-unique e (length (p .heads)) (p .body) before r q x y (profile-tree D t p e before r x (h .when-accepted t a)) (profile-tree D t p e before q y (k .when-accepted t a))
+    go (refused n l) a =
+        let u = h .when-refused n l a in
+        let v = k .when-refused n l a in
+        (u .0 ∙ sym (v .0), u .1 ∙ sym (v .1))
+
+-- ── there is some ──
+
+-- a list by its elements, n of them from number k on
+abbrev tab : (ℕ → ℕ) → ℕ → ℕ → List ℕ
+tab f k zero = []
+tab f k (suc n) = f k ∷ tab f (suc k) n
+
+tab-length : (f : ℕ → ℕ) (k n : ℕ) → length (tab f k n) ≡ n
+tab-length f k zero = refl
+tab-length f k (suc n) = ap suc (tab-length f (suc k) n)
+
+tab-at : (f : ℕ → ℕ) (k n i : ℕ) → i < n → getD (tab f k n) i 0 ≡ f (k + i)
+tab-at f k zero i l = absurd (omega arith)
+tab-at f k (suc n) zero l = let e : k ≡ k + 0 = omega arith in ap f e
+tab-at f k (suc n) (suc i) l = let e : suc k + i ≡ k + suc i = omega arith in tab-at f (suc k) n i (omega arith) ∙ ap f e
+
+-- the numbers below m as f says, the rest as they were
+module _ (f : ℕ → ℕ) (m : ℕ) (l : List ℕ) where
+  abbrev mixed : ℕ → ℕ
+  mixed i = cond (ltb i m) (f i) (getD l i 0)
+
+  abbrev over : List ℕ
+  over = tab mixed 0 (length l)
+
+  over-length : length over ≡ length l
+  over-length = tab-length mixed 0 (length l)
+
+  over-low : (i : ℕ) → i < m → m ≤ length l → getD over i 0 ≡ f i
+  over-low i h k = let e : 0 + i ≡ i = omega arith in tab-at mixed 0 (length l) i (omega arith) ∙ ap mixed e ∙ ap (λ (b : Bool). cond b (f i) (getD l i 0)) (lt-ltb i m h)
+
+  over-high : (i : ℕ) → m ≤ i → getD over i 0 ≡ getD l i 0
+  over-high i h = elim (below (length l) i) [
+    | inl k ↦ (let e : 0 + i ≡ i = omega arith in tab-at mixed 0 (length l) i k ∙ ap mixed e ∙ ap (λ (b : Bool). cond b (f i) (getD l i 0)) (le-ltb i m h))
+    | inr w ↦ List·getD-eq-default over 0 (omega (arith, w .1, over-length)) ∙ sym (List·getD-eq-default l 0 (omega (arith, w .1)))
+  ]
+
+-- as the tree says, in the room that is there
+module _ (m : ℕ) (b : Body) (before : Lent) (rows-fit : columns * (m + 1) ≤ length (before .rows)) where
+  abbrev number : ℕ → ℕ
+  number i = cell m b (i / columns) (i % columns)
+
+  abbrev new-rows : List ℕ
+  new-rows = over number (columns * (m + 1)) (before .rows)
+
+  rows-by : RowsBy m b (before .rows) new-rows
+  rows-by =
+      record {
+        same-length = over-length number (columns * (m + 1)) (before .rows);
+        cells = λ s j l k. over-low number (columns * (m + 1)) (before .rows) (columns * s + j) (omega arith) rows-fit ∙ named s j k;
+        rest = over-high number (columns * (m + 1)) (before .rows);
+      }
+    where
+      named : (s j : ℕ) → j < columns → number (columns * s + j) ≡ cell m b s j
+      named s j k =
+          let a : (columns * s + j) / columns ≡ s = omega arith in
+          let c : (columns * s + j) % columns ≡ j = omega arith in
+          ap (λ (i : ℕ). cell m b i ((columns * s + j) % columns)) a ∙ ap (cell m b s) c
+
+  marked-by : (e : Engine) → (e ≡ marks → m + size b ≤ length (before .marks)) → (after : List ℕ) × Marked e (m + size b) (linesIn (chainOf m 0 b)) (before .marks) after
+  marked-by tables h = (before .marks, refl)
+  marked-by marks h =
+      let f : ℕ → ℕ = λ k. cond (has k (linesIn (chainOf m 0 b))) 1 0 in (
+        over f (m + size b) (before .marks),
+        record {
+          same-length = over-length f (m + size b) (before .marks);
+          marks-are = λ k l. over-low f (m + size b) (before .marks) k l (h refl);
+          rest = over-high f (m + size b) (before .marks);
+        },
+      )
+
+  some-profile : (e : Engine) → (e ≡ marks → m + size b ≤ length (before .marks)) → (r : Answer) × (after : Lent) × ProfileBy e m b before r after
+  some-profile e h =
+      let w = marked-by e h in (
+        Accepted (workOf b) (spanOf b) m (m + size b),
+        record { scratch = replicate (length (before .scratch)) 0; rows = new-rows; marks = w .0 },
+        record { answer = refl; rows = rows-by; scratch = refl; marked = w .1 },
+      )
+
+-- LAW: whatever is lent, some outcome meets the promise
+pub promise-met : (e : Engine) (s : List ℕ) (D M : ℕ) (before : Lent) → (r : Answer) × (after : Lent) × Promise e s D M before r after
+promise-met e s D M before = go (verdict s D M (enough e s D M before)) refl
+  where
+    marks-fit : (e : Engine) (k : ℕ) → k ≡ lineCount s → leb (marksRoom e s) (length (before .marks)) ≡ true → e ≡ marks → k ≤ length (before .marks)
+    marks-fit tables k l h q = clash (cc)
+    marks-fit marks k l h q = omega (arith, leb-true (lineCount s) (length (before .marks)) h)
+
+    go : (v : Verdict) → verdict s D M (enough e s D M before) ≡ v → (r : Answer) × (after : Lent) × Promise e s D M before r after
+    go (accepted t) a =
+        let f = accepted-fine s D M (enough e s D M before) t a in
+        let p = parts D M t f in
+        let x = both (leb (scratchRoom e D M) (length (before .scratch)) && leb (rowsRoom M) (length (before .rows))) (leb (marksRoom e s) (length (before .marks))) (accepted-is s D M (enough e s D M before) t a .0) in
+        let y = leb-true (rowsRoom M) (length (before .rows)) (both (leb (scratchRoom e D M) (length (before .scratch))) (leb (rowsRoom M) (length (before .rows))) (x .0) .1) in
+        let w = some-profile (length (p .heads)) (p .body) before (omega (arith, sites-le-M D M t f, sites-are D t p))
+        e (marks-fit e (length (p .heads) + size (p .body)) (sym (length-is D t p) ∙ accepted-length s D M (enough e s D M before) t a) (x .1)) in (
+          w .0,
+          w .1,
+          record {
+            when-accepted = λ u q. (let i : t ≡ u = cc in subst (λ (z : List Frame). Profile e z before (w .0) (w .1)) i (tree-profile D t p e before (w .0) (w .1) (w .2)));
+            when-refused = λ n k q. clash (cc);
+          },
+        )
+    go (refused n k) a = (
+      refusal n k,
+      before,
+      record {
+        when-accepted = λ u q. clash (cc);
+        when-refused = λ i j q. (let c : n ≡ i = cc in let d : k ≡ j = cc in (ap (λ (z : ℕ). refusal z k) c ∙ ap (refusal i) d, refl));
+      },
+    )

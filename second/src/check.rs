@@ -1,0 +1,237 @@
+//! The checks: every refusal in its order, and the shape of what is accepted.
+
+use crate::line::{self, Kind, Line, Place, CHARS};
+use crate::refusal::{Ground, Refusal};
+use crate::shape::{Invocation, Shape, Start};
+use std::collections::HashSet;
+
+/// "At most 65,536 lines."
+pub const MOST_LINES: usize = 65_536;
+
+/// "The caller gives a depth limit D, 1 to 64, counting the root, and a site limit M, 0 to 255."
+#[derive(Clone, Copy, Debug, PartialEq, Eq)]
+pub struct Limits {
+    pub depth: u64,
+    pub sites: u64,
+}
+
+/// The lengths of what the caller lends beside the trace; the table engine is lent no marks.
+#[derive(Clone, Copy, Debug, PartialEq, Eq)]
+pub struct Lent {
+    pub scratch: usize,
+    pub rows: usize,
+    pub answer: usize,
+    pub marks: Option<usize>,
+}
+
+impl Limits {
+    fn in_range(self) -> bool {
+        (1..=64).contains(&self.depth) && self.sites <= 255
+    }
+
+    /// "The table engine needs 4·D·(M+3) scratch numbers of 64 bits."
+    pub fn table_scratch(self) -> usize {
+        (4 * self.depth * (self.sites + 3)) as usize
+    }
+
+    /// "The marks engine needs 8·D."
+    pub fn marks_scratch(self) -> usize {
+        (8 * self.depth) as usize
+    }
+
+    /// "Both need 5·(M+1) row numbers."
+    pub fn rows(self) -> usize {
+        (5 * (self.sites + 1)) as usize
+    }
+
+    /// What the table engine needs.
+    pub fn for_tables(self) -> Lent {
+        Lent { scratch: self.table_scratch(), rows: self.rows(), answer: 4, marks: None }
+    }
+
+    /// What the marks engine needs for a number of lines: "one byte of marks a line".
+    pub fn for_marks(self, lines: usize) -> Lent {
+        Lent { scratch: self.marks_scratch(), rows: self.rows(), answer: 4, marks: Some(lines) }
+    }
+}
+
+impl Lent {
+    /// "any lent slice shorter than stated"
+    fn is_short(&self, limits: Limits, lines: usize) -> bool {
+        let need = match self.marks {
+            None => limits.for_tables(),
+            Some(_) => limits.for_marks(lines),
+        };
+        self.scratch < need.scratch || self.rows < need.rows || self.answer < need.answer || self.marks < need.marks
+    }
+}
+
+/// The shape of a trace, or the refusal: "Checks 1 to 4 run in that order. Then the first faulty line decides, and
+/// within it the smallest number. 14 comes last."
+pub fn trace(chars: &[u8], limits: Limits, lent: &Lent) -> Result<Shape, Refusal> {
+    let lines = before_lines(chars, limits, lent).map_err(|ground| ground.at(0))?;
+    let mut walk = Walk::new(limits);
+    for (number, chars) in chars.chunks(CHARS).enumerate() {
+        walk.step(chars).map_err(|ground| ground.at(number))?;
+    }
+    walk.finish().ok_or(Ground::Unfinished.at(lines))
+}
+
+/// Checks 1 to 4, and how many lines there are.
+pub fn before_lines(chars: &[u8], limits: Limits, lent: &Lent) -> Result<usize, Ground> {
+    let lines = chars.len() / CHARS;
+    if !limits.in_range() {
+        return Err(Ground::Limits);
+    }
+    if chars.len() % CHARS != 0 {
+        return Err(Ground::Length);
+    }
+    if lines > MOST_LINES {
+        return Err(Ground::Lines);
+    }
+    if lent.is_short(limits, lines) {
+        return Err(Ground::Room);
+    }
+    Ok(lines)
+}
+
+/// What stands after some lines, each of them good.
+struct Walk {
+    limits: Limits,
+    shape: Shape,
+    places: HashSet<Place>,
+    /// The open invocations, the root first; none after the root's return.
+    open: Vec<usize>,
+    counted: Counted,
+}
+
+impl Walk {
+    fn new(limits: Limits) -> Walk {
+        let root = Invocation { row: 0, start: Start::Root, first: 0, last: 0 };
+        Walk {
+            limits,
+            shape: Shape { lines: vec![], sites: 0, invocations: vec![root], directly_in: vec![] },
+            places: HashSet::new(),
+            open: vec![0],
+            counted: Counted::default(),
+        }
+    }
+
+    /// Takes one more line, or gives the smallest number that it is refused with.
+    fn step(&mut self, chars: &[u8]) -> Result<(), Ground> {
+        let line = line::read(chars)?;
+        let inside = *self.open.last().ok_or(Ground::AfterEnd)?;
+        match line.kind {
+            Kind::Site => self.site(&line)?,
+            Kind::Call => self.enter(&line, Start::Called(inside))?,
+            Kind::Spawn => self.enter(&line, Start::Spawned(inside))?,
+            Kind::Sync => (),
+            Kind::Return => self.leave(),
+            Kind::Cost => self.count(line.value)?,
+        }
+        self.shape.directly_in.push((line.kind != Kind::Site).then_some(inside));
+        self.shape.lines.push(line);
+        Ok(())
+    }
+
+    /// "All site lines come first and are numbered 1, 2, 3 and on. No two have the same place."
+    fn site(&mut self, line: &Line) -> Result<(), Ground> {
+        let only_sites = self.shape.sites == self.shape.lines.len();
+        if !only_sites || line.site != self.shape.sites as u64 + 1 {
+            return Err(Ground::SiteOrder);
+        }
+        if line.site > self.limits.sites {
+            return Err(Ground::SiteLimit);
+        }
+        if !self.places.insert(line.place()) {
+            return Err(Ground::Place);
+        }
+        self.shape.sites += 1;
+        self.shape.invocations[0].first += 1;
+        Ok(())
+    }
+
+    /// Opens the invocation that a call or spawn line begins.
+    fn enter(&mut self, line: &Line, start: Start) -> Result<(), Ground> {
+        if line.site == 0 || line.site > self.shape.sites as u64 {
+            return Err(Ground::Undeclared);
+        }
+        if self.open.len() as u64 >= self.limits.depth {
+            return Err(Ground::Depth);
+        }
+        let first = self.shape.lines.len() + 1;
+        self.open.push(self.shape.invocations.len());
+        self.shape.invocations.push(Invocation { row: line.site as usize, start, first, last: first });
+        Ok(())
+    }
+
+    /// Closes the innermost open invocation.
+    fn leave(&mut self) {
+        if let Some(invocation) = self.open.pop() {
+            self.shape.invocations[invocation].last = self.shape.lines.len();
+        }
+    }
+
+    /// Counts a cost in the total and in the row of each open invocation.
+    fn count(&mut self, value: u64) -> Result<(), Ground> {
+        let rows = self.open.iter().map(|&invocation| self.shape.invocations[invocation].row);
+        self.counted.add(value, rows)
+    }
+
+    /// The shape, if the root has returned.
+    fn finish(self) -> Option<Shape> {
+        self.open.is_empty().then_some(self.shape)
+    }
+}
+
+/// The total work and the work column, wide enough not to overflow. In each row no other sum is above the work, and
+/// calls are at most the lines, so these are the numbers that decide refusal 13.
+#[derive(Default)]
+struct Counted {
+    total: u128,
+    works: Vec<u128>,
+}
+
+impl Counted {
+    /// Adds a cost inside invocations of these rows, one for each that is open.
+    fn add(&mut self, value: u64, rows: impl Iterator<Item = usize>) -> Result<(), Ground> {
+        let mut most = grow(&mut self.total, value);
+        for row in rows {
+            if self.works.len() <= row {
+                self.works.resize(row + 1, 0);
+            }
+            most = most.max(grow(&mut self.works[row], value));
+        }
+        if most > u128::from(u64::MAX) {
+            return Err(Ground::Beyond64Bits);
+        }
+        Ok(())
+    }
+}
+
+/// Adds to a number and gives the sum.
+fn grow(number: &mut u128, value: u64) -> u128 {
+    *number += u128::from(value);
+    *number
+}
+
+#[cfg(test)]
+mod tests {
+    use super::*;
+
+    const MOST: u64 = u64::MAX;
+
+    #[test]
+    fn the_total_may_reach_64_bits_and_no_more() {
+        let mut counted = Counted { total: u128::from(MOST) - 5, works: vec![] };
+        assert_eq!(counted.add(5, [0].into_iter()), Ok(()));
+        assert_eq!(counted.add(1, [0].into_iter()), Err(Ground::Beyond64Bits));
+    }
+
+    #[test]
+    fn a_row_counts_a_cost_once_for_each_open_invocation() {
+        let mut counted = Counted { total: 0, works: vec![0, u128::from(MOST) - 8] };
+        assert_eq!(counted.add(4, [0, 1, 1].into_iter()), Ok(()));
+        assert_eq!(counted.add(1, [0, 1].into_iter()), Err(Ground::Beyond64Bits));
+    }
+}

@@ -1,0 +1,36 @@
+//! The comparison: cases, what each program makes of them, and the smallest case in which two programs differ.
+
+pub mod case;
+pub mod damage;
+pub mod fixed;
+pub mod generate;
+pub mod rng;
+pub mod shapes;
+pub mod shrink;
+pub mod tell;
+
+use crate::library::Library;
+use case::{Case, Outcome};
+
+/// What one program made of a case that another made something else of.
+pub struct Difference {
+    pub case: Case,
+    /// The program that is held against the expected one.
+    pub name: &'static str,
+    pub expected: Outcome,
+    pub found: Outcome,
+}
+
+/// Asks every program the same, and gives the first that does not do as the expected one does, on the smallest case
+/// that shows it.
+pub fn compare(
+    case: &Case,
+    expected: &dyn Library,
+    others: &[(&'static str, &dyn Library)],
+) -> Option<Box<Difference>> {
+    let right = case.ask(expected);
+    let (name, other) = others.iter().find(|(_, other)| case.ask(*other) != right)?;
+    let case = shrink::smallest(case, |case| case.ask(expected) != case.ask(*other));
+    let (expected, found) = (case.ask(expected), case.ask(*other));
+    Some(Box::new(Difference { case, name, expected, found }))
+}

@@ -1,0 +1,175 @@
+//! A case: what is asked, the room that is lent for it, and all that there is to see afterwards.
+
+use super::rng::Rng;
+use crate::check::{Lent, Limits};
+use crate::library::Library;
+use crate::line::CHARS;
+
+/// Something to ask a program, and the seed of the rubbish that fills the lent room before.
+#[derive(Clone, Debug, PartialEq, Eq)]
+pub struct Case {
+    pub question: Question,
+    pub rubbish: u64,
+}
+
+/// What is asked, and how long the lent room is.
+#[derive(Clone, Debug, PartialEq, Eq)]
+pub enum Question {
+    /// A trace, for both engines.
+    Engines { trace: Vec<u8>, limits: Limits, spare: Spare },
+    /// Characters, for the line reader.
+    ReadLine { line: Vec<u8>, frame: usize },
+    /// A frame, for the line writer.
+    WriteLine { frame: Vec<u64>, out: usize },
+    /// Rows, for the report writer.
+    Report { rows: Vec<u64>, count: u64, out: usize, written: usize },
+    /// A number and a line, for the writer of a refusal.
+    Refusal { number: u64, line: u64, out: usize, written: usize },
+}
+
+/// How much more than needed is lent to the engines; less than needed where it is negative.
+#[derive(Clone, Copy, Debug, Default, PartialEq, Eq)]
+pub struct Spare {
+    pub scratch: isize,
+    pub rows: isize,
+    pub answer: isize,
+    pub marks: isize,
+}
+
+/// All that there is to see after a case: every answer, and everything lent with what lies around it.
+#[derive(Clone, Debug, Default, PartialEq, Eq)]
+pub struct Outcome {
+    pub codes: Vec<(&'static str, u64)>,
+    pub bytes: Vec<Room<u8>>,
+    pub numbers: Vec<Room<u64>>,
+}
+
+/// Lent room between two strips that are not lent.
+#[derive(Clone, Debug, PartialEq, Eq)]
+pub struct Room<T> {
+    pub name: &'static str,
+    pub all: Vec<T>,
+}
+
+/// The length of the strip on each side of lent room.
+pub const STRIP: usize = 4;
+
+impl Case {
+    /// What a program makes of this case.
+    pub fn ask(&self, library: &dyn Library) -> Outcome {
+        let mut lender = Lender(Rng::new(self.rubbish));
+        match &self.question {
+            Question::Engines { trace, limits, spare } => lender.engines(library, trace, *limits, *spare),
+            Question::ReadLine { line, frame } => lender.read_line(library, line, *frame),
+            Question::WriteLine { frame, out } => lender.write_line(library, frame, *out),
+            Question::Report { rows, count, out, written } => lender.report(library, rows, *count, [*out, *written]),
+            Question::Refusal { number, line, out, written } => {
+                lender.refusal(library, [*number, *line], [*out, *written])
+            }
+        }
+    }
+}
+
+/// Lends room full of rubbish, the same for the same seed.
+struct Lender(Rng);
+
+impl Lender {
+    fn engines(&mut self, library: &dyn Library, trace: &[u8], limits: Limits, spare: Spare) -> Outcome {
+        let near = limits.nearest();
+        let mut outcome = self.tables(library, trace, limits, spare.over(near.for_tables()));
+        let marks = self.marks(library, trace, limits, spare.over(near.for_marks(trace.len() / CHARS)));
+        outcome.codes.extend(marks.codes);
+        outcome.bytes.extend(marks.bytes);
+        outcome.numbers.extend(marks.numbers);
+        outcome
+    }
+
+    fn tables(&mut self, library: &dyn Library, trace: &[u8], limits: Limits, lent: Lent) -> Outcome {
+        let mut trace = self.bytes("table engine's trace", trace.len()).holding(trace);
+        let mut scratch = self.numbers("table engine's scratch", lent.scratch);
+        let mut rows = self.numbers("table engine's rows", lent.rows);
+        let mut answer = self.numbers("table engine's answer", lent.answer);
+        let code = library.tables(trace.lent(), limits, scratch.lent(), rows.lent(), answer.lent());
+        Outcome { codes: vec![("table engine", code)], bytes: vec![trace], numbers: vec![answer, rows, scratch] }
+    }
+
+    fn marks(&mut self, library: &dyn Library, trace: &[u8], limits: Limits, lent: Lent) -> Outcome {
+        let mut trace = self.bytes("marks engine's trace", trace.len()).holding(trace);
+        let mut scratch = self.numbers("marks engine's scratch", lent.scratch);
+        let mut marks = self.bytes("marks engine's marks", lent.marks.unwrap_or(0));
+        let mut rows = self.numbers("marks engine's rows", lent.rows);
+        let mut answer = self.numbers("marks engine's answer", lent.answer);
+        let code = library.marks(trace.lent(), limits, scratch.lent(), marks.lent(), rows.lent(), answer.lent());
+        Outcome { codes: vec![("marks engine", code)], bytes: vec![trace, marks], numbers: vec![answer, rows, scratch] }
+    }
+
+    fn read_line(&mut self, library: &dyn Library, line: &[u8], frame: usize) -> Outcome {
+        let mut line = self.bytes("line", line.len()).holding(line);
+        let mut frame = self.numbers("frame", frame);
+        let code = library.read_line(line.lent(), frame.lent());
+        Outcome { codes: vec![("line reader", code)], bytes: vec![line], numbers: vec![frame] }
+    }
+
+    fn write_line(&mut self, library: &dyn Library, frame: &[u64], out: usize) -> Outcome {
+        let mut frame = self.numbers("frame", frame.len()).holding(frame);
+        let mut out = self.bytes("output", out);
+        let code = library.write_line(frame.lent(), out.lent());
+        Outcome { codes: vec![("line writer", code)], bytes: vec![out], numbers: vec![frame] }
+    }
+
+    fn report(&mut self, library: &dyn Library, rows: &[u64], count: u64, [out, written]: [usize; 2]) -> Outcome {
+        let mut rows = self.numbers("rows", rows.len()).holding(rows);
+        let mut out = self.bytes("output", out);
+        let mut written = self.numbers("count of characters", written);
+        let code = library.report(rows.lent(), count, out.lent(), written.lent());
+        Outcome { codes: vec![("report writer", code)], bytes: vec![out], numbers: vec![rows, written] }
+    }
+
+    fn refusal(&mut self, library: &dyn Library, [number, line]: [u64; 2], [out, written]: [usize; 2]) -> Outcome {
+        let mut out = self.bytes("output", out);
+        let mut written = self.numbers("count of characters", written);
+        let code = library.refusal(number, line, out.lent(), written.lent());
+        Outcome { codes: vec![("writer of a refusal", code)], bytes: vec![out], numbers: vec![written] }
+    }
+
+    fn bytes(&mut self, name: &'static str, length: usize) -> Room<u8> {
+        Room { name, all: (0..length + 2 * STRIP).map(|_| self.0.number() as u8).collect() }
+    }
+
+    fn numbers(&mut self, name: &'static str, length: usize) -> Room<u64> {
+        Room { name, all: (0..length + 2 * STRIP).map(|_| self.0.number()).collect() }
+    }
+}
+
+impl<T: Copy> Room<T> {
+    /// The part between the strips.
+    fn lent(&mut self) -> &mut [T] {
+        let end = self.all.len() - STRIP;
+        &mut self.all[STRIP..end]
+    }
+
+    /// This room with something in place of the rubbish.
+    fn holding(mut self, contents: &[T]) -> Room<T> {
+        self.lent().copy_from_slice(contents);
+        self
+    }
+}
+
+impl Limits {
+    /// The nearest limits that are in range: room is lent for these where a limit is refused.
+    fn nearest(self) -> Limits {
+        Limits { depth: self.depth.clamp(1, 64), sites: self.sites.min(255) }
+    }
+}
+
+impl Spare {
+    /// The lengths to lend where these are needed.
+    fn over(self, need: Lent) -> Lent {
+        Lent {
+            scratch: need.scratch.saturating_add_signed(self.scratch),
+            rows: need.rows.saturating_add_signed(self.rows),
+            answer: need.answer.saturating_add_signed(self.answer),
+            marks: need.marks.map(|marks| marks.saturating_add_signed(self.marks)),
+        }
+    }
+}

@@ -1,0 +1,159 @@
+//! Generated cases: traces, good and damaged, and questions to the readers and writers.
+
+use super::case::{Case, Question, Spare};
+use super::rng::Rng;
+use super::{damage, shapes};
+use crate::check::Limits;
+use crate::line::{chars, Fields, CHARS};
+use crate::report::{REFUSAL_CHARS, ROW_CHARS};
+use crate::trace::Trace;
+
+/// The case with a number, of a seed.
+pub fn case(seed: u64, number: u64) -> Case {
+    let mut rng = Rng::of_case(seed, number);
+    let question = match rng.below(20) {
+        0 => read_line(&mut rng),
+        1 => write_line(&mut rng),
+        2 => report(&mut rng),
+        3 => refusal(&mut rng),
+        _ => engines(&mut rng),
+    };
+    Case { question, rubbish: rng.number() }
+}
+
+/// Every trace that begins with a site line and has so many lines after it, each one of six: costs of 1 and 2, a sync, a
+/// call, a spawn and a return.
+pub fn every(lines: u32) -> impl Iterator<Item = Case> {
+    let of = move |number: u64| {
+        let mut trace = Trace::with_sites(1);
+        (0..lines).for_each(|place| one_of_six(&mut trace, number / 6_u64.pow(place) % 6));
+        let question = Question::Engines { trace: trace.chars, limits: SMALL, spare: Spare::default() };
+        Case { question, rubbish: number }
+    };
+    (0..6_u64.pow(lines)).map(of)
+}
+
+/// Limits that some of those traces break.
+const SMALL: Limits = Limits { depth: 3, sites: 1 };
+
+fn one_of_six(trace: &mut Trace, which: u64) {
+    match which {
+        0 | 1 => trace.cost(which + 1),
+        2 => trace.sync(),
+        3 => trace.call(1),
+        4 => trace.spawn(1),
+        _ => trace.leave(),
+    };
+}
+
+/// A trace for the engines: as often good with enough room as damaged in some way.
+fn engines(rng: &mut Rng) -> Question {
+    let mut trace = shapes::trace(rng);
+    let mut limits = limits(rng, &trace);
+    let mut spare = spare(rng);
+    if rng.once_in(2) {
+        damage::some(rng, &mut trace.chars, &mut limits, &mut spare);
+    }
+    Question::Engines { trace: trace.chars, limits, spare }
+}
+
+/// Limits that the trace keeps, often just so.
+fn limits(rng: &mut Rng, trace: &Trace) -> Limits {
+    if rng.once_in(50) {
+        return Limits { depth: 64, sites: 255 };
+    }
+    let (depth, sites) = used(trace);
+    Limits { depth: (depth + rng.below(3)).min(64), sites: (sites + rng.below(3)).min(255) }
+}
+
+/// The open depth and the sites of a good trace.
+fn used(trace: &Trace) -> (u64, u64) {
+    let kinds = trace.chars.chunks(CHARS).map(|line| line[1]);
+    let (mut open, mut depth, mut sites) = (1, 1, 0);
+    for kind in kinds {
+        match kind {
+            b'1' => sites += 1,
+            b'2' | b'3' => open += 1,
+            b'5' => open -= 1,
+            _ => (),
+        }
+        depth = depth.max(open);
+    }
+    (depth, sites)
+}
+
+/// As much room as is needed, or a little more.
+fn spare(rng: &mut Rng) -> Spare {
+    let mut more = || if rng.once_in(3) { rng.below(9) as isize } else { 0 };
+    Spare { scratch: more(), rows: more(), answer: more(), marks: more() }
+}
+
+/// Characters for the line reader: a good line, a damaged one, or nothing like one.
+fn read_line(rng: &mut Rng) -> Question {
+    let mut line = chars(&fields(rng));
+    match rng.below(4) {
+        0 => (0..rng.between(1, 2)).for_each(|_| damage::character(rng, &mut line)),
+        1 => line.resize(rng.index(2 * CHARS), b'0'),
+        _ => (),
+    }
+    Question::ReadLine { line, frame: near(rng, 5) }
+}
+
+/// A frame for the line writer, its fields often at an edge of the table or past it.
+fn write_line(rng: &mut Rng) -> Question {
+    let mut frame = fields(rng).to_vec();
+    if rng.once_in(3) {
+        let field = rng.index(5);
+        frame[field] = rng.pick(&[0, 1, 0xff, 0x100, 0xffff, 0x1_0000, 0xffff_ffff, 0x1_0000_0000, u64::MAX]);
+    }
+    frame.resize(near(rng, 5), 0);
+    Question::WriteLine { frame, out: near(rng, CHARS) }
+}
+
+/// Fields that mostly keep to the table.
+fn fields(rng: &mut Rng) -> Fields {
+    let site = rng.pick(&[0, 1, 2, 0xff, 0x100, 0xffff]);
+    let value = rng.pick(&[1, 9, 0x1234_5678, 0xffff_ffff]);
+    let (file, column) = (rng.pick(&[1, 2, 0xabcd, 0xffff]), rng.pick(&[1, 0x10, 0xffff]));
+    let good = [
+        [1, site, value, file, column],
+        [2, site, 0, 0, 0],
+        [3, site, 0, 0, 0],
+        [4, 0, 0, 0, 0],
+        [5, 0, 0, 0, 0],
+        [6, 0, value, 0, 0],
+    ];
+    let mut fields = rng.pick(&good);
+    if rng.once_in(4) {
+        let field = rng.index(5);
+        fields[field] = rng.below(9);
+    }
+    fields
+}
+
+/// Rows for the report writer.
+fn report(rng: &mut Rng) -> Question {
+    let sites = if rng.once_in(10) { rng.below(256) } else { rng.below(6) };
+    let count = if rng.once_in(8) { rng.pick(&[256, 257, 1 << 32, 1 << 60, u64::MAX]) } else { sites };
+    let rows = sites as usize + 1;
+    let numbers = (0..near(rng, 5 * rows)).map(|_| rng.number() >> rng.below(64)).collect();
+    Question::Report { rows: numbers, count, out: near(rng, ROW_CHARS * rows), written: near(rng, 1) }
+}
+
+/// A number and a line for the writer of a refusal.
+fn refusal(rng: &mut Rng) -> Question {
+    let number = if rng.once_in(4) { rng.pick(&[0, 255, 256, 1 << 32, u64::MAX]) } else { rng.between(1, 23) };
+    let most = [0xffff_ffff, 0x1_0000_0000, u64::MAX];
+    let line = if rng.once_in(4) { rng.pick(&most) } else { rng.below(65_537) };
+    Question::Refusal { number, line, out: near(rng, REFUSAL_CHARS), written: near(rng, 1) }
+}
+
+/// A length that is mostly enough, sometimes one short or none at all.
+fn near(rng: &mut Rng, need: usize) -> usize {
+    match rng.below(12) {
+        0 => need - 1,
+        1 => rng.index(need),
+        2..=4 => need + rng.index(9),
+        _ => need,
+    }
+}

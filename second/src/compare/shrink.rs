@@ -1,0 +1,210 @@
+//! From a case in which two programs differ to the smallest such case that can be found by leaving parts out.
+
+use super::case::{Case, Question, Spare};
+use crate::check::Limits;
+use crate::line::{chars, read, Fields, Kind, CHARS};
+use std::ops::Range;
+
+/// How much is tried for one case, counted in lines of all smaller cases together; a case counts as no less than 100.
+const MOST_TRIED: usize = 40_000_000;
+
+/// How many items in a row are left out at once, the most first.
+const RUNS: [usize; 7] = [4096, 1024, 256, 64, 16, 4, 1];
+
+/// The smallest case that was found to differ still; the case itself if nothing can be left out.
+pub fn smallest(case: &Case, differs: impl Fn(&Case) -> bool) -> Case {
+    let mut shrinker = Shrinker { case: case.clone(), differs, tried: 0 };
+    while shrinker.pass() {}
+    shrinker.case
+}
+
+struct Shrinker<D> {
+    case: Case,
+    differs: D,
+    tried: usize,
+}
+
+impl<D: Fn(&Case) -> bool> Shrinker<D> {
+    /// Tries every way to make the case smaller once, and tells whether any worked.
+    fn pass(&mut self) -> bool {
+        let mut smaller = false;
+        for run in RUNS {
+            smaller |= self.leave_out_runs(run);
+        }
+        smaller |= self.unwrap_invocations();
+        smaller |= self.smaller_values();
+        smaller | self.smaller_room()
+    }
+
+    /// Keeps a smaller case if it still differs.
+    fn keep(&mut self, question: Question) -> bool {
+        let case = Case { question, rubbish: self.case.rubbish };
+        self.tried += self.trace().map_or(0, |trace| trace.len() / CHARS).max(100);
+        let kept = self.tried <= MOST_TRIED && case != self.case && (self.differs)(&case);
+        if kept {
+            self.case = case;
+        }
+        kept
+    }
+
+    /// The trace, if the case has one.
+    fn trace(&self) -> Option<&[u8]> {
+        match &self.case.question {
+            Question::Engines { trace, .. } => Some(trace),
+            _ => None,
+        }
+    }
+
+    /// Keeps the case with another trace if it still differs.
+    fn keep_trace(&mut self, changed: Vec<u8>) -> bool {
+        match self.case.question {
+            Question::Engines { limits, spare, .. } => self.keep(Question::Engines { trace: changed, limits, spare }),
+            _ => false,
+        }
+    }
+
+    /// Leaves out runs of whole items wherever that keeps the difference.
+    fn leave_out_runs(&mut self, run: usize) -> bool {
+        let mut smaller = false;
+        let mut line = 0;
+        while let Some(lines) = self.trace().and_then(|trace| items(trace, line, run)) {
+            let end = lines.end;
+            let rest = self.trace().map(|trace| without(trace, lines));
+            if rest.is_some_and(|rest| self.keep_trace(rest)) {
+                smaller = true;
+            } else {
+                line = if run == 1 { line + 1 } else { end };
+            }
+        }
+        smaller
+    }
+
+    /// Puts the body of an invocation in place of the invocation wherever that keeps the difference.
+    fn unwrap_invocations(&mut self) -> bool {
+        let mut smaller = false;
+        let mut line = 0;
+        while let Some(lines) = self.trace().and_then(|trace| items(trace, line, 1)) {
+            let rest = self.trace().map(|trace| without(&without(trace, lines.end - 1..lines.end), line..line + 1));
+            let whole = lines.len() > 1;
+            if whole && rest.is_some_and(|rest| self.keep_trace(rest)) {
+                smaller = true;
+            } else {
+                line += 1;
+            }
+        }
+        smaller
+    }
+
+    /// Lowers the fields of good lines wherever that keeps the difference.
+    fn smaller_values(&mut self) -> bool {
+        let mut smaller = false;
+        let lines = self.trace().map_or(0, |trace| trace.len() / CHARS);
+        for line in 0..lines {
+            let lower = self.trace().map_or(vec![], |trace| lower_lines(trace, line));
+            smaller |= lower.into_iter().any(|trace| self.keep_trace(trace));
+        }
+        smaller
+    }
+
+    /// Lowers limits and lends no more than is needed wherever that keeps the difference.
+    fn smaller_room(&mut self) -> bool {
+        lower_questions(&self.case.question).into_iter().any(|question| self.keep(question))
+    }
+}
+
+/// The lines of `run` items that follow each other from a line on, if there are so many.
+fn items(trace: &[u8], line: usize, run: usize) -> Option<Range<usize>> {
+    let lines = trace.len().div_ceil(CHARS);
+    let mut end = line;
+    for _ in 0..run {
+        end = (end < lines).then(|| item_end(trace, end))?;
+    }
+    Some(line..end)
+}
+
+/// The line after an item: after its own return for a call or spawn that has one, otherwise the next.
+fn item_end(trace: &[u8], line: usize) -> usize {
+    let mut open = 0_usize;
+    for (number, chars) in trace.chunks(CHARS).enumerate().skip(line) {
+        match read(chars).map(|line| line.kind) {
+            Ok(Kind::Call | Kind::Spawn) => open += 1,
+            Ok(Kind::Return) => open = open.saturating_sub(1),
+            _ => (),
+        }
+        if open == 0 {
+            return number + 1;
+        }
+    }
+    line + 1
+}
+
+/// A trace without some of its lines.
+fn without(trace: &[u8], lines: Range<usize>) -> Vec<u8> {
+    let end = (lines.end * CHARS).min(trace.len());
+    [&trace[..lines.start * CHARS], &trace[end..]].concat()
+}
+
+/// The trace with one field of one line lower, in each way that is tried.
+fn lower_lines(trace: &[u8], line: usize) -> Vec<Vec<u8>> {
+    let range = line * CHARS..(line + 1) * CHARS;
+    let Ok(old) = read(&trace[range.clone()]) else { return vec![] };
+    let mut lower = vec![];
+    for fields in lower_fields(old.fields()) {
+        let mut changed = trace.to_vec();
+        changed[range.clone()].copy_from_slice(&chars(&fields));
+        lower.push(changed);
+    }
+    lower
+}
+
+/// Fields with one of them lower and not zero; of kinds only a spawn becomes a call.
+fn lower_fields(fields: Fields) -> Vec<Fields> {
+    let mut lower = vec![];
+    if fields[0] == Kind::Spawn.number() {
+        lower.push([Kind::Call.number(), fields[1], fields[2], fields[3], fields[4]]);
+    }
+    for (field, &old) in fields.iter().enumerate().skip(1) {
+        for new in [1, old / 2, old.saturating_sub(1)].into_iter().filter(|&new| 0 < new && new < old) {
+            let mut changed = fields;
+            changed[field] = new;
+            lower.push(changed);
+        }
+    }
+    lower
+}
+
+/// The question with lower limits, less room or fewer numbers, in each way that is tried.
+fn lower_questions(question: &Question) -> Vec<Question> {
+    match question {
+        Question::Engines { trace, limits, spare } => {
+            let of = |limits, spare| Question::Engines { trace: trace.clone(), limits, spare };
+            let lower = lower_limits(*limits).map(|limits| of(limits, *spare));
+            lower.chain(lower_spares(*spare).map(|spare| of(*limits, spare))).collect()
+        }
+        Question::ReadLine { .. } | Question::WriteLine { .. } | Question::Refusal { .. } => vec![],
+        Question::Report { rows, count, out, written } => {
+            let (out, written) = (*out, *written);
+            let of = |rows: &[u64], count| Question::Report { rows: rows.to_vec(), count, out, written };
+            vec![of(&rows[..rows.len() / 2], count / 2), of(rows, count / 2), of(&vec![0; rows.len()], *count)]
+        }
+    }
+}
+
+/// Limits with one of the two lower.
+fn lower_limits(limits: Limits) -> impl Iterator<Item = Limits> {
+    let depths = [1, limits.depth / 2, limits.depth.saturating_sub(1)].map(|depth| Limits { depth, ..limits });
+    let sites = [0, limits.sites / 2, limits.sites.saturating_sub(1)].map(|sites| Limits { sites, ..limits });
+    let lower = move |new: &Limits| new.depth < limits.depth || new.sites < limits.sites;
+    depths.into_iter().chain(sites).filter(lower)
+}
+
+/// Room with one of the slices as long as needed and no longer.
+fn lower_spares(spare: Spare) -> impl Iterator<Item = Spare> {
+    let just = [
+        Spare { scratch: 0, ..spare },
+        Spare { rows: 0, ..spare },
+        Spare { answer: 0, ..spare },
+        Spare { marks: 0, ..spare },
+    ];
+    just.into_iter().filter(move |new| *new != spare)
+}

@@ -1,0 +1,92 @@
+//! A case and a difference in words.
+
+use super::case::{Case, Outcome, Question, Room, Spare, STRIP};
+use super::Difference;
+use crate::line::CHARS;
+use crate::trace::events;
+use std::fmt::{Display, Formatter, Result};
+
+/// The most places of one lent slice that are told.
+const MOST_PLACES: usize = 6;
+
+impl Display for Difference {
+    fn fmt(&self, f: &mut Formatter) -> Result {
+        writeln!(f, "{}", self.case)?;
+        writeln!(f, "the second program and {} differ:", self.name)?;
+        differing(f, self.name, &self.expected, &self.found)
+    }
+}
+
+impl Display for Case {
+    fn fmt(&self, f: &mut Formatter) -> Result {
+        match &self.question {
+            Question::Engines { trace, limits, spare } => {
+                let (depth, sites) = (limits.depth, limits.sites);
+                writeln!(f, "D = {depth}, M = {sites}{spare}")?;
+                writeln!(f, "a trace of {} characters{}:", trace.len(), told_events(trace))?;
+                trace.chunks(CHARS).enumerate().try_for_each(|(n, line)| writeln!(f, "{n:6}  {}", shown(line)))
+            }
+            Question::ReadLine { line, frame } => writeln!(f, "read {}; frame of {frame}", shown(line)),
+            Question::WriteLine { frame, out } => writeln!(f, "write {frame:x?}; output of {out}"),
+            Question::Report { rows, count, out, written } => {
+                let (given, room) = (rows.len(), format!("output of {out}, count of {written}"));
+                writeln!(f, "report of {count} sites from {given} row numbers; {room}\nrows: {rows:x?}")
+            }
+            Question::Refusal { number, line, out, written } => {
+                writeln!(f, "print refusal {number} with line {line}; output of {out}, count of {written}")
+            }
+        }
+    }
+}
+
+/// What is lent beyond or below what is needed, each slice after a comma.
+impl Display for Spare {
+    fn fmt(&self, f: &mut Formatter) -> Result {
+        let spares = [("scratch", self.scratch), ("rows", self.rows), ("answer", self.answer), ("marks", self.marks)];
+        let mut told = spares.into_iter().filter(|(_, spare)| *spare != 0);
+        told.try_for_each(|(name, spare)| write!(f, ", {name} {spare:+}"))
+    }
+}
+
+/// The events of a trace that is good and not too long to read.
+fn told_events(trace: &[u8]) -> String {
+    let short = events(trace).filter(|text| (1..200).contains(&text.len()));
+    short.map_or(String::new(), |text| format!(" ({text})"))
+}
+
+/// Characters with the line feed at the end left out, and any other that cannot be seen escaped.
+fn shown(chars: &[u8]) -> String {
+    let line = chars.strip_suffix(b"\n").unwrap_or(chars);
+    let missing = if line.len() == chars.len() { " (no line feed)" } else { "" };
+    format!("{}{missing}", line.escape_ascii())
+}
+
+/// Everything in which two outcomes of one case differ.
+fn differing(f: &mut Formatter, name: &str, expected: &Outcome, found: &Outcome) -> Result {
+    for ((of, right), (_, other)) in expected.codes.iter().zip(&found.codes).filter(|(right, other)| right != other) {
+        writeln!(f, "  {of}: second {}, {name} {}", verdict(*right), verdict(*other))?;
+    }
+    let mut bytes = expected.bytes.iter().zip(&found.bytes);
+    bytes.try_for_each(|(right, other)| differing_room(f, name, right, other))?;
+    let mut numbers = expected.numbers.iter().zip(&found.numbers);
+    numbers.try_for_each(|(right, other)| differing_room(f, name, right, other))
+}
+
+/// The first places at which two rooms differ.
+fn differing_room<T: PartialEq + Display>(f: &mut Formatter, name: &str, right: &Room<T>, other: &Room<T>) -> Result {
+    let pairs = right.all.iter().zip(&other.all).enumerate();
+    for (n, (right_value, other_value)) in pairs.filter(|(_, (a, b))| a != b).take(MOST_PLACES) {
+        let place = n as isize - STRIP as isize;
+        let outside = if n < STRIP || n >= right.all.len() - STRIP { " (not lent)" } else { "" };
+        writeln!(f, "  {}, number {place}{outside}: second {right_value}, {name} {other_value}", right.name)?;
+    }
+    Ok(())
+}
+
+/// An answer code in words.
+fn verdict(code: u64) -> String {
+    match code {
+        0 => "accepted".into(),
+        _ => format!("refused {} at line {}", code % 256, code / 256),
+    }
+}

@@ -1,0 +1,91 @@
+//! The heaviest chains as heaviest paths of a graph: the way for long traces, in time linear in the lines.
+//!
+//! The graph has a point before each line from the first after the sites to the root's return. An edge says which point
+//! comes next: after most lines the one before the next line; after a spawn both the one before the child's first line
+//! and the one after the child's return; after a spawned child's return the one before the line that joins it, which is
+//! the next sync directly in its spawner or the spawner's return. A cost line's edge weighs its value, any other
+//! nothing. One cost line comes before another in series exactly when a path leads from the end of its edge to the
+//! other's start (the tests try it on many traces), so the heaviest chains are the costs of the heaviest paths. Every
+//! edge leads to a later line, so one pass from the last line to the first weighs every path to the end.
+
+use crate::chain::Chains;
+use crate::line::Kind;
+use crate::shape::{Shape, Start};
+
+/// The spans and the chosen chain of a trace.
+pub fn search(shape: &Shape) -> Chains {
+    let graph = Graph::new(shape);
+    let rest = graph.rest(shape);
+    let spans = shape.invocations.iter().map(|own| rest[own.first] - rest[own.last]).collect();
+    Chains { spans, chosen: graph.chosen(shape, &rest) }
+}
+
+/// Where the edges of each point lead: one after the line, and for a spawn one past the child.
+#[derive(Clone, Debug)]
+pub struct Graph {
+    next: Vec<usize>,
+    past: Vec<Option<usize>>,
+}
+
+impl Graph {
+    /// The graph of a trace; the root's return leads to one point more, the end.
+    pub fn new(shape: &Shape) -> Graph {
+        let mut next: Vec<usize> = (1..=shape.lines.len()).collect();
+        let mut past = vec![None; shape.lines.len()];
+        let joins = joins(shape);
+        for (own, join) in shape.invocations.iter().zip(joins) {
+            if let Some(join) = join {
+                next[own.last] = join;
+                past[own.first - 1] = Some(own.last + 1);
+            }
+        }
+        Graph { next, past }
+    }
+
+    /// The points that follow a point.
+    pub fn following(&self, point: usize) -> impl Iterator<Item = usize> {
+        [Some(self.next[point]), self.past[point]].into_iter().flatten()
+    }
+
+    /// For each point the weight of the heaviest path from it to the end.
+    fn rest(&self, shape: &Shape) -> Vec<u64> {
+        let mut rest = vec![0; shape.lines.len() + 1];
+        for point in (shape.sites..shape.lines.len()).rev() {
+            let heaviest = self.following(point).map(|to| rest[to]).max().unwrap_or(0);
+            rest[point] = shape.lines[point].cost() + heaviest;
+        }
+        rest
+    }
+
+    /// The cost lines of the first of the heaviest paths. At a spawn the child's lines come before those past it, so the
+    /// path goes past the child only where that is heavier.
+    fn chosen(&self, shape: &Shape, rest: &[u64]) -> Vec<usize> {
+        let mut chosen = vec![];
+        let mut point = shape.sites;
+        while point < shape.lines.len() {
+            if shape.lines[point].kind == Kind::Cost {
+                chosen.push(point);
+            }
+            let next = self.next[point];
+            point = self.past[point].filter(|&past| rest[past] > rest[next]).unwrap_or(next);
+        }
+        chosen
+    }
+}
+
+/// For each spawned invocation the line that joins it: the next sync directly in its spawner, or the spawner's return.
+fn joins(shape: &Shape) -> Vec<Option<usize>> {
+    let mut joins = vec![None; shape.invocations.len()];
+    let mut waiting = vec![vec![]; shape.invocations.len()];
+    for (line, owner) in shape.directly_in.iter().enumerate() {
+        let Some(own) = *owner else { continue };
+        let kind = shape.lines[line].kind;
+        if kind == Kind::Sync || kind == Kind::Return {
+            waiting[own].drain(..).for_each(|child: usize| joins[child] = Some(line));
+        }
+        if let (Kind::Return, Start::Spawned(spawner)) = (kind, shape.invocations[own].start) {
+            waiting[spawner].push(own);
+        }
+    }
+    joins
+}

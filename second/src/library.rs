@@ -1,0 +1,152 @@
+//! The six functions of the C interface, and the second program behind them.
+//!
+//! Each answers 0 for accepted and otherwise number + 256 · line, and a refusal leaves everything lent as it was. The
+//! interface lends some slices that the rules do not speak of: the answer, the frame, the count of characters written.
+//! One that is too short is refusal 4, in the order of the numbers: after 1, 2 and 3, before 5 and 6.
+
+use crate::chain::{self, Chains};
+use crate::check::{self, Lent, Limits};
+use crate::graph;
+use crate::line::{self, CHARS};
+use crate::refusal::{Ground, Refusal};
+use crate::report;
+use crate::rows::{profile, Profile};
+use crate::shape::Shape;
+
+/// What both programs can be asked. Slices are lent; an answer is total work, total span, sites and lines, a frame is
+/// kind, site, value, file and column.
+pub trait Library {
+    /// The table engine.
+    fn tables(&self, trace: &[u8], limits: Limits, scratch: &mut [u64], rows: &mut [u64], answer: &mut [u64]) -> u64;
+    /// The marks engine.
+    fn marks(
+        &self,
+        trace: &[u8],
+        limits: Limits,
+        scratch: &mut [u64],
+        marks: &mut [u8],
+        rows: &mut [u64],
+        answer: &mut [u64],
+    ) -> u64;
+    /// The line reader.
+    fn read_line(&self, line: &[u8], frame: &mut [u64]) -> u64;
+    /// The line writer.
+    fn write_line(&self, frame: &[u64], out: &mut [u8]) -> u64;
+    /// The report writer.
+    fn report(&self, rows: &[u64], count: u64, out: &mut [u8], written: &mut [u64]) -> u64;
+    /// The writer of a refusal.
+    fn refusal(&self, number: u64, line: u64, out: &mut [u8], written: &mut [u64]) -> u64;
+}
+
+/// The second program, with the way in which it looks for chains.
+#[derive(Clone, Copy)]
+pub struct Second {
+    pub search: fn(&Shape) -> Chains,
+}
+
+/// The most lines for which pairs are searched.
+const PAIRS_LINES: usize = 300;
+
+impl Second {
+    /// By pairs of lines where the trace is short enough for it, otherwise by paths.
+    pub fn new() -> Second {
+        Second {
+            search: |shape| if shape.lines.len() <= PAIRS_LINES { chain::search(shape) } else { graph::search(shape) },
+        }
+    }
+
+    /// By paths always.
+    pub fn by_paths() -> Second {
+        Second { search: graph::search }
+    }
+
+    /// The profile of a trace, or its refusal.
+    pub fn profile(&self, trace: &[u8], limits: Limits, lent: &Lent) -> Result<Profile, Refusal> {
+        let shape = check::trace(trace, limits, lent)?;
+        Ok(profile(&shape, &(self.search)(&shape)))
+    }
+}
+
+impl Default for Second {
+    fn default() -> Second {
+        Second::new()
+    }
+}
+
+impl Library for Second {
+    fn tables(&self, trace: &[u8], limits: Limits, scratch: &mut [u64], rows: &mut [u64], answer: &mut [u64]) -> u64 {
+        let lent = Lent { scratch: scratch.len(), rows: rows.len(), answer: answer.len(), marks: None };
+        code(self.profile(trace, limits, &lent).map(|profile| fill(&profile, scratch, rows, answer)))
+    }
+
+    fn marks(
+        &self,
+        trace: &[u8],
+        limits: Limits,
+        scratch: &mut [u64],
+        marks: &mut [u8],
+        rows: &mut [u64],
+        answer: &mut [u64],
+    ) -> u64 {
+        let lent = Lent { scratch: scratch.len(), rows: rows.len(), answer: answer.len(), marks: Some(marks.len()) };
+        code(self.profile(trace, limits, &lent).map(|profile| {
+            fill(&profile, scratch, rows, answer);
+            put(marks, &profile.marks);
+        }))
+    }
+
+    fn read_line(&self, line: &[u8], frame: &mut [u64]) -> u64 {
+        if line.len() == CHARS && frame.len() < 5 {
+            return code(Err(Ground::Room.at(0)));
+        }
+        at_0(line::read(line).map(|line| put(frame, &line.fields())))
+    }
+
+    fn write_line(&self, frame: &[u64], out: &mut [u8]) -> u64 {
+        let Some(fields) = frame.first_chunk() else {
+            return code(Err(Ground::Room.at(0)));
+        };
+        if out.len() < CHARS {
+            return code(Err(Ground::Room.at(0)));
+        }
+        at_0(line::write(fields).map(|chars| put(out, &chars)))
+    }
+
+    fn report(&self, rows: &[u64], count: u64, out: &mut [u8], written: &mut [u64]) -> u64 {
+        at_0(report::report(rows, count, out.len()).and_then(|text| put_text(&text, out, written)))
+    }
+
+    fn refusal(&self, number: u64, line: u64, out: &mut [u8], written: &mut [u64]) -> u64 {
+        at_0(report::refusal(number, line, out.len()).and_then(|text| put_text(&text, out, written)))
+    }
+}
+
+/// "Row numbers 0 to 5·(sites+1)-1 hold the rows and the rest are unchanged. The whole scratch is zero."
+fn fill(profile: &Profile, scratch: &mut [u64], rows: &mut [u64], answer: &mut [u64]) {
+    scratch.fill(0);
+    put(rows, profile.rows.as_flattened());
+    put(answer, &profile.answer);
+}
+
+/// Text into lent room, and how many characters it has: "output beyond them is unchanged".
+fn put_text(text: &str, out: &mut [u8], written: &mut [u64]) -> Result<(), Ground> {
+    let count = written.first_mut().ok_or(Ground::Room)?;
+    *count = text.len() as u64;
+    put(out, text.as_bytes());
+    Ok(())
+}
+
+/// Copies to the beginning of lent room.
+fn put<T: Copy>(room: &mut [T], values: &[T]) {
+    room[..values.len()].copy_from_slice(values);
+}
+
+/// 0 for accepted, otherwise number + 256 · line.
+fn code(result: Result<(), Refusal>) -> u64 {
+    result.map_or_else(|refusal| refusal.number() + 256 * refusal.line, |()| 0)
+}
+
+/// The code of what is refused with line 0.
+fn at_0(result: Result<(), Ground>) -> u64 {
+    code(result.map_err(|ground| ground.at(0)))
+}

@@ -1,0 +1,203 @@
+//! A trace line: its characters, its five fields and the table that they keep to.
+
+use crate::refusal::Ground;
+use std::ops::RangeInclusive;
+
+/// "23 characters: 22 digits from `0`-`9`, `a`-`f`, then a line feed."
+pub const CHARS: usize = 23;
+
+/// The digits of each field: "kind (2 digits), site (4), value (8), file (4), column (4)".
+pub const WIDTHS: [usize; 5] = [2, 4, 8, 4, 4];
+
+/// Kind, site, value, file and column as plain numbers, whether or not they keep to the table.
+pub type Fields = [u64; 5];
+
+/// What a line says happened.
+#[derive(Clone, Copy, Debug, PartialEq, Eq)]
+pub enum Kind {
+    Site,
+    Call,
+    Spawn,
+    Sync,
+    Return,
+    Cost,
+}
+
+/// "file, line and column"
+pub type Place = [u64; 3];
+
+/// A line that keeps to the table.
+#[derive(Clone, Copy, Debug, PartialEq, Eq)]
+pub struct Line {
+    pub kind: Kind,
+    pub site: u64,
+    pub value: u64,
+    pub file: u64,
+    pub column: u64,
+}
+
+impl Kind {
+    /// The kind with this number, if there is one.
+    pub fn numbered(number: u64) -> Option<Kind> {
+        match number {
+            1 => Some(Kind::Site),
+            2 => Some(Kind::Call),
+            3 => Some(Kind::Spawn),
+            4 => Some(Kind::Sync),
+            5 => Some(Kind::Return),
+            6 => Some(Kind::Cost),
+            _ => None,
+        }
+    }
+
+    /// The number that the first two digits show.
+    pub fn number(self) -> u64 {
+        match self {
+            Kind::Site => 1,
+            Kind::Call => 2,
+            Kind::Spawn => 3,
+            Kind::Sync => 4,
+            Kind::Return => 5,
+            Kind::Cost => 6,
+        }
+    }
+
+    /// What the table lets site, value, file and column be. "Unused fields are zero."
+    fn table(self) -> [RangeInclusive<u64>; 4] {
+        const UNUSED: RangeInclusive<u64> = 0..=0;
+        const ANY_SITE: RangeInclusive<u64> = 0..=0xffff;
+        match self {
+            Kind::Site => [ANY_SITE, 1..=0xffff_ffff, 1..=0xffff, 1..=0xffff],
+            Kind::Call | Kind::Spawn => [ANY_SITE, UNUSED, UNUSED, UNUSED],
+            Kind::Sync | Kind::Return => [UNUSED, UNUSED, UNUSED, UNUSED],
+            Kind::Cost => [UNUSED, 1..=0xffff_ffff, UNUSED, UNUSED],
+        }
+    }
+}
+
+impl Line {
+    /// The line with these fields, or refusal 6 "where a field breaks the table".
+    pub fn from_fields(fields: &Fields) -> Result<Line, Ground> {
+        let [number, rest @ ..] = *fields;
+        let kind = Kind::numbered(number).ok_or(Ground::Table)?;
+        let keeps = kind.table().iter().zip(&rest).all(|(range, field)| range.contains(field));
+        let [site, value, file, column] = rest;
+        keeps.then_some(Line { kind, site, value, file, column }).ok_or(Ground::Table)
+    }
+
+    /// Kind, site, value, file and column.
+    pub fn fields(&self) -> Fields {
+        [self.kind.number(), self.site, self.value, self.file, self.column]
+    }
+
+    /// Where a site line says that its site stands.
+    pub fn place(&self) -> Place {
+        [self.file, self.value, self.column]
+    }
+
+    /// The cost that this line adds: its value if it is a cost line, otherwise nothing.
+    pub fn cost(&self) -> u64 {
+        match self.kind {
+            Kind::Cost => self.value,
+            _ => 0,
+        }
+    }
+}
+
+/// "The line reader gives refusal 2 unless it is lent exactly 23 characters, then 5, then 6."
+pub fn read(chars: &[u8]) -> Result<Line, Ground> {
+    if chars.len() != CHARS {
+        return Err(Ground::Length);
+    }
+    Line::from_fields(&fields_of(chars).ok_or(Ground::Character)?)
+}
+
+/// "The line writer takes a frame and gives 23 characters, or refusal 6."
+pub fn write(fields: &Fields) -> Result<Vec<u8>, Ground> {
+    Line::from_fields(fields).map(|_| chars(fields))
+}
+
+/// The characters of fields that are not too wide, whether or not they keep to the table.
+pub fn chars(fields: &Fields) -> Vec<u8> {
+    let digits: String = fields.iter().zip(WIDTHS).map(|(field, width)| format!("{field:0width$x}")).collect();
+    (digits + "\n").into_bytes()
+}
+
+/// The five numbers that 23 characters show, if each of them is right.
+fn fields_of(chars: &[u8]) -> Option<Fields> {
+    let (feed, mut digits) = chars.split_last()?;
+    let mut fields = [0; 5];
+    for (field, width) in fields.iter_mut().zip(WIDTHS) {
+        let (own, rest) = digits.split_at(width);
+        *field = own.iter().try_fold(0, |number, &c| Some(16 * number + digit(c)?))?;
+        digits = rest;
+    }
+    (*feed == b'\n').then_some(fields)
+}
+
+/// What a digit is worth: "digits from `0`-`9`, `a`-`f`".
+fn digit(c: u8) -> Option<u64> {
+    match c {
+        b'0'..=b'9' => Some(u64::from(c - b'0')),
+        b'a'..=b'f' => Some(u64::from(c - b'a') + 10),
+        _ => None,
+    }
+}
+
+#[cfg(test)]
+mod tests {
+    use super::*;
+
+    const SITE: &[u8] = b"0100020000001400010009\n";
+
+    #[test]
+    fn a_site_line_is_read_field_by_field() {
+        assert_eq!(read(SITE).map(|line| line.fields()), Ok([1, 2, 20, 1, 9]));
+    }
+
+    #[test]
+    fn what_is_written_is_what_was_read() {
+        assert_eq!(write(&[1, 2, 20, 1, 9]).as_deref(), Ok(SITE));
+        assert_eq!(write(&[6, 0, 0xffff_ffff, 0, 0]).as_deref(), Ok(&b"060000ffffffff00000000\n"[..]));
+    }
+
+    #[test]
+    fn length_comes_before_characters_and_characters_before_the_table() {
+        assert_eq!(read(b"zz"), Err(Ground::Length));
+        assert_eq!(read(&[SITE, b"\n"].concat()), Err(Ground::Length));
+        assert_eq!(read(b"99000200000014000100g9\n"), Err(Ground::Character));
+        assert_eq!(read(b"9900020000001400010009\n"), Err(Ground::Table));
+    }
+
+    #[test]
+    fn the_last_character_is_a_line_feed_and_capitals_are_no_digits() {
+        assert_eq!(read(b"05000000000000000000000"), Err(Ground::Character));
+        assert_eq!(read(b"0600000000000A00000000\n"), Err(Ground::Character));
+        assert_eq!(read(b"050000000000000000000\n\n"), Err(Ground::Character));
+    }
+
+    #[test]
+    fn each_bound_of_the_table_is_kept() {
+        for good in [[1, 0, 1, 1, 1], [1, 0xffff, 0xffff_ffff, 0xffff, 0xffff], [2, 0, 0, 0, 0], [3, 0xffff, 0, 0, 0]] {
+            assert!(write(&good).is_ok(), "{good:?}");
+        }
+        for bad in [
+            [0, 0, 0, 0, 0],
+            [7, 0, 1, 0, 0],
+            [0x106, 0, 1, 0, 0],
+            [1, 1, 0, 1, 1],
+            [1, 1, 1, 0, 1],
+            [1, 1, 1, 1, 0],
+            [1, 0x1_0000, 1, 1, 1],
+            [2, 1, 1, 0, 0],
+            [3, 1, 0, 1, 0],
+            [4, 1, 0, 0, 0],
+            [5, 0, 0, 0, 1],
+            [6, 0, 0, 0, 0],
+            [6, 1, 1, 0, 0],
+            [6, 0, 0x1_0000_0000, 0, 0],
+        ] {
+            assert_eq!(write(&bad), Err(Ground::Table), "{bad:?}");
+        }
+    }
+}

@@ -1,0 +1,266 @@
+//! A plain engine, written to be fast: what the proved engines are timed against. It makes every check and gives every
+//! number of the slow ways, with which the tests hold it equal.
+//!
+//! One pass over the lines checks them and keeps three weights for each open invocation: of the blocks that a sync has
+//! ended, along the present block, and of the block's heaviest branch that ends in a spawned child. Where a block ends,
+//! the lines that lead into the heaviest branch and out of it are told so; then a walk along those that are left is the
+//! chosen chain.
+
+use crate::check::{before_lines, Lent, Limits};
+use crate::line::CHARS;
+use crate::refusal::{Ground, Refusal};
+use crate::rows::{Profile, Row};
+
+/// The profile of a trace, or its refusal.
+pub fn profile(trace: &[u8], limits: Limits, lent: &Lent) -> Result<Profile, Refusal> {
+    let lines = before_lines(trace, limits, lent).map_err(|ground| ground.at(0))?;
+    let mut engine = Engine::new(limits, lines);
+    for (number, chars) in trace.chunks_exact(CHARS).enumerate() {
+        let chars = chars.try_into().expect("a whole line");
+        engine.line(number as u32, chars).map_err(|ground| ground.at(number))?;
+    }
+    engine.finish().ok_or(Ground::Unfinished.at(lines))
+}
+
+const SITE: u8 = 1;
+const CALL: u8 = 2;
+const SPAWN: u8 = 3;
+const SYNC: u8 = 4;
+const RETURN: u8 = 5;
+const COST: u8 = 6;
+
+/// What a character is worth as a digit; above 15 if it is none.
+const WORTH: [u8; 256] = {
+    let mut worth = [0xff; 256];
+    let mut digit = 0;
+    while digit < 16 {
+        worth[b"0123456789abcdef"[digit] as usize] = digit as u8;
+        digit += 1;
+    }
+    worth
+};
+
+/// The fields of a line.
+struct Fields {
+    kind: u8,
+    site: u16,
+    value: u32,
+    file: u16,
+    column: u16,
+}
+
+impl Fields {
+    /// Refusals 5 and 6.
+    fn read(chars: &[u8; CHARS]) -> Result<Fields, Ground> {
+        let mut all = 0;
+        let mut field = |digits: &[u8]| number(digits, &mut all);
+        let fields = Fields {
+            kind: field(&chars[..2]) as u8,
+            site: field(&chars[2..6]) as u16,
+            value: field(&chars[6..14]),
+            file: field(&chars[14..18]) as u16,
+            column: field(&chars[18..22]) as u16,
+        };
+        if all > 15 || chars[22] != b'\n' {
+            return Err(Ground::Character);
+        }
+        if !fields.keep_to_the_table() {
+            return Err(Ground::Table);
+        }
+        Ok(fields)
+    }
+
+    fn keep_to_the_table(&self) -> bool {
+        let Fields { kind, site, value, file, column } = *self;
+        match kind {
+            SITE => value > 0 && file > 0 && column > 0,
+            CALL | SPAWN => value == 0 && file == 0 && column == 0,
+            SYNC | RETURN => site == 0 && value == 0 && file == 0 && column == 0,
+            COST => site == 0 && value > 0 && file == 0 && column == 0,
+            _ => false,
+        }
+    }
+
+    /// File, line and column in 64 bits.
+    fn place(&self) -> u64 {
+        u64::from(self.value) << 32 | u64::from(self.file) << 16 | u64::from(self.column)
+    }
+}
+
+/// The number that at most eight digits show; `all` gathers the bits of their worths.
+fn number(digits: &[u8], all: &mut u8) -> u32 {
+    digits.iter().fold(0, |number, &c| {
+        let worth = WORTH[usize::from(c)];
+        *all |= worth;
+        number << 4 | u32::from(worth & 15)
+    })
+}
+
+/// An open invocation.
+struct Open {
+    row: u8,
+    /// The line that spawned it; 0, which is never a spawn, if it was called or is the root.
+    spawn: u32,
+    /// The total work when it opened.
+    work_before: u64,
+    /// The span of the blocks that a sync has ended.
+    done: u64,
+    /// The weight along the present block, past every spawned child.
+    along: u64,
+    /// The heaviest branch of the present block that ends in a spawned child, the first of equal ones.
+    branch: Branch,
+}
+
+/// The way along a block up to a spawn and through the child.
+#[derive(Default)]
+struct Branch {
+    weight: u64,
+    spawn: u32,
+    last: u32,
+}
+
+/// A line as the walk along the chosen chain needs it.
+#[derive(Clone, Copy, Default)]
+struct Step {
+    /// The line that comes next on the chain's way.
+    next: u32,
+    cost: u32,
+    row: u8,
+}
+
+struct Engine {
+    limits: Limits,
+    places: Vec<u64>,
+    open: Vec<Open>,
+    steps: Vec<Step>,
+    rows: Vec<Row>,
+    work: u64,
+    span: u64,
+}
+
+impl Engine {
+    fn new(limits: Limits, lines: usize) -> Engine {
+        Engine {
+            limits,
+            places: Vec::new(),
+            open: vec![Open::new(0, 0, 0)],
+            steps: Vec::with_capacity(lines),
+            rows: vec![[1, 0, 0, 0, 0]],
+            work: 0,
+            span: 0,
+        }
+    }
+
+    /// Takes one line, or gives the smallest number that it is refused with. Refusal 13 needs no test: 65,536 values
+    /// below 2^32, each counted at most 64 times in a row, stay below 2^54.
+    fn line(&mut self, line: u32, chars: &[u8; CHARS]) -> Result<(), Ground> {
+        let fields = Fields::read(chars)?;
+        let own = self.open.last_mut().ok_or(Ground::AfterEnd)?;
+        let mut step = Step { next: line + 1, cost: 0, row: own.row };
+        match fields.kind {
+            COST => {
+                step.cost = fields.value;
+                own.along += u64::from(fields.value);
+                self.work += u64::from(fields.value);
+                self.rows[usize::from(own.row)][3] += u64::from(fields.value);
+            }
+            SYNC => own.end_block(line, &mut self.steps),
+            CALL => self.enter(fields.site, 0)?,
+            SPAWN => self.enter(fields.site, line)?,
+            RETURN => self.leave(line),
+            _ => self.site(&fields)?,
+        }
+        self.steps.push(step);
+        Ok(())
+    }
+
+    /// Refusals 8, 9 and 10.
+    fn site(&mut self, fields: &Fields) -> Result<(), Ground> {
+        let sites = self.places.len();
+        if self.steps.len() > sites || usize::from(fields.site) != sites + 1 {
+            return Err(Ground::SiteOrder);
+        }
+        if u64::from(fields.site) > self.limits.sites {
+            return Err(Ground::SiteLimit);
+        }
+        if self.places.contains(&fields.place()) {
+            return Err(Ground::Place);
+        }
+        self.places.push(fields.place());
+        self.rows.push([0; 5]);
+        Ok(())
+    }
+
+    /// Refusals 11 and 12.
+    fn enter(&mut self, site: u16, spawn: u32) -> Result<(), Ground> {
+        if site == 0 || usize::from(site) > self.places.len() {
+            return Err(Ground::Undeclared);
+        }
+        if self.open.len() as u64 >= self.limits.depth {
+            return Err(Ground::Depth);
+        }
+        self.rows[usize::from(site)][0] += 1;
+        self.open.push(Open::new(site as u8, spawn, self.work));
+        Ok(())
+    }
+
+    /// Closes the innermost invocation and gives its span to the one around it.
+    fn leave(&mut self, line: u32) {
+        let Some(mut own) = self.open.pop() else { return };
+        own.end_block(line, &mut self.steps);
+        let row = &mut self.rows[usize::from(own.row)];
+        row[1] += self.work - own.work_before;
+        row[2] += own.done;
+        match self.open.last_mut() {
+            None => self.span = own.done,
+            Some(around) if own.spawn == 0 => around.along += own.done,
+            Some(around) => {
+                self.steps[own.spawn as usize].next = line + 1;
+                around.offer(Branch { weight: around.along + own.done, spawn: own.spawn, last: line });
+            }
+        }
+    }
+
+    /// The profile, if the root has returned.
+    fn finish(mut self) -> Option<Profile> {
+        if !self.open.is_empty() {
+            return None;
+        }
+        let mut marks = vec![0; self.steps.len()];
+        let mut line = self.places.len();
+        while let Some(step) = self.steps.get(line) {
+            if step.cost > 0 {
+                marks[line] = 1;
+                self.rows[usize::from(step.row)][4] += u64::from(step.cost);
+            }
+            line = step.next as usize;
+        }
+        let answer = [self.work, self.span, self.places.len() as u64, self.steps.len() as u64];
+        Some(Profile { answer, rows: self.rows, marks })
+    }
+}
+
+impl Open {
+    fn new(row: u8, spawn: u32, work_before: u64) -> Open {
+        Open { row, spawn, work_before, done: 0, along: 0, branch: Branch::default() }
+    }
+
+    /// Takes a branch that is heavier than those before it.
+    fn offer(&mut self, branch: Branch) {
+        if branch.weight > self.branch.weight {
+            self.branch = branch;
+        }
+    }
+
+    /// Ends the block at a sync or return. The branch's lines come before those past it, so it wins when they are equal;
+    /// then its spawn leads into the child and the child's return to the end of the block.
+    fn end_block(&mut self, line: u32, steps: &mut [Step]) {
+        let branch = std::mem::take(&mut self.branch);
+        if branch.weight > 0 && branch.weight >= self.along {
+            steps[branch.spawn as usize].next = branch.spawn + 1;
+            steps[branch.last as usize].next = line;
+        }
+        self.done += branch.weight.max(self.along);
+        self.along = 0;
+    }
+}

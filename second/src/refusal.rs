@@ -1,0 +1,56 @@
+//! The grounds of refusal and their numbers.
+
+/// Why a trace, a line or a call is refused; the numbers are those of the table of refusals.
+#[derive(Clone, Copy, Debug, PartialEq, Eq, PartialOrd, Ord)]
+#[repr(u8)]
+pub enum Ground {
+    /// "D or M outside its range"
+    Limits = 1,
+    /// "length not a multiple of 23"
+    Length = 2,
+    /// "more than 65,536 lines"
+    Lines = 3,
+    /// "any lent slice shorter than stated"
+    Room = 4,
+    /// "a wrong character in the line"
+    Character = 5,
+    /// "unknown kind, unused field not zero, or a value outside the table"
+    Table = 6,
+    /// "a line after the root's return"
+    AfterEnd = 7,
+    /// "a site line after another kind, or not numbered one above the last (the first is 1)"
+    SiteOrder = 8,
+    /// "a site line whose number is above M"
+    SiteLimit = 9,
+    /// "a place already declared"
+    Place = 10,
+    /// "call or spawn of site 0 or one not declared"
+    Undeclared = 11,
+    /// "more than D invocations open"
+    Depth = 12,
+    /// "total work or a row number, counted up to this line, beyond 64 bits"
+    Beyond64Bits = 13,
+    /// "lines end before the root's return"
+    Unfinished = 14,
+}
+
+/// "Refused: a number and a line."
+#[derive(Clone, Copy, Debug, PartialEq, Eq)]
+pub struct Refusal {
+    pub ground: Ground,
+    pub line: u64,
+}
+
+impl Ground {
+    /// This ground with a line.
+    pub fn at(self, line: usize) -> Refusal {
+        Refusal { ground: self, line: line as u64 }
+    }
+}
+
+impl Refusal {
+    /// The number in the table of refusals.
+    pub fn number(self) -> u64 {
+        self.ground as u64
+    }
+}

@@ -1,0 +1,73 @@
+//! The text of a report and of a refusal.
+
+use crate::refusal::Ground;
+
+/// The characters of a report line: row (4 digits), five numbers (16 digits each), a line feed.
+pub const ROW_CHARS: usize = 85;
+
+/// The characters of a printed refusal: `ff`, number (2 digits), line (8 digits), a line feed.
+pub const REFUSAL_CHARS: usize = 13;
+
+/// The report of `count` sites from lent row numbers into `room` characters: "refusal 1 for a count above 255, then 4
+/// where rows are shorter than 5·(count+1) or output shorter than 85·(count+1)".
+pub fn report(numbers: &[u64], count: u64, room: usize) -> Result<String, Ground> {
+    if count > 255 {
+        return Err(Ground::Limits);
+    }
+    let rows = count as usize + 1;
+    if numbers.len() < 5 * rows || room < ROW_CHARS * rows {
+        return Err(Ground::Room);
+    }
+    Ok(numbers.chunks(5).take(rows).enumerate().map(|(row, numbers)| line(row, numbers)).collect())
+}
+
+/// "`ff`, number (2 digits), line (8 digits), line feed, also in hexadecimal", into `room` characters.
+pub fn refusal(number: u64, line: u64, room: usize) -> Result<String, Ground> {
+    if number > 0xff || line > 0xffff_ffff {
+        return Err(Ground::Limits);
+    }
+    if room < REFUSAL_CHARS {
+        return Err(Ground::Room);
+    }
+    Ok(format!("ff{number:02x}{line:08x}\n"))
+}
+
+/// "row (4 digits), the five numbers (16 digits each), a line feed, all in hexadecimal with small letters"
+fn line(row: usize, numbers: &[u64]) -> String {
+    let numbers: String = numbers.iter().map(|number| format!("{number:016x}")).collect();
+    format!("{row:04x}{numbers}\n")
+}
+
+#[cfg(test)]
+mod tests {
+    use super::*;
+
+    #[test]
+    fn a_row_is_its_number_and_five_numbers() {
+        let text = report(&[1, 0xabc, 3, u64::MAX, 5], 0, 85);
+        let digits = "00000000000000000001000000000000\
+                      0abc0000000000000003ffffffffffffffff0000000000000005";
+        assert_eq!(text, Ok(format!("{digits}\n")));
+    }
+
+    #[test]
+    fn the_count_comes_before_the_room() {
+        assert_eq!(report(&[], 256, 0), Err(Ground::Limits));
+        assert_eq!(report(&[0; 9], 1, 170), Err(Ground::Room));
+        assert_eq!(report(&[0; 10], 1, 169), Err(Ground::Room));
+        assert_eq!(report(&[0; 11], 1, 171).map(|text| text.len()), Ok(170));
+    }
+
+    #[test]
+    fn fourteen_is_0e() {
+        assert_eq!(refusal(14, 65_536, 13).as_deref(), Ok("ff0e00010000\n"));
+        assert_eq!(refusal(255, 0xffff_ffff, 20).as_deref(), Ok("ffffffffffff\n"));
+    }
+
+    #[test]
+    fn a_refusal_that_has_no_digits_is_refused() {
+        assert_eq!(refusal(256, 0, 0), Err(Ground::Limits));
+        assert_eq!(refusal(14, 0x1_0000_0000, 0), Err(Ground::Limits));
+        assert_eq!(refusal(14, 0, 12), Err(Ground::Room));
+    }
+}

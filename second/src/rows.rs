@@ -1,0 +1,49 @@
+//! The answer, the rows and the marks of an accepted trace.
+
+use crate::chain::Chains;
+use crate::shape::Shape;
+
+/// "Five numbers a row, in this order": calls, work, span, local, on span.
+pub type Row = [u64; 5];
+
+/// All that is said of an accepted trace.
+#[derive(Clone, Debug, PartialEq, Eq)]
+pub struct Profile {
+    /// "total work, total span, number of sites, number of lines"
+    pub answer: [u64; 4],
+    /// "Row 0 is the root, row s is site s."
+    pub rows: Vec<Row>,
+    /// "A mark is 1 for a line on the chosen chain, 0 for any other."
+    pub marks: Vec<u8>,
+}
+
+/// The profile of a trace whose chains are known.
+pub fn profile(shape: &Shape, chains: &Chains) -> Profile {
+    let marks = marks(shape, &chains.chosen);
+    let work = shape.work(0..shape.lines.len());
+    let answer = [work, chains.spans[0], shape.sites as u64, shape.lines.len() as u64];
+    Profile { answer, rows: rows(shape, &chains.spans, &marks), marks }
+}
+
+fn marks(shape: &Shape, chosen: &[usize]) -> Vec<u8> {
+    let mut marks = vec![0; shape.lines.len()];
+    chosen.iter().for_each(|&line| marks[line] = 1);
+    marks
+}
+
+fn rows(shape: &Shape, spans: &[u64], marks: &[u8]) -> Vec<Row> {
+    let mut rows = vec![[0; 5]; shape.sites + 1];
+    for (invocation, span) in shape.invocations.iter().zip(spans) {
+        let [calls, work, sum, ..] = &mut rows[invocation.row];
+        *calls += 1;
+        *work += shape.work(invocation.range());
+        *sum += span;
+    }
+    for (line, owner) in shape.directly_in.iter().enumerate() {
+        let Some(owner) = *owner else { continue };
+        let [.., local, on_span] = &mut rows[shape.invocations[owner].row];
+        *local += shape.lines[line].cost();
+        *on_span += u64::from(marks[line]) * shape.lines[line].cost();
+    }
+    rows
+}

@@ -1,0 +1,86 @@
+//! The shape of an accepted trace: invocations as intervals of lines, and which cost lines are parallel.
+
+use crate::line::{Kind, Line};
+use std::ops::Range;
+
+/// How an invocation came about.
+#[derive(Clone, Copy, Debug, PartialEq, Eq)]
+pub enum Start {
+    Root,
+    /// Called from the invocation with this index.
+    Called(usize),
+    /// Spawned by the invocation with this index.
+    Spawned(usize),
+}
+
+/// An invocation: the lines from the first of its body to its return.
+#[derive(Clone, Debug, PartialEq, Eq)]
+pub struct Invocation {
+    /// "Row 0 is the root, row s is site s."
+    pub row: usize,
+    pub start: Start,
+    /// Its first line: for the root the one after the sites, for any other the one after the call or spawn.
+    pub first: usize,
+    /// The line of its return.
+    pub last: usize,
+}
+
+/// A trace that passed every check.
+#[derive(Clone, Debug, PartialEq, Eq)]
+pub struct Shape {
+    pub lines: Vec<Line>,
+    pub sites: usize,
+    /// In the order in which they open, the root first.
+    pub invocations: Vec<Invocation>,
+    /// For each line the invocation that it is directly in; a site line is in none, a call or spawn line is the caller's.
+    pub directly_in: Vec<Option<usize>>,
+}
+
+impl Invocation {
+    /// Whether a line lies inside, "its children's included".
+    pub fn contains(&self, line: usize) -> bool {
+        self.first <= line && line <= self.last
+    }
+
+    /// Its lines.
+    pub fn range(&self) -> Range<usize> {
+        self.first..self.last + 1
+    }
+}
+
+impl Shape {
+    /// The cost lines, ascending.
+    pub fn cost_lines(&self) -> Vec<usize> {
+        (0..self.lines.len()).filter(|&n| self.lines[n].kind == Kind::Cost).collect()
+    }
+
+    /// The sum of the costs on some lines.
+    pub fn work(&self, lines: Range<usize>) -> u64 {
+        self.lines[lines].iter().map(Line::cost).sum()
+    }
+
+    /// For cost lines i < j: "They are parallel exactly when some spawned invocation G contains i and not j, the
+    /// invocation F that spawned G is still open at line j, and no sync line directly in F lies between G's return and
+    /// j."
+    pub fn parallel(&self, i: usize, j: usize) -> bool {
+        self.invocations.iter().any(|g| match g.start {
+            Start::Spawned(f) => {
+                g.contains(i)
+                    && !g.contains(j)
+                    && self.invocations[f].contains(j)
+                    && !(g.last + 1..j).any(|line| self.syncs(f, line))
+            }
+            Start::Root | Start::Called(_) => false,
+        })
+    }
+
+    /// "Otherwise i comes before j in series."
+    pub fn series(&self, i: usize, j: usize) -> bool {
+        !self.parallel(i, j)
+    }
+
+    /// Whether a line is a sync line directly in an invocation. "'Directly in F' excludes lines of F's children."
+    fn syncs(&self, invocation: usize, line: usize) -> bool {
+        self.lines[line].kind == Kind::Sync && self.directly_in[line] == Some(invocation)
+    }
+}

@@ -1,0 +1,117 @@
+//! The proved library through its C interface. Every slice passes as a pointer and a length.
+
+#![allow(unsafe_code)]
+
+use crate::check::Limits;
+use crate::library::Library;
+
+extern "C" {
+    fn nyo_tables(
+        trace: *const u8,
+        trace_len: usize,
+        depth: u64,
+        sites: u64,
+        scratch: *mut u64,
+        scratch_len: usize,
+        rows: *mut u64,
+        rows_len: usize,
+        answer: *mut u64,
+        answer_len: usize,
+    ) -> u64;
+    fn nyo_marks(
+        trace: *const u8,
+        trace_len: usize,
+        depth: u64,
+        sites: u64,
+        scratch: *mut u64,
+        scratch_len: usize,
+        marks: *mut u8,
+        marks_len: usize,
+        rows: *mut u64,
+        rows_len: usize,
+        answer: *mut u64,
+        answer_len: usize,
+    ) -> u64;
+    fn nyo_read_line(line: *const u8, line_len: usize, frame: *mut u64, frame_len: usize) -> u64;
+    fn nyo_write_line(frame: *const u64, frame_len: usize, out: *mut u8, out_len: usize) -> u64;
+    fn nyo_report(
+        rows: *const u64,
+        rows_len: usize,
+        count: u64,
+        out: *mut u8,
+        out_len: usize,
+        written: *mut u64,
+        written_len: usize,
+    ) -> u64;
+    fn nyo_refusal(number: u64, line: u64, out: *mut u8, out_len: usize, written: *mut u64, written_len: usize) -> u64;
+}
+
+/// The proved library.
+pub struct Proved;
+
+// SAFETY of every call below: each pointer comes with the length of the slice that it was taken from, slices that are
+// lent for writing are borrowed for it alone, and the library reads and writes only within them and keeps none of them.
+impl Library for Proved {
+    fn tables(&self, trace: &[u8], limits: Limits, scratch: &mut [u64], rows: &mut [u64], answer: &mut [u64]) -> u64 {
+        unsafe {
+            nyo_tables(
+                trace.as_ptr(),
+                trace.len(),
+                limits.depth,
+                limits.sites,
+                scratch.as_mut_ptr(),
+                scratch.len(),
+                rows.as_mut_ptr(),
+                rows.len(),
+                answer.as_mut_ptr(),
+                answer.len(),
+            )
+        }
+    }
+
+    fn marks(
+        &self,
+        trace: &[u8],
+        limits: Limits,
+        scratch: &mut [u64],
+        marks: &mut [u8],
+        rows: &mut [u64],
+        answer: &mut [u64],
+    ) -> u64 {
+        unsafe {
+            nyo_marks(
+                trace.as_ptr(),
+                trace.len(),
+                limits.depth,
+                limits.sites,
+                scratch.as_mut_ptr(),
+                scratch.len(),
+                marks.as_mut_ptr(),
+                marks.len(),
+                rows.as_mut_ptr(),
+                rows.len(),
+                answer.as_mut_ptr(),
+                answer.len(),
+            )
+        }
+    }
+
+    fn read_line(&self, line: &[u8], frame: &mut [u64]) -> u64 {
+        unsafe { nyo_read_line(line.as_ptr(), line.len(), frame.as_mut_ptr(), frame.len()) }
+    }
+
+    fn write_line(&self, frame: &[u64], out: &mut [u8]) -> u64 {
+        unsafe { nyo_write_line(frame.as_ptr(), frame.len(), out.as_mut_ptr(), out.len()) }
+    }
+
+    fn report(&self, rows: &[u64], count: u64, out: &mut [u8], written: &mut [u64]) -> u64 {
+        let (out_len, written_len) = (out.len(), written.len());
+        let (out, written) = (out.as_mut_ptr(), written.as_mut_ptr());
+        unsafe { nyo_report(rows.as_ptr(), rows.len(), count, out, out_len, written, written_len) }
+    }
+
+    fn refusal(&self, number: u64, line: u64, out: &mut [u8], written: &mut [u64]) -> u64 {
+        let (out_len, written_len) = (out.len(), written.len());
+        unsafe { nyo_refusal(number, line, out.as_mut_ptr(), out_len, written.as_mut_ptr(), written_len) }
+    }
+}

@@ -1,0 +1,242 @@
+//! The comparison finds what it is made to find: wrong stand-ins are told apart, and the case shrinks.
+
+use second::chain::Chains;
+use second::check::Limits;
+use second::compare::case::{Case, Question};
+use second::compare::fixed::{self, TWELVE, TWELVE_LIMITS};
+use second::compare::{compare, generate, Difference};
+use second::graph;
+use second::library::{Library, Second};
+use second::line::{Kind, CHARS};
+use second::shape::{Invocation, Shape, Start};
+use second::trace::events;
+use std::cmp::Ordering;
+
+/// The first difference among generated cases.
+fn first_difference(wrong: &dyn Library) -> Difference {
+    let cases = (0..20_000).map(|number| generate::case(1, number));
+    let found = cases.into_iter().find_map(|case| compare(&case, &Second::new(), &[("the stand-in", wrong)]));
+    *found.expect("a difference")
+}
+
+/// The events of the trace that the first difference shrank to.
+fn smallest_events(wrong: &dyn Library) -> String {
+    match first_difference(wrong).case.question {
+        Question::Engines { trace, .. } => events(&trace).expect("good lines"),
+        other => panic!("a difference on a trace, not on {other:?}"),
+    }
+}
+
+/// What a wrong rule makes of one of the twelve: its span.
+fn span_of(name: &str, wrong: Second) -> u64 {
+    let case = TWELVE.iter().find(|case| case.name == name).expect("one of the twelve");
+    let lent = TWELVE_LIMITS.for_tables();
+    wrong.profile(&case.trace().chars, TWELVE_LIMITS, &lent).expect("accepted").answer[1]
+}
+
+/// A weight and the ascending lines that it comes from.
+type Weighed = (u64, Vec<usize>);
+
+/// Chains under a rule of what is parallel and a rule of which is chosen, grown from the first line to the last.
+fn chains(
+    shape: &Shape,
+    parallel: fn(&Shape, usize, usize) -> bool,
+    order: fn(&&Weighed, &&Weighed) -> Ordering,
+) -> Chains {
+    let heaviest = |own: &Invocation| {
+        let mut best: Vec<Weighed> = vec![(0, vec![])];
+        for line in shape.cost_lines().into_iter().filter(|&line| own.contains(line)) {
+            let before = best.iter().filter(|(_, chain)| chain.iter().all(|&i| !parallel(shape, i, line)));
+            let (weight, chain) = before.max_by(order).expect("the empty chain");
+            best.push((weight + shape.lines[line].value, [&chain[..], &[line]].concat()));
+        }
+        best.iter().max_by(order).cloned().expect("the empty chain")
+    };
+    let spans = shape.invocations.iter().map(|own| heaviest(own).0).collect();
+    Chains { spans, chosen: heaviest(&shape.invocations[0]).1 }
+}
+
+/// The heaviest is chosen, and of equals the one that comes first.
+fn first(a: &&Weighed, b: &&Weighed) -> Ordering {
+    a.0.cmp(&b.0).then(b.1.cmp(&a.1))
+}
+
+/// The heaviest is chosen, and of equals the one that comes last.
+fn later(a: &&Weighed, b: &&Weighed) -> Ordering {
+    a.cmp(b)
+}
+
+/// The spawned invocations that hold a line and not another, each with its spawner.
+fn between(shape: &Shape, i: usize, j: usize) -> impl Iterator<Item = (&Invocation, &Invocation)> {
+    shape.invocations.iter().filter_map(move |g| match g.start {
+        Start::Spawned(f) if g.contains(i) && !g.contains(j) => Some((g, &shape.invocations[f])),
+        _ => None,
+    })
+}
+
+fn is_sync(shape: &Shape, line: usize) -> bool {
+    shape.lines[line].kind == Kind::Sync
+}
+
+#[test]
+fn the_stand_in_with_the_right_rules_is_right() {
+    let right = Second { search: |shape| chains(shape, Shape::parallel, first) };
+    let cases = (0..2_000).map(|number| generate::case(1, number));
+    let alike = |case| compare(&case, &Second::new(), &[("the stand-in", &right)]).is_none();
+    assert!(cases.into_iter().all(alike));
+}
+
+#[test]
+fn adding_up_spawned_children_as_if_each_were_called() {
+    let wrong = Second { search: |shape| chains(shape, |_, _, _| false, first) };
+    assert_eq!(span_of("G", wrong), 22);
+    assert_eq!(smallest_events(&wrong), "spawn 1 {1}, 1");
+}
+
+/// Parallel, but for any sync after G's return.
+fn joined_by_any_sync(shape: &Shape, i: usize, j: usize) -> bool {
+    between(shape, i, j).any(|(g, f)| f.contains(j) && !(g.last..j).any(|line| is_sync(shape, line)))
+}
+
+#[test]
+fn letting_a_called_functions_sync_join_its_callers_children() {
+    let wrong = Second { search: |shape| chains(shape, joined_by_any_sync, first) };
+    assert_eq!(span_of("J", wrong), 4);
+    let smallest = ["spawn 1 {1}, call 1 {sync}, 1", "spawn 1 {1}, call 1 {sync, 1}"];
+    assert!(smallest.contains(&smallest_events(&wrong).as_str()));
+}
+
+/// Parallel, whether or not F is still open.
+fn never_joined_by_a_return(shape: &Shape, i: usize, j: usize) -> bool {
+    between(shape, i, j).any(|(g, f)| {
+        let own = shape.invocations.iter().position(|other| other == f);
+        !(g.last..j).any(|line| is_sync(shape, line) && shape.directly_in[line] == own)
+    })
+}
+
+#[test]
+fn leaving_a_spawned_child_unjoined_past_its_spawners_return() {
+    let wrong = Second { search: |shape| chains(shape, never_joined_by_a_return, first) };
+    assert_eq!(span_of("I", wrong), 7);
+    assert_eq!(smallest_events(&wrong), "call 1 {spawn 1 {1}}, 1");
+}
+
+#[test]
+fn taking_the_later_of_two_equal_chains() {
+    let wrong = Second { search: |shape| chains(shape, Shape::parallel, later) };
+    let told = first_difference(&wrong).to_string();
+    assert!(told.contains("marks engine's marks, number 2: second 1, the stand-in 0"), "{told}");
+    assert_eq!(smallest_events(&wrong), "spawn 1 {1}, 1");
+}
+
+#[test]
+fn a_long_trace_shrinks_as_far() {
+    let wrong = Second { search: |shape| Chains { chosen: vec![], ..graph::search(shape) } };
+    let cases = fixed::cases();
+    let long =
+        |case: &&Case| matches!(&case.question, Question::Engines { trace, .. } if trace.len() == 65_536 * CHARS);
+    let case = cases.iter().find(long).expect("a case of 65,536 lines");
+    let found = compare(case, &Second::new(), &[("the stand-in", &wrong)]).expect("a difference");
+    assert!(found.to_string().contains("a trace of 46 characters (1):"), "{found}");
+}
+
+/// The second program with something done wrong before or after it.
+struct Wrong {
+    before: fn(&mut Vec<u8>),
+    after: fn(code: u64, scratch: &mut [u64], rows: &mut [u64], answer: &mut [u64]),
+}
+
+impl Default for Wrong {
+    fn default() -> Wrong {
+        Wrong { before: |_| (), after: |_, _, _, _| () }
+    }
+}
+
+impl Library for Wrong {
+    fn tables(&self, trace: &[u8], limits: Limits, scratch: &mut [u64], rows: &mut [u64], answer: &mut [u64]) -> u64 {
+        let mut trace = trace.to_vec();
+        (self.before)(&mut trace);
+        let code = Second::by_paths().tables(&trace, limits, scratch, rows, answer);
+        (self.after)(code, scratch, rows, answer);
+        code
+    }
+
+    fn marks(
+        &self,
+        trace: &[u8],
+        limits: Limits,
+        scratch: &mut [u64],
+        marks: &mut [u8],
+        rows: &mut [u64],
+        answer: &mut [u64],
+    ) -> u64 {
+        Second::by_paths().marks(trace, limits, scratch, marks, rows, answer)
+    }
+
+    fn read_line(&self, line: &[u8], frame: &mut [u64]) -> u64 {
+        Second::by_paths().read_line(line, frame)
+    }
+
+    fn write_line(&self, frame: &[u64], out: &mut [u8]) -> u64 {
+        Second::by_paths().write_line(frame, out)
+    }
+
+    fn report(&self, rows: &[u64], count: u64, out: &mut [u8], written: &mut [u64]) -> u64 {
+        Second::by_paths().report(rows, count, out, written)
+    }
+
+    fn refusal(&self, number: u64, line: u64, out: &mut [u8], written: &mut [u64]) -> u64 {
+        Second::by_paths().refusal(number, line, out, written)
+    }
+}
+
+#[test]
+fn keying_a_site_by_part_of_its_place() {
+    let before = |trace: &mut Vec<u8>| {
+        for line in trace.chunks_mut(CHARS).filter(|line| line.starts_with(b"01") && line.len() == CHARS) {
+            line[18..22].copy_from_slice(b"0001");
+        }
+    };
+    let told = first_difference(&Wrong { before, ..Wrong::default() }).to_string();
+    assert!(told.contains("table engine: second"), "{told}");
+}
+
+#[test]
+fn taking_capital_digits() {
+    let before = |trace: &mut Vec<u8>| trace.make_ascii_lowercase();
+    let told = first_difference(&Wrong { before, ..Wrong::default() }).to_string();
+    assert!(told.contains("table engine: second refused 5 at line 0, the stand-in"), "{told}");
+}
+
+#[test]
+fn a_scratch_number_left_over() {
+    let after = |code: u64, scratch: &mut [u64], _: &mut [u64], _: &mut [u64]| {
+        if let (0, Some(last)) = (code, scratch.last_mut()) {
+            *last = 1;
+        }
+    };
+    let told = first_difference(&Wrong { after, ..Wrong::default() }).to_string();
+    assert!(told.contains("table engine's scratch, number 11: second 0, the stand-in 1"), "{told}");
+}
+
+#[test]
+fn a_row_cleared_that_no_site_has() {
+    let after = |code: u64, _: &mut [u64], rows: &mut [u64], answer: &mut [u64]| {
+        if code == 0 {
+            rows[5 * (answer[2] as usize + 1)..].fill(0);
+        }
+    };
+    let told = first_difference(&Wrong { after, ..Wrong::default() }).to_string();
+    assert!(told.contains("table engine's rows, number 5: second "), "{told}");
+}
+
+#[test]
+fn an_answer_written_with_a_refusal() {
+    let after = |code: u64, _: &mut [u64], _: &mut [u64], answer: &mut [u64]| {
+        if let (1.., Some(work)) = (code, answer.first_mut()) {
+            *work = 0;
+        }
+    };
+    let told = first_difference(&Wrong { after, ..Wrong::default() }).to_string();
+    assert!(told.contains("table engine's answer, number 0: second "), "{told}");
+}

@@ -1,0 +1,44 @@
+//! The generated cases reach what they are meant to reach.
+
+use second::check::{Lent, Limits};
+use second::compare::case::{Case, Question};
+use second::compare::generate;
+use second::library::Second;
+use std::collections::BTreeMap;
+
+/// How often each verdict on a trace is given, 0 for accepted.
+fn verdicts(cases: impl Iterator<Item = Case>) -> BTreeMap<u64, u32> {
+    let mut verdicts = BTreeMap::new();
+    for case in cases {
+        for (_, code) in case.ask(&Second::by_paths()).codes {
+            *verdicts.entry(code % 256).or_default() += 1;
+        }
+    }
+    verdicts
+}
+
+#[test]
+fn every_verdict_is_reached() {
+    let cases = (0..20_000).map(|number| generate::case(1, number));
+    let verdicts = verdicts(cases.filter(|case| matches!(case.question, Question::Engines { .. })));
+    println!("{verdicts:?}");
+    for verdict in (0..=14).filter(|verdict| ![3, 13].contains(verdict)) {
+        assert!(verdicts.get(&verdict).is_some_and(|&times| times >= 30), "{verdict}: {verdicts:?}");
+    }
+}
+
+#[test]
+fn good_traces_reach_the_limits() {
+    let wide = Limits { depth: 64, sites: 255 };
+    let room: Lent = wide.for_tables();
+    let mut reached = [false; 3];
+    for number in 0..20_000 {
+        let Question::Engines { trace, .. } = generate::case(2, number).question else { continue };
+        let Ok(profile) = Second::by_paths().profile(&trace, wide, &room) else { continue };
+        let shallow = Limits { depth: 63, ..wide };
+        reached[0] |= Second::by_paths().profile(&trace, shallow, &room).is_err();
+        reached[1] |= profile.answer[2] >= 100;
+        reached[2] |= profile.answer[3] >= 65_000;
+    }
+    assert_eq!(reached, [true; 3], "depth 64, many sites, many lines");
+}

@@ -1,0 +1,113 @@
+//! Both ways of the second program against the definitions themselves, on generated traces that are short enough.
+
+use second::chain::{self, Chains};
+use second::check::{self, Limits};
+use second::compare::rng::Rng;
+use second::compare::shapes;
+use second::graph::{self, Graph};
+use second::rows::profile;
+use second::shape::Shape;
+use std::cmp::Reverse;
+use std::ops::Range;
+
+const LIMITS: Limits = Limits { depth: 64, sites: 255 };
+
+/// The shapes of generated traces with at most so many cost lines.
+fn some(seed: u64, count: u64, costs: usize) -> impl Iterator<Item = Shape> {
+    let shape = move |case| {
+        let trace = shapes::trace(&mut Rng::of_case(seed, case));
+        check::trace(&trace.chars, LIMITS, &LIMITS.for_tables()).expect("a good trace")
+    };
+    (0..count).map(shape).filter(move |shape| shape.cost_lines().len() <= costs)
+}
+
+/// "A chain is a set of cost lines, each two of them in series; the empty set is one."
+fn is_chain(shape: &Shape, lines: &[usize]) -> bool {
+    lines.iter().enumerate().all(|(n, &i)| lines[n + 1..].iter().all(|&j| shape.series(i, j)))
+}
+
+/// Every chain of lines in a range, each ascending.
+fn all_chains(shape: &Shape, range: Range<usize>) -> Vec<Vec<usize>> {
+    let costs: Vec<usize> = shape.cost_lines().into_iter().filter(|line| range.contains(line)).collect();
+    let subset = |set: u32| (0..costs.len()).filter(|n| set >> n & 1 == 1).map(|n| costs[n]).collect::<Vec<_>>();
+    (0..1 << costs.len()).map(subset).filter(|lines| is_chain(shape, lines)).collect()
+}
+
+/// "Its weight is the sum of its values."
+fn weight(shape: &Shape, lines: &[usize]) -> u64 {
+    lines.iter().map(|&line| shape.lines[line].value).sum()
+}
+
+/// The spans and the chosen chain by trying every set of cost lines.
+fn by_sets(shape: &Shape) -> Chains {
+    let span = |range| all_chains(shape, range).iter().map(|lines| weight(shape, lines)).max().unwrap_or(0);
+    let spans = shape.invocations.iter().map(|invocation| span(invocation.range())).collect();
+    let chains = all_chains(shape, 0..shape.lines.len());
+    let chosen = chains.into_iter().min_by_key(|lines| (Reverse(weight(shape, lines)), lines.clone()));
+    Chains { spans, chosen: chosen.unwrap_or_default() }
+}
+
+#[test]
+fn both_ways_find_what_trying_every_set_finds() {
+    let mut tried = 0;
+    for shape in some(1, 3000, 8) {
+        let right = by_sets(&shape);
+        assert_eq!(chain::search(&shape), right);
+        assert_eq!(graph::search(&shape), right);
+        tried += 1;
+    }
+    assert!(tried > 1000, "only {tried} traces were short enough");
+}
+
+#[test]
+fn the_two_ways_agree_on_longer_traces() {
+    for shape in some(2, 3000, 150) {
+        assert_eq!(chain::search(&shape), graph::search(&shape));
+    }
+}
+
+#[test]
+fn series_is_transitive() {
+    for shape in some(3, 1000, 25) {
+        let costs = shape.cost_lines();
+        for (n, &i) in costs.iter().enumerate() {
+            for (m, &j) in costs.iter().enumerate().skip(n + 1).filter(|(_, &j)| shape.series(i, j)) {
+                assert!(costs[m + 1..].iter().all(|&k| !shape.series(j, k) || shape.series(i, k)));
+            }
+        }
+    }
+}
+
+/// The points that can be reached from a point, itself included.
+fn reached(graph: &Graph, from: usize, end: usize) -> Vec<bool> {
+    let mut reached = vec![false; end + 1];
+    reached[from] = true;
+    for point in from..end {
+        if reached[point] {
+            graph.following(point).for_each(|to| reached[to] = true);
+        }
+    }
+    reached
+}
+
+#[test]
+fn series_is_a_path_in_the_graph() {
+    for shape in some(4, 1000, 40) {
+        let graph = Graph::new(&shape);
+        let costs = shape.cost_lines();
+        for (n, &i) in costs.iter().enumerate() {
+            let reached = reached(&graph, i + 1, shape.lines.len());
+            costs[n + 1..].iter().for_each(|&j| assert_eq!(shape.series(i, j), reached[j]));
+        }
+    }
+}
+
+#[test]
+fn column_4_adds_up_to_the_total_work_and_column_5_to_the_total_span() {
+    for shape in some(5, 1000, usize::MAX) {
+        let profile = profile(&shape, &graph::search(&shape));
+        let column = |n: usize| profile.rows.iter().map(|row| row[n]).sum::<u64>();
+        assert_eq!([column(3), column(4)], profile.answer[..2]);
+        assert_eq!(profile.rows[0][..3], [1, profile.answer[0], profile.answer[1]]);
+    }
+}
