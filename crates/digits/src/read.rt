@@ -12,17 +12,18 @@ pub struct Numeral {
 pub fn worth(c: u8) -> u8
     ensures { λ r. ⌜ r ≡ worthOf c ⌝ }
 {
-    let figure = std::num::wrapping_sub_u8(c, 48);
+    let figure = std::num::wrapping_sub_u8(c, b'0');
     if figure < 10 {
         return figure;
     }
-    let letter = std::num::wrapping_sub_u8(c, 97);
+    let letter = std::num::wrapping_sub_u8(c, b'a');
     if letter < 6 {
         return 10 + letter;
     }
     16
 }
 
+// A byte as a number of 64 bits.
 fn wide(x: u8) -> u64
     ensures { λ r. ⌜ r ≡ x ⌝ }
 {

@@ -1,6 +1,6 @@
 -- What reading a line gives, case by case: each refusal exactly where document 01 gives it, and a frame exactly where the table has it.
 -- Assumes nothing.
-use Prim.Native.Nat.{ℕ}
+use Prim.Native.Nat.{ℕ, _/_, _<_}
 use mathlib.Core.Bool.{Bool, true, false}
 use mathlib.Core.List.{List}
 use mathlib.Core.Logic.{_⊎_, inl, inr}
@@ -13,8 +13,8 @@ use Rattle.line.specs.declared.Frame.{Frame}
 use Rattle.line.specs.declared.Read.{Read}
 use Rattle.line.specs.declared.Read.the-variants.{Line, Refused}
 use Rattle.line.specs.Table.{Entry, frame, none, table}
-use Rattle.line.specs.Read.{fields, wrong, tabled, readLine}
-use Rattle.line.proofs.Lines.{read-long, read-wrong, read-tabled}
+use Rattle.line.specs.Read.{fields, wrong, tabled, readLine, lineAt, readAt}
+use Rattle.line.proofs.Lines.{read-long, read-wrong, read-tabled, whole}
 
 -- the four cases of a line
 pub data Case (s : List ℕ) (n : ℕ) (r : Read) : Type 0 where
@@ -49,6 +49,16 @@ refusals s n number line e = go (line-case s n)
     go (wrongs h w r) = inr (inl (cc, cc, h, w))
     go (unlisted h w t r) = inr (inr (cc, cc, h, w, t))
     go (listed h w f t r) = absurd (let z : _≡_ {A = ℕ} 0 1 = cc in omega arith)
+
+-- line n of a text with more than n whole lines is refused with 5 or 6 and its own number
+pub refusals-at : (s : List ℕ) (n number line : ℕ) → n < length s / 23 → readAt s n ≡ Refused number line → (line ≡ n) × ((number ≡ 5) ⊎ (number ≡ 6))
+refusals-at s n number line h e = go (line-case (lineAt s n) n)
+  where
+    go : Case (lineAt s n) n (readAt s n) → (line ≡ n) × ((number ≡ 5) ⊎ (number ≡ 6))
+    go (long l r) = absurd (l (whole s n h))
+    go (wrongs l w r) = (cc, inl cc)
+    go (unlisted l w t r) = (cc, inr cc)
+    go (listed l w f t r) = absurd (let z : _≡_ {A = ℕ} 0 1 = cc in omega arith)
 
 -- 6 is given where the table has no such frame; 2 and 5 are `read-long` and `read-wrong`
 pub read-unlisted : (s : List ℕ) (n : ℕ) → length s ≡ 23 → wrong s ≡ false → table (fields s) ≡ none → readLine s n ≡ Refused 6 n

@@ -74,6 +74,10 @@ pub record Numerals (s : List ℕ) (kind site value file column : Numeral) : Typ
   pub file-is : file ≡ reading (part s 14 4)
   pub column-is : column ≡ reading (part s 18 4)
 
+-- the one test of them all: each numeral is good, and c is a line feed
+abbrev pub allGood : Numeral → Numeral → Numeral → Numeral → Numeral → ℕ → Bool
+allGood kind site value file column c = kind .good && site .good && value .good && file .good && column .good && eqb c 10
+
 -- one numeral, read from a part that has room
 module _ (s : List ℕ) (from size : ℕ) (h : from + size ≤ length s) (short : size ≤ 8) (x : Numeral) (e : x ≡ reading (part s from size)) where
   room : length (part s from size) ≤ 8
@@ -116,14 +120,13 @@ module _ {s : List ℕ} {kind site value file column : Numeral} (m : Numerals s 
         numeral-good s 18 4 (fits 22 (omega arith)) (omega arith) column (m .column-is),
       ))
 
-  -- the one test of them all
   regroup : (a b c d e : Bool) → (a && (b && (c && (d && e)))) ≡ (a && b && c && d && e)
   regroup a b c d e = simp and-assoc
 
-  wrong-is : wrong s ≡ not (kind .good && site .good && value .good && file .good && column .good && eqb (getD s 22 0) 10)
+  wrong-is : wrong s ≡ not (allGood kind site value file column (getD s 22 0))
   wrong-is = ap (λ (b : Bool). not (b && eqb (getD s 22 0) 10)) (all-good ∙ regroup (kind .good) (site .good) (value .good) (file .good) (column .good))
 
-  fields-are : (kind .good && site .good && value .good && file .good && column .good && eqb (getD s 22 0) 10) ≡ true
+  fields-are : allGood kind site value file column (getD s 22 0) ≡ true
       → fields s ≡ record { kind = kind .value; site = site .value; value = value .value; file = file .value; column = column .value }
   fields-are g =
       let five = and-left (kind .good && site .good && value .good && file .good && column .good) (eqb (getD s 22 0) 10) g in
@@ -138,14 +141,14 @@ module _ {s : List ℕ} {kind site value file column : Numeral} (m : Numerals s 
         numeral-value s 18 4 (fits 22 (omega arith)) (omega arith) column (m .column-is) (and-right (kind .good && site .good && value .good && file .good) (column .good) five),
       )
 
-  pub wrong-line : (n : ℕ) → not (kind .good && site .good && value .good && file .good && column .good && eqb (getD s 22 0) 10) ≡ true → Refused 5 n ≡ readLine s n
+  pub wrong-line : (n : ℕ) → not (allGood kind site value file column (getD s 22 0)) ≡ true → Refused 5 n ≡ readLine s n
   wrong-line n e = sym (read-wrong s n (m .long) (wrong-is ∙ e))
 
-  pub good-line : (n : ℕ) → not (kind .good && site .good && value .good && file .good && column .good && eqb (getD s 22 0) 10) ≡ false
+  pub good-line : (n : ℕ) → not (allGood kind site value file column (getD s 22 0)) ≡ false
       → tabled (table (record { kind = kind .value; site = site .value; value = value .value; file = file .value; column = column .value })) n ≡ readLine s n
   good-line n e = ap (λ (x : Fields). tabled (table x) n) (sym (fields-are (not-false _ e))) ∙ sym (read-tabled s n (m .long) (wrong-is ∙ e))
 
--- line n of a text is whole where the text has more than n times 23 characters
+-- line n of a text is whole exactly where n is below the number of whole lines
 module _ (s : List ℕ) (n : ℕ) where
   pub whole : n < length s / 23 → length (lineAt s n) ≡ 23
   whole h = length-take-le 23 (drop (23 * n) s) (simp length-drop (omega arith))

@@ -38,6 +38,12 @@ pub enum Wrote {
     Refused(u8, usize),
 }
 
+// What the line writer gives: its answer, and beside it the 23 characters (an enum cannot hold them).
+pub struct Written {
+    pub answer: Wrote,
+    pub chars: [u8; 23],
+}
+
 // The frame where its fields are as the table has them, else refusal 6.
 fn listed(fit: bool, f: Frame, n: usize) -> Read
     ensures { λ r. ⌜ r ≡ tabled (only fit f) n ⌝ }
@@ -53,14 +59,18 @@ fn framed(kind: u32, site: u16, value: u32, file: u16, column: u16, n: usize) ->
     ensures { λ r. ⌜ r ≡ tabled (table (record { kind = kind; site = site; value = value; file = file; column = column })) n ⌝ }
 {
     match kind {
-        1 => {
-            let line = value;
-            listed(
-                (1 <= value) & (1 <= file) & (1 <= column),
-                Frame::Site(site, Place { file, line, column }),
-                n,
-            )
-        }
+        1 => listed(
+            (1 <= value) & (1 <= file) & (1 <= column),
+            Frame::Site(
+                site,
+                Place {
+                    file,
+                    line: value,
+                    column,
+                },
+            ),
+            n,
+        ),
         2 => listed(
             (value == 0) & (file == 0) & (column == 0),
             Frame::Call(site),
@@ -102,7 +112,7 @@ fn read_as(s: &[u8], n: usize) -> Read
     let value = digits::read::number(&s[6..14]);
     let file = digits::read::number(&s[14..18]);
     let column = digits::read::number(&s[18..22]);
-    if !(kind.good & site.good & value.good & file.good & column.good & (s[22] == 10)) {
+    if !(kind.good & site.good & value.good & file.good & column.good & (s[22] == b'\n')) {
         return Read::Refused(5, n);
     }
     framed(
@@ -168,12 +178,6 @@ pub fn value_at(text: &[u8], n: usize) -> u32
     field_at(text, n, 6, 8)
 }
 
-// What the line writer gives: its answer, and beside it the 23 characters (an enum cannot hold them).
-pub struct Written {
-    pub answer: Wrote,
-    pub chars: [u8; 23],
-}
-
 // The characters of five fields, where they are as the table has them, else refusal 6.
 fn put_fields(fit: bool, kind: u64, site: u16, value: u32, file: u16, column: u16) -> Written
     ensures { λ r. ⌜ (r .answer ≡ cond fit (Chars 23) (Refused 6 0)) × (r .chars ≡ cond fit (chars (record { kind = kind; site = site; value = value; file = file; column = column })) (replicate 23 0)) ⌝ }
@@ -184,7 +188,7 @@ fn put_fields(fit: bool, kind: u64, site: u16, value: u32, file: u16, column: u1
             chars: [0u8; 23],
         };
     }
-    let mut chars = [10u8; 23];
+    let mut chars = [b'\n'; 23];
     digits::write::put_digits(&mut chars[0..2], kind);
     digits::write::put_digits(&mut chars[2..6], site as u64);
     digits::write::put_digits(&mut chars[6..14], value as u64);
@@ -201,19 +205,14 @@ pub fn write_line(f: Frame) -> Written
     ensures { λ r. ⌜ (r .answer ≡ writeAnswer f) × (r .chars ≡ writeChars f) ⌝ }
 {
     match f {
-        Frame::Site(site, place) => {
-            let line = place.line;
-            let file = place.file;
-            let column = place.column;
-            put_fields(
-                (1 <= line) & (1 <= file) & (1 <= column),
-                1,
-                site,
-                line,
-                file,
-                column,
-            )
-        }
+        Frame::Site(site, place) => put_fields(
+            (1 <= place.line) & (1 <= place.file) & (1 <= place.column),
+            1,
+            site,
+            place.line,
+            place.file,
+            place.column,
+        ),
         Frame::Call(site) => put_fields(true, 2, site, 0, 0, 0),
         Frame::Spawn(site) => put_fields(true, 3, site, 0, 0, 0),
         Frame::Sync => put_fields(true, 4, 0, 0, 0, 0),

@@ -46,7 +46,7 @@ put-fields-requires-6 c κs = search needs
 
 returns : tie.Need-returns
 returns c =
-    let v = c .before .before .f .given in
+    let v = c .before .before .before .before .before .f .given in
     rw (v .1) (writes (Site (v .0 .0) (v .0 .1 .0)) _ _ _ (writable-site (v .0 .0) (v .0 .1 .0) (omega arith) (omega arith) (omega arith) (omega arith)) (c .put-fields .ensures))
 
 returns-2 : tie.Need-returns-2
