@@ -30,12 +30,16 @@ use Rattle.admit.proofs.Tallies.{Numbered, numbered-start, numbered-sno
 
 -- what is known behind the lines before
 pub record Known (D M : ℕ) (s ks : List ℕ) (before : List Frame) : Type 0 where
+  -- so many lines are left, and what becomes of them is the verdict
   pub left : ℕ
   pub whole : length before + left ≡ lineCount s
   pub rest : scan D M before (readsFrom s (length before) left) ≡ scan D M [] (reads s)
+  -- the sites are numbered 1, 2, 3 and on, within M
   pub numbered : Numbered before
   pub within : sites before ≤ M
+  -- at most D are open and no cost is beyond the table, so 13 does not apply to the next line
   pub safe : Safe D before
+  -- the first keys are those of the places declared so far
   pub narrow : NarrowSites before
   pub room : length ks ≡ 256
   pub keys : take (sites before) ks ≡ keysOf before

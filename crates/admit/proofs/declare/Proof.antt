@@ -1,6 +1,6 @@
 -- `admit::declare` meets its contract: each answer follows from the tests that led to it.
-use borrow.Author.Tests.{lt-ltb, le-ltb, eq-eqb, ne-eqb}
 use borrow.Author.Needs.{needs}
+use borrow.Author.Tests.{lt-ltb, le-ltb, eq-eqb, ne-eqb}
 use Rattle.admit.proofs.declare.Statement.{statement}
 use Rattle.admit.proofs.declare.Tie as tie
 

@@ -1,6 +1,6 @@
 -- `admit::enter` meets its contract: each answer follows from the tests that led to it.
-use borrow.Author.Tests.{lt-ltb, le-ltb, le-leb, lt-leb, eq-eqb, ne-eqb}
 use borrow.Author.Needs.{needs}
+use borrow.Author.Tests.{lt-ltb, le-ltb, le-leb, lt-leb, eq-eqb, ne-eqb}
 use Rattle.admit.proofs.enter.Statement.{statement}
 use Rattle.admit.proofs.enter.Tie as tie
 

@@ -1,10 +1,11 @@
--- `admit::known` meets its contract. The invariant: what has been found, or is among the keys to come, is what all of them have.
-use borrow.Author.Needs.{needs}
+-- `admit::known` meets its contract. The invariant: the key has been found, or is among the keys to come, exactly
+-- when it is among them all. The measure: the keys to come.
 use mathlib.Core.Path.{_≡_, refl, sym, _∙_}
 use mathlib.Core.Bool.{_||_}
 use mathlib.Core.Logic.{⊎-elim}
 use Prim.Native.Nat.{_≤_, _-_}
 use lib.ListN.{length, drop}
+use borrow.Author.Needs.{needs}
 use Rattle.trace.specs.Shape.{has}
 use Rattle.admit.proofs.Keys.{found-here, found-elsewhere, found-all}
 use Rattle.admit.proofs.known.Statement.{statement}

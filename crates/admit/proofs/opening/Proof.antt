@@ -1,5 +1,5 @@
-use native.Mathlib.Omega.{arith}
 -- `admit::opening` meets its contract: each answer follows from the tests that led to it.
+use native.Mathlib.Omega.{arith}
 use borrow.Author.Tests.{lt-ltb, le-ltb, eq-eqb, ne-eqb, le-leb, lt-leb}
 use Rattle.admit.proofs.opening.Statement.{statement}
 use Rattle.admit.proofs.opening.Tie as tie

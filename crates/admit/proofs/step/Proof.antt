@@ -1,6 +1,6 @@
 -- `admit::step` meets its contract: each answer is that of the part that the frame's kind asks.
-use borrow.Author.Tests.{eq-eqb, ne-eqb}
 use borrow.Author.Needs.{needs}
+use borrow.Author.Tests.{eq-eqb, ne-eqb}
 use Rattle.admit.proofs.step.Statement.{statement}
 use Rattle.admit.proofs.step.Tie as tie
 
