@@ -1,0 +1,163 @@
+-- Keys of places: narrow places are the same exactly when their keys are, so a lookup among the keys finds a place already declared.
+use mathlib.Core.Path.{_≡_, refl, sym, _∙_, ap}
+use mathlib.Core.Bool.{Bool, true, false, _&&_, _||_, or-true, or-false}
+use mathlib.Core.List.{List, [], _∷_, _++_, append-nil}
+use Prim.Native.Nat.{ℕ, suc, _+_, _≤_, _<_}
+use native.Mathlib.Numerals.{add-one}
+use native.Mathlib.Omega.{arith}
+use lib.ListN.{length, take, drop, getD, length-set, drop-of-length-le}
+use lib.Seq.{drop-cons, take-suc-set}
+use lib.Dec.{eqb, ltb}
+use borrow.Author.Tests.{ltb-true, eqb-true, eqb-false, eq-eqb, ne-eqb}
+use Rattle.line.specs.declared.Place.{Place}
+use Rattle.line.specs.declared.Frame.{Frame}
+use Rattle.line.specs.declared.Frame.the-variants.{Site, Call, Spawn, Sync, Return, Cost}
+use Rattle.line.specs.declared.Read.the-variants.{Line}
+use Rattle.line.specs.Table.{table, fieldsOf}
+use Rattle.line.specs.Read.{lineAt, readAt}
+use Rattle.line.specs.Write.{narrow, isFrame}
+use Rattle.line.proofs.RoundTrip.{read-write}
+use Rattle.trace.specs.Shape.{ifSite, has, sites}
+use Rattle.trace.specs.Refusals.{samePlace, placed, placeAgain}
+use Rattle.trace.proofs.Basics.{both}
+use Rattle.trace.proofs.Sites.{sites-append}
+use Rattle.admit.specs.Step.{key, seen, kept}
+
+-- ── the lookup ──
+
+pub has-more : (x : ℕ) (ks : List ℕ) (i : ℕ) → i < length ks → has x (drop i ks) ≡ (eqb (getD ks i 0) x || has x (drop (i + 1) ks))
+has-more x ks i h = rw (add-one, drop-cons ks i 0) (ap (λ (b : Bool). b || has x (drop (suc i) ks)) (flip (eqb (getD ks i 0) x) refl))
+  where
+    flip : (b : Bool) → eqb (getD ks i 0) x ≡ b → eqb x (getD ks i 0) ≡ eqb (getD ks i 0) x
+    flip true e = eq-eqb x (getD ks i 0) (sym (eqb-true (getD ks i 0) x e)) ∙ sym e
+    flip false e = ne-eqb x (getD ks i 0) (λ q. eqb-false (getD ks i 0) x e (sym q)) ∙ sym e
+
+-- one key more has been compared; f: found before it, f′: found with it
+module _ (x : ℕ) (ks : List ℕ) (i : ℕ) (f f′ : Bool) (l : i < length ks) where
+  pub found-here : getD ks i 0 ≡ x → f′ ≡ true → (f′ || has x (drop (i + 1) ks)) ≡ (f || has x (drop i ks))
+  found-here e q = ap (λ (b : Bool). b || has x (drop (i + 1) ks)) q ∙ sym (ap (λ (b : Bool). f || b) (has-more x ks i l ∙ ap (λ (b : Bool). b || has x (drop (i + 1) ks)) (eq-eqb (getD ks i 0) x e)) ∙ or-true f)
+
+  pub found-elsewhere : (getD ks i 0 ≡ x → ⊥) → f′ ≡ f → (f′ || has x (drop (i + 1) ks)) ≡ (f || has x (drop i ks))
+  found-elsewhere e q = ap (λ (b : Bool). b || has x (drop (i + 1) ks)) q ∙ sym (ap (λ (b : Bool). f || b) (has-more x ks i l ∙ ap (λ (b : Bool). b || has x (drop (i + 1) ks)) (ne-eqb (getD ks i 0) x e)))
+
+pub found-all : (x : ℕ) (ks : List ℕ) (i : ℕ) (f : Bool) → length ks ≤ i → (f || has x (drop i ks)) ≡ f
+found-all x ks i f h = ap (λ (l : List ℕ). f || has x l) (drop-of-length-le ks h) ∙ or-false f
+
+-- ── keys and places ──
+
+-- each number has room in its digits
+pub record Narrow (p : Place) : Type 0 where
+  pub file : p .file < 65536
+  pub line : p .line < 4294967296
+  pub column : p .column < 65536
+
+pub key-file : (p q : Place) → Narrow p → Narrow q → key p ≡ key q → p .file ≡ q .file
+key-file p q m n e = omega arith
+
+pub key-line : (p q : Place) → Narrow p → Narrow q → key p ≡ key q → p .line ≡ q .line
+key-line p q m n e = omega (arith, key-file p q m n e)
+
+pub key-column : (p q : Place) → Narrow p → Narrow q → key p ≡ key q → p .column ≡ q .column
+key-column p q m n e = omega (arith, key-file p q m n e, key-line p q m n e)
+
+pub same-key : (p q : Place) → Narrow p → Narrow q → eqb (key p) (key q) ≡ samePlace p q
+same-key p q m n = go (eqb (p .file) (q .file)) (eqb (p .line) (q .line)) (eqb (p .column) (q .column)) refl refl refl
+  where
+    go : (a b c : Bool) → eqb (p .file) (q .file) ≡ a → eqb (p .line) (q .line) ≡ b → eqb (p .column) (q .column) ≡ c → eqb (key p) (key q) ≡ (a && b && c)
+    go true true true ea eb ec = eq-eqb (key p) (key q) (omega (arith, eqb-true (p .file) (q .file) ea, eqb-true (p .line) (q .line) eb, eqb-true (p .column) (q .column) ec))
+    go true true false ea eb ec = ne-eqb (key p) (key q) (λ e. eqb-false (p .column) (q .column) ec (key-column p q m n e))
+    go true false c ea eb ec = ne-eqb (key p) (key q) (λ e. eqb-false (p .line) (q .line) eb (key-line p q m n e))
+    go false b c ea eb ec = ne-eqb (key p) (key q) (λ e. eqb-false (p .file) (q .file) ea (key-file p q m n e))
+
+-- ── the places of the site lines ──
+
+abbrev pub NarrowSite : Frame → Type 0
+NarrowSite (Site s p) = Narrow p
+NarrowSite (Call s) = Unit {0}
+NarrowSite (Spawn s) = Unit {0}
+NarrowSite Sync = Unit {0}
+NarrowSite Return = Unit {0}
+NarrowSite (Cost v) = Unit {0}
+
+abbrev pub NarrowSites : List Frame → Type 0
+NarrowSites [] = Unit {0}
+NarrowSites (f ∷ t) = NarrowSite f × NarrowSites t
+
+pub narrow-snoc : (t : List Frame) (f : Frame) → NarrowSites t → NarrowSite f → NarrowSites (t ++ f ∷ [])
+narrow-snoc [] f h n = (n, tt)
+narrow-snoc (e ∷ t) f h n = (h .0, narrow-snoc t f (h .1) n)
+
+-- a line that reads as a site has a narrow place
+pub read-narrow : (s : List ℕ) (n k : ℕ) (f : Frame) → readAt s n ≡ Line k f → NarrowSite f
+read-narrow s n k (Site i p) e =
+    let w = both (narrow (fieldsOf (Site i p))) (isFrame (table (fieldsOf (Site i p)))) (read-write (lineAt s n) n k (Site i p) e .1) .0 in
+    let c = both (ltb 1 256 && ltb i 65536 && ltb (p .line) 4294967296 && ltb (p .file) 65536) (ltb (p .column) 65536) w in
+    let f = both (ltb 1 256 && ltb i 65536 && ltb (p .line) 4294967296) (ltb (p .file) 65536) (c .0) in
+    let l = both (ltb 1 256 && ltb i 65536) (ltb (p .line) 4294967296) (f .0) in
+    record { file = ltb-true (p .file) 65536 (f .1); line = ltb-true (p .line) 4294967296 (l .1); column = ltb-true (p .column) 65536 (c .1) }
+read-narrow s n k (Call i) e = tt
+read-narrow s n k (Spawn i) e = tt
+read-narrow s n k Sync e = tt
+read-narrow s n k Return e = tt
+read-narrow s n k (Cost v) e = tt
+
+-- their keys, in their order
+abbrev pub keysOf : List Frame → List ℕ
+keysOf [] = []
+keysOf (f ∷ t) = ifSite (λ s p. key p ∷ keysOf t) (keysOf t) f
+
+pub keys-snoc : (t : List Frame) (f : Frame) → keysOf (t ++ f ∷ []) ≡ keysOf t ++ ifSite (λ s p. key p ∷ []) [] f
+keys-snoc [] f = refl
+keys-snoc (Site s p ∷ t) f = ap (λ (l : List ℕ). key p ∷ l) (keys-snoc t f)
+keys-snoc (Call s ∷ t) f = keys-snoc t f
+keys-snoc (Spawn s ∷ t) f = keys-snoc t f
+keys-snoc (Sync ∷ t) f = keys-snoc t f
+keys-snoc (Return ∷ t) f = keys-snoc t f
+keys-snoc (Cost v ∷ t) f = keys-snoc t f
+
+pub has-place : (p : Place) (t : List Frame) → Narrow p → NarrowSites t → has (key p) (keysOf t) ≡ placed p t
+has-place p [] m n = refl
+has-place p (Site s q ∷ t) m n = rw (same-key p q m (n .0), has-place p t m (n .1))
+has-place p (Call s ∷ t) m n = has-place p t m (n .1)
+has-place p (Spawn s ∷ t) m n = has-place p t m (n .1)
+has-place p (Sync ∷ t) m n = has-place p t m (n .1)
+has-place p (Return ∷ t) m n = has-place p t m (n .1)
+has-place p (Cost v ∷ t) m n = has-place p t m (n .1)
+
+-- ── the kept keys ──
+
+-- the first of the keys are those of the places declared so far
+module _ (ks : List ℕ) (before : List Frame) (are : take (sites before) ks ≡ keysOf before) where
+  -- the lookup finds refusal 10
+  pub seen-is : (f : Frame) → NarrowSites before → NarrowSite f → seen ks (sites before) f ≡ placeAgain before f
+  seen-is (Site s p) n m = ap (has (key p)) are ∙ has-place p before m n
+  seen-is (Call s) n m = refl
+  seen-is (Spawn s) n m = refl
+  seen-is Sync n m = refl
+  seen-is Return n m = refl
+  seen-is (Cost v) n m = refl
+
+  -- the keys with a line's place kept are those of the places declared with it
+  pub kept-is : (f : Frame) → sites before < length ks → take (sites (before ++ f ∷ [])) (kept ks (sites before) f) ≡ keysOf (before ++ f ∷ [])
+  kept-is f l = ap (λ (k : ℕ). take k (kept ks (sites before) f)) (sites-append before (f ∷ [])) ∙ go f ∙ sym (keys-snoc before f)
+    where
+      same : take (sites before + 0) ks ≡ keysOf before ++ []
+      same = let z : sites before + 0 ≡ sites before = omega arith in rw z (are ∙ sym (append-nil (keysOf before)))
+
+      go : (f : Frame) → take (sites before + sites (f ∷ [])) (kept ks (sites before) f) ≡ keysOf before ++ ifSite (λ s p. key p ∷ []) [] f
+      go (Site s p) =
+          let z : sites before + 1 ≡ suc (sites before) = omega arith in
+          rw z (take-suc-set ks (sites before) (key p) l ∙ ap (λ (u : List ℕ). u ++ key p ∷ []) are)
+      go (Call s) = same
+      go (Spawn s) = same
+      go Sync = same
+      go Return = same
+      go (Cost v) = same
+
+  pub kept-length : (f : Frame) → length (kept ks (sites before) f) ≡ length ks
+  kept-length (Site s p) = length-set ks (sites before) (key p)
+  kept-length (Call s) = refl
+  kept-length (Spawn s) = refl
+  kept-length Sync = refl
+  kept-length Return = refl
+  kept-length (Cost v) = refl

@@ -1,0 +1,5 @@
+pub mod Keys
+pub mod Tallies
+pub mod Reach
+pub mod Entry
+pub mod Admitted

@@ -1,0 +1,256 @@
+// Acceptance: the flat check of a whole trace. It says whether a trace is accepted, or its first refusal, before anything lent is written.
+
+use line::Frame;
+use line::Place;
+use line::Read;
+ghost use mathlib.Core.Path.{_≡_};
+ghost use mathlib.Core.List.{[]};
+ghost use Prim.Native.Nat.{_≤_, _<_};
+ghost use lib.ListN.{length};
+ghost use Rattle.line.specs.Read.{readAt};
+ghost use Rattle.trace.specs.Shape.{has};
+ghost use Rattle.trace.specs.Refusals.{scan, reads};
+ghost use Rattle.trace.specs.Promise.{Engine, rowsRoom};
+ghost use Rattle.admit.specs.Answer.{answerOf, admission, opening};
+ghost use Rattle.admit.specs.Step.{key, seen, kept, onward, declaring, entering, stepped, judgedBy, keptBy, Within, Limits};
+
+// What acceptance answers: the numbers of sites and of lines, or a refusal's number and line.
+pub enum Verdict {
+    Accepted(usize, usize),
+    Refused(u8, usize),
+}
+
+// "A tally of lines, sites and open depth": of the lines before the next one.
+pub struct Tally {
+    pub lines: usize,
+    pub sites: usize,
+    pub depth: usize,
+}
+
+// What a line does: the tally behind it, or a refusal's number and line.
+pub enum Tallied {
+    Next(Tally),
+    Refused(u8, usize),
+}
+
+// A place as one number: 16 bits of file, 32 of line, 16 of column. Two places are the same exactly when their keys are.
+fn key(p: Place) -> u64
+    ensures { λ r. ⌜ r ≡ key p ⌝ }
+{
+    (p.file as u64) * 281474976710656 + (p.line as u64) * 65536 + p.column as u64
+}
+
+// Whether a key is among the keys. The loop has no early end, so that it compares many at once.
+fn known(keys: &[u64], key: u64) -> bool
+    ensures { λ r. ⌜ r ≡ has key (now (keys .entry)) ⌝ }
+{
+    let mut found = false;
+    let mut i = 0;
+    while i < keys.len() {
+        if keys[i] == key {
+            found = true;
+        }
+        i += 1;
+    }
+    found
+}
+
+// Whether a line declares a place again. The key of a site line's place is kept behind the `count` keys before it.
+fn again(keys: &mut [u64], count: usize, frame: Frame) -> bool
+    requires { ⌜ count < length (now keys) ⌝ }
+    ensures { λ r. ⌜ (r ≡ seen (now (keys .entry)) count frame) × (now (keys .exit) ≡ kept (now (keys .entry)) count frame) ⌝ }
+{
+    match frame {
+        Frame::Site(_, place) => {
+            let k = key(place);
+            let found = known(&keys[..count], k);
+            keys[count] = k;
+            found
+        }
+        _ => false,
+    }
+}
+
+// One line more, with the sites and the open invocations behind it.
+fn onward(t: Tally, sites: usize, depth: usize) -> Tallied
+    requires { ⌜ t .lines < 65536 ⌝ }
+    ensures { λ r. ⌜ r ≡ onward t sites depth ⌝ }
+{
+    Tallied::Next(Tally {
+        lines: t.lines + 1,
+        sites,
+        depth,
+    })
+}
+
+// A site line, by its number: refusals 8, 9 and 10.
+fn declare(t: Tally, site: usize, again: bool, limit: usize) -> Tallied
+    requires { ⌜ (t .lines < 65536) × (t .sites ≤ t .lines) ⌝ }
+    ensures { λ r. ⌜ r ≡ declaring limit again site t ⌝ }
+{
+    if t.sites != t.lines {
+        return Tallied::Refused(8, t.lines);
+    }
+    if site != t.sites + 1 {
+        return Tallied::Refused(8, t.lines);
+    }
+    if limit < site {
+        return Tallied::Refused(9, t.lines);
+    }
+    if again {
+        return Tallied::Refused(10, t.lines);
+    }
+    onward(t, t.sites + 1, t.depth)
+}
+
+// A call or spawn, by its site: refusals 11 and 12.
+fn enter(t: Tally, site: usize, limit: usize) -> Tallied
+    requires { ⌜ (t .lines < 65536) × (limit ≤ 64) ⌝ }
+    ensures { λ r. ⌜ r ≡ entering limit site t ⌝ }
+{
+    if site == 0 {
+        return Tallied::Refused(11, t.lines);
+    }
+    if t.sites < site {
+        return Tallied::Refused(11, t.lines);
+    }
+    if limit <= t.depth {
+        return Tallied::Refused(12, t.lines);
+    }
+    onward(t, t.sites, t.depth + 1)
+}
+
+// The tally behind a line, or the smallest refusal from 7 to 12 that applies to it. 13 never applies within the limits (proved), so it is
+// not looked for.
+fn step(t: Tally, frame: Frame, again: bool, depth: usize, sites: usize) -> Tallied
+    requires { ⌜ (t .lines < 65536) × ((t .sites ≤ t .lines) × (depth ≤ 64)) ⌝ }
+    ensures { λ r. ⌜ r ≡ stepped depth sites again t frame ⌝ }
+{
+    if t.depth == 0 {
+        return Tallied::Refused(7, t.lines);
+    }
+    match frame {
+        Frame::Site(site, _) => declare(t, site as usize, again, sites),
+        Frame::Call(site) => enter(t, site as usize, depth),
+        Frame::Spawn(site) => enter(t, site as usize, depth),
+        Frame::Sync => onward(t, t.sites, t.depth),
+        Frame::Return => onward(t, t.sites, t.depth - 1),
+        Frame::Cost(_) => onward(t, t.sites, t.depth),
+    }
+}
+
+// A line of the trace, judged with the lines before it: their tally, and the keys of their places.
+fn judge(trace: &[u8], keys: &mut [u64], t: Tally, depth: usize, sites: usize) -> Tallied
+    requires { ⌜ Within depth (now keys) t ⌝ }
+    ensures { λ r. ⌜ (r ≡ judgedBy depth sites (now (keys .entry)) t (readAt (now (trace .entry)) (t .lines))) × (now (keys .exit) ≡ keptBy (now (keys .entry)) t (readAt (now (trace .entry)) (t .lines))) ⌝ }
+{
+    match line::read_at(trace, t.lines) {
+        Read::Line(_, frame) => {
+            let found = again(keys, t.sites, frame);
+            step(t, frame, found, depth, sites)
+        }
+        Read::Refused(number, line) => Tallied::Refused(number, line),
+    }
+}
+
+// All lines in turn: "the first faulty line decides", and "14 comes last".
+fn lines(trace: &[u8], depth: usize, sites: usize) -> Verdict
+    requires { ⌜ Limits depth sites (now trace) ⌝ }
+    ensures { λ r. ⌜ r ≡ answerOf (scan depth sites [] (reads (now (trace .entry)))) ⌝ }
+{
+    let count = trace.len() / 23;
+    let mut keys = [0u64; 256];
+    let mut tally = Tally {
+        lines: 0,
+        sites: 0,
+        depth: 1,
+    };
+    while tally.lines < count {
+        match judge(trace, &mut keys, tally, depth, sites) {
+            Tallied::Next(next) => {
+                tally = next;
+            }
+            Tallied::Refused(number, line) => {
+                return Verdict::Refused(number, line);
+            }
+        }
+    }
+    if tally.depth == 0 {
+        return Verdict::Accepted(tally.sites, tally.lines);
+    }
+    Verdict::Refused(14, tally.lines)
+}
+
+// The number of the first of checks 1 to 3 that fails, 0 where none does.
+fn opening(bytes: usize, depth: usize, sites: usize) -> u8
+    ensures { λ r. ⌜ r ≡ opening bytes depth sites ⌝ }
+{
+    if depth == 0 {
+        return 1;
+    }
+    if 64 < depth {
+        return 1;
+    }
+    if 255 < sites {
+        return 1;
+    }
+    if bytes % 23 != 0 {
+        return 2;
+    }
+    if 65536 < bytes / 23 {
+        return 3;
+    }
+    0
+}
+
+// "5·(M+1) row numbers"
+fn rows_room(sites: usize) -> usize
+    requires { ⌜ sites ≤ 255 ⌝ }
+    ensures { λ r. ⌜ r ≡ rowsRoom sites ⌝ }
+{
+    5 * (sites + 1)
+}
+
+// Acceptance for the table engine, lent `scratch` numbers of scratch and `rows` row numbers.
+pub fn for_tables(trace: &[u8], depth: usize, sites: usize, scratch: usize, rows: usize) -> Verdict
+    ensures { λ r. ⌜ r ≡ admission Engine.tables (now (trace .entry)) depth sites scratch rows 0 ⌝ }
+{
+    let first = opening(trace.len(), depth, sites);
+    if first != 0 {
+        return Verdict::Refused(first, 0);
+    }
+    if scratch < 4 * depth * (sites + 3) {
+        return Verdict::Refused(4, 0);
+    }
+    if rows < rows_room(sites) {
+        return Verdict::Refused(4, 0);
+    }
+    lines(trace, depth, sites)
+}
+
+// Acceptance for the marks engine, lent `marks` bytes of marks besides.
+pub fn for_marks(
+    trace: &[u8],
+    depth: usize,
+    sites: usize,
+    scratch: usize,
+    rows: usize,
+    marks: usize,
+) -> Verdict
+    ensures { λ r. ⌜ r ≡ admission Engine.marks (now (trace .entry)) depth sites scratch rows marks ⌝ }
+{
+    let first = opening(trace.len(), depth, sites);
+    if first != 0 {
+        return Verdict::Refused(first, 0);
+    }
+    if scratch < 8 * depth {
+        return Verdict::Refused(4, 0);
+    }
+    if rows < rows_room(sites) {
+        return Verdict::Refused(4, 0);
+    }
+    if marks < trace.len() / 23 {
+        return Verdict::Refused(4, 0);
+    }
+    lines(trace, depth, sites)
+}

@@ -1,0 +1,67 @@
+-- What the scratch of an open invocation holds: four blocks of n numbers, of the first three the first w in use, and its children's scratch behind them.
+use Prim.Native.Nat.{ℕ, _+_, _*_, _^_, _≤_, _<_}
+use mathlib.Core.Path.{_≡_}
+use mathlib.Core.List.{List, []}
+use lib.ListN.{length, getD}
+use Rattle.chain.specs.Plan.{CostLine, weight}
+use Rattle.trace.specs.Fold.{costAt, Chains, spent, joined, called, spawned, onRow}
+use Rattle.walk.specs.declared.Open.{Open}
+use Rattle.walk.specs.Numbers.{numbers, load}
+
+-- j is not among the w numbers from a on
+abbrev pub Out : ℕ → ℕ → ℕ → Type 0
+Out a w j = a ≤ j → j < a + w → ⊥
+
+-- the block at b was added to the block at a, and cleared
+pub record Added (a b w : ℕ) (t t′ : List ℕ) : Type 0 where
+  pub sums : (i : ℕ) → i < w → getD t′ (a + i) 0 ≡ getD t (a + i) 0 + getD t (b + i) 0
+  pub gone : (i : ℕ) → i < w → getD t′ (b + i) 0 ≡ 0
+  pub rest : (j : ℕ) → Out a w j → Out b w j → getD t′ j 0 ≡ getD t j 0
+
+-- the block at a was cleared
+pub record Cleared (a w : ℕ) (t t′ : List ℕ) : Type 0 where
+  pub gone : (i : ℕ) → i < w → getD t′ (a + i) 0 ≡ 0
+  pub rest : (j : ℕ) → Out a w j → getD t′ j 0 ≡ getD t j 0
+
+-- the block at a is a chain's table: what of the chain stands in each row below w
+abbrev pub Table : List ℕ → ℕ → ℕ → List CostLine → Type 0
+Table t a w c = (i : ℕ) → i < w → getD t (a + i) 0 ≡ onRow i c
+
+-- the tables of the three chains, that of a child's chain g at the front of its own scratch, and zeros everywhere else
+pub record Shows (n w : ℕ) (t : List ℕ) (k : Chains) (g : List CostLine) : Type 0 where
+  pub P : Table t 0 w (k .p)
+  pub L : Table t n w (k .l)
+  pub C : Table t (2 * n) w (k .c)
+  pub G : Table t (4 * n) w g
+  pub zero : (j : ℕ) → Out 0 w j → Out n w j → Out (2 * n) w j → Out (4 * n) w j → getD t j 0 ≡ 0
+
+-- What a step asks of the scratch t of an invocation with the numbers f: it shows the chains that weigh so, with a child's chain of weight v beside them.
+pub record Asks (n w : ℕ) (t : List ℕ) (f : Open) (v : ℕ) : Type 0 where
+  pub blocks : w ≤ n
+  pub room : 4 * n ≤ length t
+  pub k : Chains
+  pub g : List CostLine
+  pub weighs : f ≡ numbers (f .at) (f .work) k
+  pub child : weight g ≡ v
+  pub shows : Shows n w t k g
+  pub fits : load k + v < 2 ^ 64
+
+-- behind a cost of v in row s
+abbrev pub Spent : (n w s v : ℕ) (t : List ℕ) (f r : Open) (t′ : List ℕ) → Type 0
+Spent n w s v t f r t′ = (k : Chains) → f ≡ numbers (f .at) (f .work) k → Shows n w t k []
+    → (r ≡ numbers (f .at + 1) (f .work + v) (spent (costAt (f .at) s v) k)) × Shows n w t′ (spent (costAt (f .at) s v) k) []
+
+-- behind a sync or the return
+abbrev pub Joined : (n w : ℕ) (t : List ℕ) (f r : Open) (t′ : List ℕ) → Type 0
+Joined n w t f r t′ = (k : Chains) → f ≡ numbers (f .at) (f .work) k → Shows n w t k []
+    → (r ≡ numbers (f .at + 1) (f .work) (joined k)) × Shows n w t′ (joined k) []
+
+-- behind a called child with the numbers c
+abbrev pub Called : (n w : ℕ) (t : List ℕ) (f c r : Open) (t′ : List ℕ) → Type 0
+Called n w t f c r t′ = (k : Chains) (g : List CostLine) → f ≡ numbers (f .at) (f .work) k → weight g ≡ c .prefix → Shows n w t k g
+    → (r ≡ numbers (c .at) (f .work + c .work) (called g k)) × Shows n w t′ (called g k) []
+
+-- behind a spawned child with the numbers c
+abbrev pub Spawned : (n w : ℕ) (t : List ℕ) (f c r : Open) (t′ : List ℕ) → Type 0
+Spawned n w t f c r t′ = (k : Chains) (g : List CostLine) → f ≡ numbers (f .at) (f .work) k → weight g ≡ c .prefix → Shows n w t k g
+    → (r ≡ numbers (c .at) (f .work + c .work) (spawned g k)) × Shows n w t′ (spawned g k) []

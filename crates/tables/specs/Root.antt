@@ -1,0 +1,28 @@
+-- The root: what the engine learns from acceptance, and its table moved to column 5 of the rows.
+use Prim.Native.Nat.{ℕ, _+_, _*_, _≤_, _<_}
+use mathlib.Core.Path.{_≡_}
+use mathlib.Core.List.{List, []}
+use lib.ListN.{length, getD}
+use Rattle.line.specs.declared.Frame.{Frame}
+use Rattle.trace.specs.Shape.{sites}
+use Rattle.trace.specs.Rows.{columns}
+use Rattle.trace.specs.Refusals.{verdict, accepted}
+use Rattle.trace.specs.Promise.{tables, Lent, enough}
+
+-- what the table engine is lent
+abbrev pub lent : List ℕ → List ℕ → Lent
+lent scratch rows = record { scratch = scratch; rows = rows; marks = [] }
+
+-- the trace is accepted, with count sites and lines lines
+pub record Admitted (s : List ℕ) (D M : ℕ) (scratch rows : List ℕ) (count lines : ℕ) : Type 0 where
+  pub t : List Frame
+  pub is : verdict s D M (enough tables s D M (lent scratch rows)) ≡ accepted t
+  pub count-is : sites t ≡ count
+  pub lines-is : length t ≡ lines
+
+-- the first w numbers of t were moved to column 5
+pub record Settled (w : ℕ) (t rows t′ rows′ : List ℕ) : Type 0 where
+  pub on-span : (s : ℕ) → s < w → getD rows′ (columns * s + 4) 0 ≡ getD t s 0
+  pub others : (i : ℕ) → ((s : ℕ) → s < w → i ≡ columns * s + 4 → ⊥) → getD rows′ i 0 ≡ getD rows i 0
+  pub gone : (s : ℕ) → s < w → getD t′ s 0 ≡ 0
+  pub rest : (i : ℕ) → w ≤ i → getD t′ i 0 ≡ getD t i 0

@@ -1,0 +1,217 @@
+// The table engine. An open invocation's scratch is four blocks of n numbers, and its children's scratch behind them. The first w numbers of a block
+// are a table: what of a chain stands in each row. The blocks are those of the prefix, the longest child and the continuation; the fourth stays zero.
+ghost use mathlib.Core.Path.{_≡_};
+ghost use Prim.Native.Nat.{ℕ, _+_, _*_, _^_, _≤_, _<_};
+ghost use lib.ListN.{length, getD};
+ghost use Rattle.trace.specs.Rows.{columns};
+ghost use Rattle.trace.specs.Promise.{tables, Promise};
+ghost use Rattle.walk.specs.declared.Open.{Open};
+ghost use Rattle.tables.specs.Blocks.{Added, Cleared, Asks, Spent, Joined, Called, Spawned};
+ghost use Rattle.tables.specs.Root.{lent, Admitted, Settled};
+ghost use Rattle.tables.specs.Reader.{ItemAsks, ItemLeaves, BodyAsks, BodyLeaves};
+
+// Adds the block at b to the block at a, and clears it.
+fn add_from(t: &mut [u64], a: usize, b: usize, w: usize)
+    requires { ⌜ (a + w ≤ b) × (b + w ≤ length (now t)) ⌝ }
+    requires { ⌜ ((i : ℕ) → i < w → getD (now t) (a + i) 0 + getD (now t) (b + i) 0 < 2 ^ 64) ⌝ }
+    ensures { λ _. ⌜ Added a b w (now (t .entry)) (now (t .exit)) ⌝ }
+{
+    let mut i = 0;
+    while i < w {
+        t[a + i] = t[a + i] + t[b + i];
+        t[b + i] = 0;
+        i += 1;
+    }
+}
+
+// Clears the block at a.
+fn clear(t: &mut [u64], a: usize, w: usize)
+    requires { ⌜ a + w ≤ length (now t) ⌝ }
+    ensures { λ _. ⌜ Cleared a w (now (t .entry)) (now (t .exit)) ⌝ }
+{
+    let mut i = 0;
+    while i < w {
+        t[a + i] = 0;
+        i += 1;
+    }
+}
+
+// A cost of v in row s: the continuation's.
+fn spend(t: &mut [u64], n: usize, w: usize, f: walk::Open, s: usize, v: u64) -> walk::Open
+    requires { ⌜ Asks n w (now t) f 0 ⌝ }
+    requires { ⌜ (s < w) × ((f .at + 1 < 2 ^ 64) × ((f .work + v < 2 ^ 64) × (f .since + v < 2 ^ 64))) ⌝ }
+    ensures { λ r. ⌜ Spent n w s v (now (t .entry)) f r (now (t .exit)) ⌝ }
+{
+    let i = 2 * n + s;
+    walk::add(t, i, v);
+    f.spent(v)
+}
+
+// A sync, or the join at a return: the prefix takes the longest child or, where it is heavier, the continuation.
+fn join(t: &mut [u64], n: usize, w: usize, f: walk::Open) -> walk::Open
+    requires { ⌜ Asks n w (now t) f 0 ⌝ }
+    requires { ⌜ f .at + 1 < 2 ^ 64 ⌝ }
+    ensures { λ r. ⌜ Joined n w (now (t .entry)) f r (now (t .exit)) ⌝ }
+{
+    let k = 2 * n;
+    if f.longest < f.since {
+        add_from(t, 0, k, w);
+        clear(t, n, w);
+        return f.joined();
+    }
+    add_from(t, 0, n, w);
+    clear(t, k, w);
+    f.joined()
+}
+
+// A called child has returned: the continuation takes its chain.
+fn called(t: &mut [u64], n: usize, w: usize, f: walk::Open, c: walk::Open) -> walk::Open
+    requires { ⌜ Asks n w (now t) f (c .prefix) ⌝ }
+    requires { ⌜ (5 * n ≤ length (now t)) × (f .work + c .work < 2 ^ 64) ⌝ }
+    ensures { λ r. ⌜ Called n w (now (t .entry)) f c r (now (t .exit)) ⌝ }
+{
+    add_from(t, 2 * n, 4 * n, w);
+    f.called(c)
+}
+
+// A spawned child has returned: it is the longest from now on where it is longer, and the prefix takes the continuation up to it.
+fn spawned(t: &mut [u64], n: usize, w: usize, f: walk::Open, c: walk::Open) -> walk::Open
+    requires { ⌜ Asks n w (now t) f (c .prefix) ⌝ }
+    requires { ⌜ (5 * n ≤ length (now t)) × (f .work + c .work < 2 ^ 64) ⌝ }
+    ensures { λ r. ⌜ Spawned n w (now (t .entry)) f c r (now (t .exit)) ⌝ }
+{
+    let k = 2 * n;
+    let g = 4 * n;
+    if f.longest < f.since + c.prefix {
+        add_from(t, 0, k, w);
+        clear(t, n, w);
+        add_from(t, n, g, w);
+        return f.spawned(c);
+    }
+    clear(t, g, w);
+    f.spawned(c)
+}
+
+// Reads the items of an invocation of a row from its first line up to and with its return. At most deep more invocations open inside one another.
+fn body(
+    trace: &[u8],
+    from: usize,
+    row: usize,
+    deep: usize,
+    t: &mut [u64],
+    rows: &mut [u64],
+    n: usize,
+    w: usize,
+) -> walk::Open
+    requires { ⌜ BodyAsks (now trace) from row deep (now t) (now rows) n w ⌝ }
+    ensures { λ r. ⌜ BodyLeaves (now (trace .entry)) from row (now (t .entry)) (now (rows .entry)) n w r (now (t .exit)) (now (rows .exit)) ⌝ }
+{
+    let mut f = walk::Open::new(from);
+    let mut at = from;
+    while line::kind_at(trace, at) != 5 {
+        f = item(trace, f, row, deep, t, rows, n, w);
+        at = f.at;
+    }
+    join(t, n, w, f)
+}
+
+// Reads one item, with the whole body of a call or a spawn.
+fn item(
+    trace: &[u8],
+    f: walk::Open,
+    row: usize,
+    deep: usize,
+    t: &mut [u64],
+    rows: &mut [u64],
+    n: usize,
+    w: usize,
+) -> walk::Open
+    requires { ⌜ ItemAsks (now trace) row deep f (now t) (now rows) n w ⌝ }
+    ensures { λ r. ⌜ ItemLeaves (now (trace .entry)) row f (now (t .entry)) (now (rows .entry)) n w r (now (t .exit)) (now (rows .exit)) ⌝ }
+{
+    let at = f.at;
+    let kind = line::kind_at(trace, at);
+    if kind == 6 {
+        let v = line::value_at(trace, at) as u64;
+        walk::spend(rows, row, v);
+        return spend(t, n, w, f, row, v);
+    }
+    if kind == 4 {
+        return join(t, n, w, f);
+    }
+    let site = line::site_at(trace, at) as usize;
+    let o = 4 * n;
+    let c = body(trace, at + 1, site, deep - 1, &mut t[o..], rows, n, w);
+    walk::count(rows, site, c.work, c.prefix);
+    if kind == 2 {
+        return called(t, n, w, f, c);
+    }
+    spawned(t, n, w, f, c)
+}
+
+// Column 5: each row's number is moved out of the root's table.
+fn settle(t: &mut [u64], rows: &mut [u64], w: usize)
+    requires { ⌜ (w ≤ length (now t)) × (columns * w ≤ length (now rows)) ⌝ }
+    ensures { λ _. ⌜ Settled w (now (t .entry)) (now (rows .entry)) (now (t .exit)) (now (rows .exit)) ⌝ }
+{
+    let mut i = 0;
+    while i < w {
+        rows[walk::COLUMNS * i + 4] = t[i];
+        t[i] = 0;
+        i += 1;
+    }
+}
+
+// An accepted trace of count sites and lines lines: the room is cleared, the root is read, and its table is moved out.
+fn accepted(
+    text: &[u8],
+    depth: usize,
+    sites: usize,
+    count: usize,
+    lines: usize,
+    scratch: &mut [u64],
+    rows: &mut [u64],
+) -> trace::Answer
+    requires { ⌜ Admitted (now text) depth sites (now scratch) (now rows) count lines ⌝ }
+    ensures { λ r. ⌜ Promise tables (now (text .entry)) depth sites (lent (now (scratch .entry)) (now (rows .entry))) r (lent (now (scratch .exit)) (now (rows .exit))) ⌝ }
+{
+    walk::zero(scratch, scratch.len());
+    walk::zero(rows, walk::COLUMNS * (count + 1));
+    let f = body(
+        text,
+        count,
+        0,
+        depth - 1,
+        scratch,
+        rows,
+        sites + 3,
+        count + 1,
+    );
+    walk::count(rows, 0, f.work, f.prefix);
+    settle(scratch, rows, count + 1);
+    trace::Answer::Accepted(f.work, f.prefix, count, lines)
+}
+
+// The table engine: any text, any limits and any room.
+pub fn profile(
+    text: &[u8],
+    depth: usize,
+    sites: usize,
+    scratch: &mut [u64],
+    rows: &mut [u64],
+) -> trace::Answer
+    ensures { λ r. ⌜ Promise tables (now (text .entry)) depth sites (lent (now (scratch .entry)) (now (rows .entry))) r (lent (now (scratch .exit)) (now (rows .exit))) ⌝ }
+{
+    match admit::for_tables(text, depth, sites, scratch.len(), rows.len()) {
+        admit::Verdict::Accepted(count, lines) => accepted(
+            text,
+            depth,
+            sites,
+            count,
+            lines,
+            scratch,
+            rows,
+        ),
+        admit::Verdict::Refused(number, line) => trace::Answer::Refused(number, line),
+    }
+}

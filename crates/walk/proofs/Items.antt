@@ -1,0 +1,134 @@
+-- A body is its first item and the rest: size, work, rows, chains, lines.
+use mathlib.Core.Path.{_≡_, refl, ap, _∙_, sym, subst}
+use mathlib.Core.Logic.{_⊎_, inl, inr}
+use mathlib.Core.Bool.{Bool, true, false, cond}
+use mathlib.Core.List.{List, [], _∷_, _++_}
+use Prim.Native.Nat.{ℕ, zero, suc, _+_, _*_, _≤_, _<_}
+use native.Mathlib.Numerals.{add-one}
+use native.Mathlib.Omega.{arith}
+use lib.Dec.{ltb}
+use lib.ListN.{length}
+use Rattle.line.specs.declared.Frame.{Frame}
+use Rattle.chain.specs.Plan.{CostLine, weight, choose}
+use Rattle.chain.proofs.Lists.{weight-append}
+use Rattle.chain.proofs.Choose.{choose-cases}
+use Rattle.trace.specs.Rows.{columns}
+use Rattle.trace.specs.Tree.{Body, done, spend, sync, call, spawn, linesOf, size, Within, workOf}
+use Rattle.trace.specs.Fold.{costAt, Chains, nothing, spent, joined, called, spawned, run}
+use Rattle.trace.proofs.Tree.{size-is}
+use Rattle.walk.specs.Stands.{Stands}
+use Rattle.walk.specs.Numbers.{load}
+use Rattle.walk.specs.Gain.{one, made, gain}
+use Rattle.walk.specs.Item.{More, rest, itemSize, itemWork, itemGain, itemChains}
+
+pub size-item : (b : Body) → More b → size b ≡ itemSize b + size (rest b)
+size-item done h = absurd h
+size-item (spend v r) h = omega arith
+size-item (sync r) h = omega arith
+size-item (call j g r) h = omega arith
+size-item (spawn j g r) h = omega arith
+
+pub size-some : (b : Body) → 1 ≤ size b
+size-some done = omega arith
+size-some (spend v r) = omega arith
+size-some (sync r) = omega arith
+size-some (call j g r) = omega arith
+size-some (spawn j g r) = omega arith
+
+pub item-some : (b : Body) → More b → 1 ≤ itemSize b
+item-some done h = absurd h
+item-some (spend v r) h = omega arith
+item-some (sync r) h = omega arith
+item-some (call j g r) h = omega arith
+item-some (spawn j g r) h = omega arith
+
+pub work-item : (b : Body) → workOf b ≡ itemWork b + workOf (rest b)
+work-item done = refl
+work-item (spend v r) = refl
+work-item (sync r) = omega arith
+work-item (call j g r) = refl
+work-item (spawn j g r) = refl
+
+pub gain-item : (b : Body) (s i : ℕ) → gain s b i ≡ itemGain s b i + gain s (rest b) i
+gain-item done s i = refl
+gain-item (spend v r) s i = refl
+gain-item (sync r) s i = omega arith
+gain-item (call j g r) s i = omega arith
+gain-item (spawn j g r) s i = omega arith
+
+-- the line behind an item of one line and z more
+behind : (n z : ℕ) → n + (1 + z) ≡ suc n + z
+behind n z = omega arith
+
+pub run-item : (b : Body) (n s : ℕ) (k : Chains) → More b → run n s k b ≡ run (n + itemSize b) s (itemChains n s b k) (rest b)
+run-item done n s k h = absurd h
+run-item (spend v r) n s k h = ap (λ (m : ℕ). run m s (spent (costAt n s v) k) r) (sym (add-one n))
+run-item (sync r) n s k h = ap (λ (m : ℕ). run m s (joined k) r) (sym (add-one n))
+run-item (call j g r) n s k h = rw (behind n (size g), add-one n)
+run-item (spawn j g r) n s k h = rw (behind n (size g), add-one n)
+
+choose-le : (l c : List CostLine) → weight (choose l c) ≤ weight l + weight c
+choose-le l c = go (choose-cases l c)
+  where
+    go : ((weight l < weight c) × (choose l c ≡ c)) ⊎ ((weight c ≤ weight l) × (choose l c ≡ l)) → weight (choose l c) ≤ weight l + weight c
+    go (inl k) = omega (arith, ap weight (k .1))
+    go (inr k) = omega (arith, ap weight (k .1))
+
+join-load : (k : Chains) → load (joined k) ≤ load k
+join-load k = omega (arith, weight-append (k .p) (choose (k .l) (k .c)), choose-le (k .l) (k .c))
+
+spawn-load : (k : Chains) (g : List CostLine) → load (spawned g k) ≤ load k + weight g
+spawn-load k g = go (ltb (weight (k .l)) (weight (k .c) + weight g))
+  where
+    go : (t : Bool) → load (cond t (record { p = k .p ++ k .c; l = g; c = [] }) k) ≤ load k + weight g
+    go true = omega (arith, weight-append (k .p) (k .c))
+    go false = omega arith
+
+-- a chain weighs at most what the chains so far weigh and what is left to be spent
+pub run-le : (b : Body) (n s : ℕ) (k : Chains) → weight (run n s k b) ≤ load k + workOf b
+run-le done n s k = omega (arith, join-load k)
+run-le (spend v r) n s k = omega (arith, run-le r (suc n) s (spent (costAt n s v) k), weight-append (k .c) (costAt n s v ∷ []))
+run-le (sync r) n s k = omega (arith, run-le r (suc n) s (joined k), join-load k)
+run-le (call j g r) n s k =
+    let c = run (suc n) j nothing g in
+    omega (arith, run-le r (suc n + size g) s (called c k), weight-append (k .c) c, run-le g (suc n) j nothing)
+run-le (spawn j g r) n s k =
+    let c = run (suc n) j nothing g in
+    omega (arith, run-le r (suc n + size g) s (spawned c k), spawn-load k c, run-le g (suc n) j nothing)
+
+pub load-item : (b : Body) (n s : ℕ) (k : Chains) → load (itemChains n s b k) ≤ load k + itemWork b
+load-item done n s k = omega arith
+load-item (spend v r) n s k = omega (arith, weight-append (k .c) (costAt n s v ∷ []))
+load-item (sync r) n s k = omega (arith, join-load k)
+load-item (call j g r) n s k = omega (arith, weight-append (k .c) (run (n + 1) j nothing g), run-le g (n + 1) j nothing)
+load-item (spawn j g r) n s k = omega (arith, spawn-load k (run (n + 1) j nothing g), run-le g (n + 1) j nothing)
+
+-- lines that stand one behind the other
+pub stands-left : (s : List ℕ) (u v : List Frame) (n : ℕ) → Stands s n (u ++ v) → Stands s n u
+stands-left s [] v n h = tt
+stands-left s (f ∷ u) v n h = (h .0, stands-left s u v (n + 1) (h .1))
+
+pub stands-right : (s : List ℕ) (u v : List Frame) (n : ℕ) → Stands s n (u ++ v) → Stands s (n + length u) v
+stands-right s [] v n h = let e : n ≡ n + 0 = omega arith in subst (λ (k : ℕ). Stands s k v) e h
+stands-right s (f ∷ u) v n h =
+    let e : n + 1 + length u ≡ n + suc (length u) = omega arith in
+    subst (λ (k : ℕ). Stands s k v) e (stands-right s u v (n + 1) (h .1))
+
+past-child : (s : List ℕ) (g r : Body) (n : ℕ) → Stands s (n + 1) (linesOf g ++ linesOf r) → Stands s (n + (1 + size g)) (linesOf r)
+past-child s g r n h =
+    let e : n + 1 + length (linesOf g) ≡ n + (1 + size g) = omega (arith, size-is g) in
+    subst (λ (k : ℕ). Stands s k (linesOf r)) e (stands-right s (linesOf g) (linesOf r) (n + 1) h)
+
+pub stands-rest : (s : List ℕ) (b : Body) (n : ℕ) → More b → Stands s n (linesOf b) → Stands s (n + itemSize b) (linesOf (rest b))
+stands-rest s done n m h = absurd m
+stands-rest s (spend v r) n m h = h .1
+stands-rest s (sync r) n m h = h .1
+stands-rest s (call j g r) n m h = past-child s g r n (h .1)
+stands-rest s (spawn j g r) n m h = past-child s g r n (h .1)
+
+pub within-rest : (m D d : ℕ) (b : Body) → Within m D d b → Within m D d (rest b)
+within-rest m D d done h = tt
+within-rest m D d (spend v r) h = h .2
+within-rest m D d (sync r) h = h
+within-rest m D d (call j g r) h = h .4
+within-rest m D d (spawn j g r) h = h .4

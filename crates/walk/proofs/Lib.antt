@@ -1,0 +1,9 @@
+pub mod Items
+pub mod Numbers
+pub mod Lines
+pub mod Rows
+pub mod Reader
+pub mod Says
+pub mod Columns
+pub mod Root
+pub mod Zeros

@@ -1,0 +1,86 @@
+-- One item further: what a reader asks for holds again, and the outcome is the same.
+use mathlib.Core.Path.{_≡_, refl, ap, _∙_, sym, subst}
+use mathlib.Core.List.{List, []}
+use Prim.Native.Nat.{ℕ, _+_, _*_, _^_, _≤_, _<_}
+use native.Mathlib.Decide.{decLt}
+use native.Mathlib.Omega.{arith}
+use lib.ListN.{length, getD, List·getD-eq-default}
+use Rattle.chain.specs.Plan.{CostLine, weight}
+use Rattle.trace.specs.Rows.{columns}
+use Rattle.trace.specs.Tree.{Body, done, linesOf, size, Within, workOf}
+use Rattle.trace.specs.Fold.{Chains, nothing, joined, run}
+use Rattle.walk.specs.declared.Open.{Open}
+use Rattle.walk.specs.Stands.{Stands}
+use Rattle.walk.specs.Numbers.{numbers, load}
+use Rattle.walk.specs.Gain.{gain}
+use Rattle.walk.specs.Item.{More, rest, itemSize, itemWork, itemGain, itemChains}
+use Rattle.walk.specs.Reader.{Ready, ItemDone, alone, BodyDone, Turn}
+use Rattle.walk.proofs.Items.{size-item, item-some, work-item, gain-item, run-item, load-item, stands-rest, within-rest}
+
+-- what the numbers of f are, where they are those of chains
+pub load-is : (f : Open) (k : Chains) → f ≡ numbers (f .at) (f .work) k → f .prefix + (f .longest + f .since) ≡ load k
+load-is f k e = omega (arith, ap (λ (x : Open). x .prefix) e, ap (λ (x : Open). x .longest) e, ap (λ (x : Open). x .since) e)
+
+-- the numbers of chains at some line and work are so at their own
+pub own-numbers : (f : Open) (n w : ℕ) (k : Chains) → f ≡ numbers n w k → f ≡ numbers (f .at) (f .work) k
+own-numbers f n w k e = e ∙ ap (λ (j : ℕ). numbers j w k) (sym (ap (λ (x : Open). x .at) e)) ∙ ap (λ (j : ℕ). numbers (f .at) j k) (sym (ap (λ (x : Open). x .work) e))
+
+module _ (s : List ℕ) (row m deep : ℕ) (f : Open) (rows : List ℕ) (r : Ready s row m deep f rows) (more : More (r .body))
+    (k : Chains) (weighs : f ≡ numbers (f .at) (f .work) k) (f′ : Open) (rows′ : List ℕ) (len : length rows′ ≡ length rows)
+    (h : ItemDone row f rows (r .body) k f′ rows′) where
+  at-is : f′ .at ≡ f .at + itemSize (r .body)
+  at-is = ap (λ (x : Open). x .at) (h .numbers-are)
+
+  pub farther : f .at < f′ .at
+  farther = omega (arith, at-is, item-some (r .body) more)
+
+  pub ready-again : Ready s row m deep f′ rows′
+  ready-again =
+      let b = r .body in
+      record {
+        body = rest b;
+        stands = subst (λ (n : ℕ). Stands s n (linesOf (rest b))) (sym at-is) (stands-rest s b (f .at) more (r .stands));
+        D = r .D;
+        d = r .d;
+        within = within-rest (m) (r .D) (r .d) b (r .within);
+        depth = r .depth;
+        row-in = r .row-in;
+        rows-long = omega (arith, r .rows-long, len);
+        ends = omega (arith, at-is, size-item b more, r .ends);
+        work-fits = omega (arith, ap (λ (x : Open). x .work) (h .numbers-are), work-item b, r .work-fits);
+        load-fits = omega (arith, ap (λ (x : Open). x .prefix) (h .numbers-are), ap (λ (x : Open). x .longest) (h .numbers-are), ap (λ (x : Open). x .since) (h .numbers-are), load-item b (f .at) row k, load-is f k weighs, work-item b, r .load-fits);
+        rows-fit = λ i. fit i (decLt i (length rows));
+      }
+    where
+      fit : (i : ℕ) → Dec (i < length rows) → getD rows′ i 0 + gain row (rest (r .body)) i < 2 ^ 64
+      fit i (yes l) = omega (arith, h .rows-are i l, gain-item (r .body) row i, r .rows-fit i)
+      fit i (no l) =
+          omega (arith, List·getD-eq-default rows′ 0 {n = i} (omega (arith, len)), List·getD-eq-default rows 0 {n = i} (omega arith), gain-item (r .body) row i, r .rows-fit i)
+
+module _ (s : List ℕ) (n row : ℕ) (rows₀ : List ℕ) (b : Body) where
+  pub turn-start : Stands s n (linesOf b) → Turn s n row rows₀ b (numbers n 0 nothing) rows₀ b nothing
+  turn-start h = record { stands = h; weighs = refl; same-end = refl; same-work = omega arith; same-chain = refl; same-rows = λ i l. refl }
+
+  module _ (f : Open) (rows : List ℕ) (l : Body) (k : Chains) (u : Turn s n row rows₀ b f rows l k) (len : length rows ≡ length rows₀) where
+    pub turn-again : (f′ : Open) (rows′ : List ℕ) → More l → ItemDone row f rows l k f′ rows′ → Turn s n row rows₀ b f′ rows′ (rest l) (itemChains (f .at) row l k)
+    turn-again f′ rows′ more h =
+        let at : f′ .at ≡ f .at + itemSize l = ap (λ (x : Open). x .at) (h .numbers-are) in
+        record {
+          stands = subst (λ (j : ℕ). Stands s j (linesOf (rest l))) (sym at) (stands-rest s l (f .at) more (u .stands));
+          weighs = own-numbers f′ (f .at + itemSize l) (f .work + itemWork l) (itemChains (f .at) row l k) (h .numbers-are);
+          same-end = omega (arith, at, size-item l more, u .same-end);
+          same-work = omega (arith, ap (λ (x : Open). x .work) (h .numbers-are), work-item l, u .same-work);
+          same-chain = ap (λ (j : ℕ). run j row (itemChains (f .at) row l k) (rest l)) at ∙ sym (run-item l (f .at) row k more) ∙ u .same-chain;
+          same-rows = λ i q. omega (arith, h .rows-are i (omega (arith, len)), gain-item l row i, u .same-rows i q);
+        }
+
+    -- at the return, where the chains are joined
+    pub turn-done : (r : Open) → l ≡ done → r ≡ numbers (f .at + 1) (f .work) (joined k) → BodyDone n row rows₀ b r rows
+    turn-done r e h =
+        let c : run (f .at) row k l ≡ joined k .p = ap (run (f .at) row k) e in
+        let at : f .at + 1 ≡ n + size b = omega (arith, u .same-end, ap size e) in
+        let w : f .work ≡ workOf b = omega (arith, u .same-work, ap workOf e) in
+        record {
+          numbers-are = h ∙ ap (λ (j : ℕ). numbers j (f .work) (joined k)) at ∙ ap (λ (x : ℕ). numbers (n + size b) x (joined k)) w ∙ ap (λ (x : List CostLine). numbers (n + size b) (workOf b) (alone x)) (sym c ∙ u .same-chain);
+          rows-are = λ i q. omega (arith, u .same-rows i q, ap (λ (x : Body). gain row x i) e);
+        }

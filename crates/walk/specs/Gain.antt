@@ -1,0 +1,33 @@
+-- By how much each row number grows while a body is read: columns 1 to 4.
+use Prim.Native.Nat.{ℕ, _+_, _*_, _<_}
+use mathlib.Core.Path.{_≡_}
+use mathlib.Core.Bool.{Bool, cond}
+use mathlib.Core.List.{List}
+use lib.Dec.{eqb}
+use lib.ListN.{length, getD}
+use Rattle.trace.specs.Rows.{columns}
+use Rattle.trace.specs.Tree.{Body, done, spend, sync, call, spawn, workOf, spanOf}
+
+-- v where row number i is number j, else nothing
+abbrev pub one : ℕ → ℕ → ℕ → ℕ
+one j v i = cond (eqb j i) v 0
+
+-- an invocation of site s: a call, its work and its span
+abbrev pub counted : ℕ → ℕ → ℕ → ℕ → ℕ
+counted s work span i = one (columns * s) 1 i + (one (columns * s + 1) work i + one (columns * s + 2) span i)
+
+-- the same by its body
+abbrev pub made : ℕ → Body → ℕ → ℕ
+made s g i = counted s (workOf g) (spanOf g) i
+
+-- s is the row of the invocation whose body is read
+abbrev pub gain : ℕ → Body → ℕ → ℕ
+gain s done i = 0
+gain s (spend v r) i = one (columns * s + 3) v i + gain s r i
+gain s (sync r) i = gain s r i
+gain s (call j g r) i = made j g i + (gain j g i + gain s r i)
+gain s (spawn j g r) i = made j g i + (gain j g i + gain s r i)
+
+-- the rows grew by g, number by number
+abbrev pub Grown : List ℕ → (ℕ → ℕ) → List ℕ → Type 0
+Grown rows g rows′ = (i : ℕ) → i < length rows → getD rows′ i 0 ≡ getD rows i 0 + g i

@@ -1,0 +1,5 @@
+pub mod Stands
+pub mod Numbers
+pub mod Gain
+pub mod Item
+pub mod Reader

@@ -1,0 +1,53 @@
+-- What a reader of an invocation's items asks for, and what it leaves, whichever engine it serves.
+use Prim.Native.Nat.{ℕ, _+_, _*_, _^_, _≤_, _<_}
+use mathlib.Core.Path.{_≡_}
+use mathlib.Core.List.{List, []}
+use lib.ListN.{length, getD}
+use Rattle.chain.specs.Plan.{CostLine}
+use Rattle.trace.specs.Rows.{columns}
+use Rattle.trace.specs.Tree.{Body, linesOf, size, Within, workOf}
+use Rattle.trace.specs.Fold.{Chains, nothing, run}
+use Rattle.walk.specs.declared.Open.{Open}
+use Rattle.walk.specs.Stands.{Stands}
+use Rattle.walk.specs.Numbers.{numbers}
+use Rattle.walk.specs.Gain.{gain}
+use Rattle.walk.specs.Item.{itemSize, itemWork, itemGain, itemChains}
+
+-- The lines of s from line f .at on are those of a body. Its sites are at most m, at most deep invocations open inside one another, and
+-- whatever number reading it comes to, from the invocation's numbers f and the rows, fits.
+pub record Ready (s : List ℕ) (row m deep : ℕ) (f : Open) (rows : List ℕ) : Type 0 where
+  pub body : Body
+  pub stands : Stands s (f .at) (linesOf body)
+  pub D : ℕ
+  pub d : ℕ
+  pub within : Within m D d body
+  pub depth : d + deep ≡ D
+  pub row-in : row ≤ m
+  pub rows-long : columns * (m + 1) ≤ length rows
+  pub ends : f .at + size body ≤ 65536
+  pub work-fits : f .work + workOf body < 2 ^ 64
+  pub load-fits : f .prefix + (f .longest + f .since) + workOf body < 2 ^ 64
+  pub rows-fit : (i : ℕ) → getD rows i 0 + gain row body i < 2 ^ 64
+
+-- behind the first item of b: the numbers r and the rows
+pub record ItemDone (row : ℕ) (f : Open) (rows : List ℕ) (b : Body) (k : Chains) (r : Open) (rows′ : List ℕ) : Type 0 where
+  pub numbers-are : r ≡ numbers (f .at + itemSize b) (f .work + itemWork b) (itemChains (f .at) row b k)
+  pub rows-are : (i : ℕ) → i < length rows → getD rows′ i 0 ≡ getD rows i 0 + itemGain row b i
+
+-- an invocation that has come to one chain
+abbrev pub alone : List CostLine → Chains
+alone c = record { p = c; l = []; c = [] }
+
+-- behind the whole body b, which begins at line n
+pub record BodyDone (n row : ℕ) (rows : List ℕ) (b : Body) (r : Open) (rows′ : List ℕ) : Type 0 where
+  pub numbers-are : r ≡ numbers (n + size b) (workOf b) (alone (run n row nothing b))
+  pub rows-are : (i : ℕ) → i < length rows → getD rows′ i 0 ≡ getD rows i 0 + gain row b i
+
+-- Inside the body b, which begins at line n: what is left of it, and that what b comes to is what this comes to from the chains k.
+pub record Turn (s : List ℕ) (n row : ℕ) (rows₀ : List ℕ) (b : Body) (f : Open) (rows : List ℕ) (left : Body) (k : Chains) : Type 0 where
+  pub stands : Stands s (f .at) (linesOf left)
+  pub weighs : f ≡ numbers (f .at) (f .work) k
+  pub same-end : f .at + size left ≡ n + size b
+  pub same-work : f .work + workOf left ≡ workOf b
+  pub same-chain : run (f .at) row k left ≡ run n row nothing b
+  pub same-rows : (i : ℕ) → i < length rows₀ → getD rows i 0 + gain row left i ≡ getD rows₀ i 0 + gain row b i

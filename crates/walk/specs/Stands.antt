@@ -1,0 +1,31 @@
+-- Which frames stand in a text, and what a frame's line says.
+use Prim.Native.Nat.{ℕ, _+_, _*_, _≤_}
+use mathlib.Core.Path.{_≡_}
+use mathlib.Core.List.{List, [], _∷_}
+use lib.ListN.{length}
+use Rattle.line.specs.declared.Frame.{Frame}
+use Rattle.line.specs.declared.Read.the-variants.{Line}
+use Rattle.line.specs.Table.{fieldsOf}
+use Rattle.line.specs.Read.{readAt}
+
+-- the lines of s from line n on read as these frames
+abbrev pub Stands : List ℕ → ℕ → List Frame → Type 0
+Stands s n [] = Unit {0}
+Stands s n (f ∷ l) = (readAt s n ≡ Line n f) × Stands s (n + 1) l
+
+-- line n of s is whole
+abbrev pub Whole : List ℕ → ℕ → Type 0
+Whole s n = 23 * n + 23 ≤ length s
+
+-- r is what field p says of line n, whatever frame it reads as
+abbrev pub Says : (Frame → ℕ) → List ℕ → ℕ → ℕ → Type 0
+Says p s n r = (f : Frame) → readAt s n ≡ Line n f → r ≡ p f
+
+abbrev pub kindOf : Frame → ℕ
+kindOf f = fieldsOf f .kind
+
+abbrev pub siteOf : Frame → ℕ
+siteOf f = fieldsOf f .site
+
+abbrev pub valueOf : Frame → ℕ
+valueOf f = fieldsOf f .value

@@ -1,0 +1,152 @@
+// What both engines share: an open invocation's numbers, and columns 1 to 4 of the rows.
+
+ghost use mathlib.Core.Path.{_≡_};
+ghost use Prim.Native.Nat.{_+_, _*_, _^_, _≤_, _<_};
+ghost use mathlib.Core.List.{_++_};
+ghost use lib.ListN.{length, getD, set, drop, replicate};
+ghost use Rattle.trace.specs.Rows.{columns};
+ghost use Rattle.trace.specs.Fold.{nothing};
+ghost use Rattle.walk.specs.Gain.{one, counted, Grown};
+ghost use Rattle.walk.specs.Numbers.{numbers, spentN, joinedN, calledN, spawnedN};
+
+// Five numbers a row.
+pub const COLUMNS: usize = 5;
+
+// An open invocation: its next line, the work so far, and what its three chains weigh: up to the last join, the longest child's since, and
+// that since the spawn of this child.
+pub struct Open {
+    pub at: usize,
+    pub work: u64,
+    pub prefix: u64,
+    pub longest: u64,
+    pub since: u64,
+}
+
+impl Open {
+    // An invocation whose body begins at a line.
+    pub fn new(at: usize) -> Open
+        ensures { λ r. ⌜ r ≡ numbers at 0 nothing ⌝ }
+    {
+        Open {
+            at,
+            work: 0,
+            prefix: 0,
+            longest: 0,
+            since: 0,
+        }
+    }
+
+    // After a cost line.
+    pub fn spent(self, v: u64) -> Open
+        requires { ⌜ (self .at + 1 < 2 ^ 64) × ((self .work + v < 2 ^ 64) × (self .since + v < 2 ^ 64)) ⌝ }
+        ensures { λ r. ⌜ r ≡ spentN v self ⌝ }
+    {
+        Open {
+            at: self.at + 1,
+            work: self.work + v,
+            prefix: self.prefix,
+            longest: self.longest,
+            since: self.since + v,
+        }
+    }
+
+    // After a sync or the return: a join.
+    pub fn joined(self) -> Open
+        requires { ⌜ (self .at + 1 < 2 ^ 64) × (self .prefix + (self .longest + self .since) < 2 ^ 64) ⌝ }
+        ensures { λ r. ⌜ r ≡ joinedN self ⌝ }
+    {
+        if self.longest < self.since {
+            return Open {
+                at: self.at + 1,
+                work: self.work,
+                prefix: self.prefix + self.since,
+                longest: 0,
+                since: 0,
+            };
+        }
+        Open {
+            at: self.at + 1,
+            work: self.work,
+            prefix: self.prefix + self.longest,
+            longest: 0,
+            since: 0,
+        }
+    }
+
+    // After a called child.
+    pub fn called(self, child: Open) -> Open
+        requires { ⌜ (self .work + child .work < 2 ^ 64) × (self .since + child .prefix < 2 ^ 64) ⌝ }
+        ensures { λ r. ⌜ r ≡ calledN child self ⌝ }
+    {
+        Open {
+            at: child.at,
+            work: self.work + child.work,
+            prefix: self.prefix,
+            longest: self.longest,
+            since: self.since + child.prefix,
+        }
+    }
+
+    // After a spawned child.
+    pub fn spawned(self, child: Open) -> Open
+        requires { ⌜ (self .work + child .work < 2 ^ 64) × ((self .since + child .prefix < 2 ^ 64) × (self .prefix + self .since < 2 ^ 64)) ⌝ }
+        ensures { λ r. ⌜ r ≡ spawnedN child self ⌝ }
+    {
+        if self.longest < self.since + child.prefix {
+            return Open {
+                at: child.at,
+                work: self.work + child.work,
+                prefix: self.prefix + self.since,
+                longest: child.prefix,
+                since: 0,
+            };
+        }
+        Open {
+            at: child.at,
+            work: self.work + child.work,
+            prefix: self.prefix,
+            longest: self.longest,
+            since: self.since,
+        }
+    }
+}
+
+// Adds to a number.
+pub fn add(a: &mut [u64], i: usize, v: u64)
+    requires { ⌜ (i < length (now a)) × (getD (now a) i 0 + v < 2 ^ 64) ⌝ }
+    ensures { λ _. ⌜ now (a .exit) ≡ set (now (a .entry)) i (getD (now (a .entry)) i 0 + v) ⌝ }
+{
+    a[i] = a[i] + v;
+}
+
+// Columns 1 to 3 of row s: an invocation of site s with this work and this span has returned.
+pub fn count(rows: &mut [u64], s: usize, work: u64, span: u64)
+    requires { ⌜ columns * s + 2 < length (now rows) ⌝ }
+    requires { ⌜ (getD (now rows) (columns * s) 0 + 1 < 2 ^ 64) × ((getD (now rows) (columns * s + 1) 0 + work < 2 ^ 64) × (getD (now rows) (columns * s + 2) 0 + span < 2 ^ 64)) ⌝ }
+    ensures { λ _. ⌜ Grown (now (rows .entry)) (counted s work span) (now (rows .exit)) ⌝ }
+{
+    let i = COLUMNS * s;
+    add(rows, i, 1);
+    add(rows, i + 1, work);
+    add(rows, i + 2, span);
+}
+
+// Column 4 of row s: a cost of v directly in an invocation of it.
+pub fn spend(rows: &mut [u64], s: usize, v: u64)
+    requires { ⌜ (columns * s + 3 < length (now rows)) × (getD (now rows) (columns * s + 3) 0 + v < 2 ^ 64) ⌝ }
+    ensures { λ _. ⌜ Grown (now (rows .entry)) (one (columns * s + 3) v) (now (rows .exit)) ⌝ }
+{
+    add(rows, COLUMNS * s + 3, v);
+}
+
+// Clears the first n numbers.
+pub fn zero(a: &mut [u64], n: usize)
+    requires { ⌜ n ≤ length (now a) ⌝ }
+    ensures { λ _. ⌜ now (a .exit) ≡ replicate n 0 ++ drop n (now (a .entry)) ⌝ }
+{
+    let mut i = 0;
+    while i < n {
+        a[i] = 0;
+        i += 1;
+    }
+}
