@@ -182,7 +182,7 @@ fn lines(trace: &[u8], depth: usize, sites: usize) -> Verdict
 }
 
 // The number of the first of checks 1 to 3 that fails, 0 where none does.
-fn opening(bytes: usize, depth: usize, sites: usize) -> u8
+pub fn opening(bytes: usize, depth: usize, sites: usize) -> u8
     ensures { λ r. ⌜ r ≡ opening bytes depth sites ⌝ }
 {
     if depth == 0 {

@@ -1,2 +1,3 @@
 mod Front
 mod Decided
+mod Profiled

@@ -2,6 +2,7 @@
 use Prim.Native.Nat.{ℕ}
 use mathlib.Core.Bool.{cond}
 use mathlib.Core.List.{List, _∷_}
+use lib.Dec.{eqb}
 use lib.ListN.{drop}
 use Rattle.line.specs.declared.Read.{Read}
 use Rattle.line.specs.declared.Read.the-variants.{Refused as Unread}
@@ -10,6 +11,10 @@ use Rattle.line.specs.declared.Wrote.the-variants.{Chars, Refused}
 use Rattle.line.specs.Table.{Fields, table}
 use Rattle.line.specs.Read.{tabled}
 use Rattle.line.specs.Write.{narrow}
+use Rattle.trace.specs.declared.Answer.{Answer}
+use Rattle.trace.specs.declared.Answer.the-variants.{Accepted}
+use Rattle.trace.specs.declared.Answer.the-variants.{Refused as Turned}
+use Rattle.admit.specs.Answer.{opening}
 use Rattle.nyolifuwe.specs.Code.{coded}
 
 -- the frame that five fields are, refusal 6 where one has no room in its digits or they are not as the table has them
@@ -28,3 +33,12 @@ lineOf (Refused number line) = line
 abbrev pub noted : Wrote → List ℕ → List ℕ
 noted (Chars n) written = n ∷ drop 1 written
 noted (Refused number line) written = written
+
+-- an engine's answer: the line in it
+abbrev pub lineIn : Answer → ℕ
+lineIn (Accepted work span sites lines) = 0
+lineIn (Turned number line) = line
+
+-- the number of the first of checks 1 to 3 that fails, else 4
+abbrev pub unroomy : ℕ → ℕ → ℕ → ℕ
+unroomy bytes D M = cond (eqb (opening bytes D M) 0) 4 (opening bytes D M)

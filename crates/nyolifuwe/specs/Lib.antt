@@ -2,3 +2,4 @@ pub mod Code
 pub mod Lines
 pub mod Texts
 pub mod Inside
+pub mod Engines

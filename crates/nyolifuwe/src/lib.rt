@@ -1,11 +1,13 @@
 // The C interface: the proved functions on numbers and lent slices. Each answers 0 where it accepts and otherwise a
 // refusal's number + 256 · its line; a refusal changes nothing that was lent.
+
 use line::Frame;
 use line::Read;
 use line::Wrote;
+use trace::Answer;
 ghost use mathlib.Core.Path.{_≡_};
 ghost use Prim.Native.Nat.{_≤_};
-ghost use mathlib.Core.List.{_++_};
+ghost use mathlib.Core.List.{[], _++_};
 ghost use lib.ListN.{length, drop};
 ghost use Rattle.line.specs.Table.{fieldsOf};
 ghost use Rattle.report.specs.Report.{report};
@@ -13,7 +15,9 @@ ghost use Rattle.report.specs.Refusal.{printRefusal};
 ghost use Rattle.nyolifuwe.specs.Code.{coded, Gives};
 ghost use Rattle.nyolifuwe.specs.Lines.{numbers, readFrame, writeFrame};
 ghost use Rattle.nyolifuwe.specs.Texts.{counted, Tells};
-ghost use Rattle.nyolifuwe.specs.Inside.{framedBy, told, lineOf, noted};
+ghost use Rattle.trace.specs.Promise.{Engine, Lent};
+ghost use Rattle.nyolifuwe.specs.Engines.{numbered, Profiles};
+ghost use Rattle.nyolifuwe.specs.Inside.{framedBy, told, lineOf, noted, lineIn, unroomy};
 
 // "kind, site, value, file, column"
 const FIELDS: usize = 5;
@@ -166,4 +170,48 @@ pub extern "C" fn nyo_refusal(number: u64, line: u64, out: &mut [u8], written: &
         return 4;
     }
     tell(report::write_refusal(number, line, out), written)
+}
+
+// Hands an engine's answer over: its four numbers go to `answer`, or a refusal's code is given.
+fn hand_over(found: Answer, answer: &mut [u64]) -> u64
+    requires { ⌜ (lineIn found ≤ 65536) × (4 ≤ length (now answer)) ⌝ }
+    ensures { λ r. ⌜ Gives (numbered found) r (now (answer .entry)) (now (answer .exit)) ⌝ }
+{
+    match found {
+        Answer::Accepted(work, span, sites, lines) => {
+            put(&[work, span, sites as u64, lines as u64], answer);
+            0
+        }
+        Answer::Refused(number, line) => code(number, line),
+    }
+}
+
+// The refusal where there is no room for an answer: 1, 2 or 3 where one of them applies, else 4.
+fn refuse_room(bytes: usize, depth: usize, sites: usize) -> u64
+    ensures { λ r. ⌜ r ≡ unroomy bytes depth sites ⌝ }
+{
+    let first = admit::opening(bytes, depth, sites);
+    if first != 0 {
+        return first as u64;
+    }
+    4
+}
+
+// Profiles a trace with the table engine: the rows go to `rows`, work, span, sites and lines to `answer`.
+#[no_mangle]
+pub extern "C" fn nyo_tables(
+    trace: &[u8],
+    depth: u64,
+    sites: u64,
+    scratch: &mut [u64],
+    rows: &mut [u64],
+    answer: &mut [u64],
+) -> u64
+    ensures { λ r. ⌜ Profiles Engine.tables (now (trace .entry)) depth sites (record { scratch = now (scratch .entry); rows = now (rows .entry); marks = [] }) (now (answer .entry)) r (record { scratch = now (scratch .exit); rows = now (rows .exit); marks = [] }) (now (answer .exit)) ⌝ }
+{
+    if answer.len() < 4 {
+        return refuse_room(trace.len(), depth as usize, sites as usize);
+    }
+    let found = tables::profile(trace, depth as usize, sites as usize, scratch, rows);
+    hand_over(found, answer)
 }

@@ -1,0 +1,28 @@
+-- What the exported engines promise: the engine's own promise, with the answer in a lent slice of four numbers.
+use Prim.Native.Nat.{ℕ}
+use mathlib.Core.Bool.{Bool, _&&_}
+use mathlib.Core.List.{List, [], _∷_}
+use mathlib.Core.Path.{_≡_}
+use lib.Dec.{leb}
+use lib.ListN.{length}
+use Rattle.line.specs.declared.Frame.{Frame}
+use Rattle.trace.specs.declared.Answer.{Answer}
+use Rattle.trace.specs.declared.Answer.the-variants.{Accepted, Refused}
+use Rattle.trace.specs.Refusals.{accepted, refused, verdict}
+use Rattle.trace.specs.Promise.{Engine, Lent, enough, Profile}
+use Rattle.report.specs.Room.{Decision, write, refuse}
+use Rattle.nyolifuwe.specs.Code.{coded, Gives}
+
+-- 4: "any lent slice shorter than stated"; the answer, of four numbers, is one of them
+abbrev pub roomy : Engine → List ℕ → ℕ → ℕ → Lent → List ℕ → Bool
+roomy e s D M lent answer = enough e s D M lent && leb 4 (length answer)
+
+-- "Accepted: total work, total span, number of sites, number of lines."
+abbrev pub numbered : Answer → Decision
+numbered (Accepted work span sites lines) = write (work ∷ span ∷ sites ∷ lines ∷ [])
+numbered (Refused number line) = refuse number line
+
+-- The engine e, lent the text s with limits D and M, the room before and the room for the answer, gives this code and leaves after and answer′.
+pub record Profiles (e : Engine) (s : List ℕ) (D M : ℕ) (before : Lent) (answer : List ℕ) (given : ℕ) (after : Lent) (answer′ : List ℕ) : Type 0 where
+  pub when-accepted : (t : List Frame) → verdict s D M (roomy e s D M before answer) ≡ accepted t → (r : Answer) × Profile e t before r after × Gives (numbered r) given answer answer′
+  pub when-refused : (number line : ℕ) → verdict s D M (roomy e s D M before answer) ≡ refused number line → (given ≡ coded number line) × (after ≡ before) × (answer′ ≡ answer)
