@@ -1,0 +1,310 @@
+/* A fuzz target over every exported function, for clang's libFuzzer with the address sanitizer.
+ *
+ * An input is a short program that writes a trace, so that most inputs get past the first checks: its head says the
+ * limits and how much room is lent, and each byte after it a line. What is lent lies against a page that cannot be
+ * touched, at either end, so that a step outside is a fault in the library's own code too. What comes back is held
+ * against what every caller may rely on. */
+#include <stdint.h>
+#include <stdio.h>
+#include <stdlib.h>
+#include <string.h>
+#include <sys/mman.h>
+#include <unistd.h>
+
+#include "nyolifuwe.h"
+
+#define MUST(holds) ((holds) ? (void)0 : broken(#holds, __LINE__))
+
+static void broken(const char *what, int line) {
+    fprintf(stderr, "fuzz.c:%d: does not hold: %s\n", line, what);
+    abort();
+}
+
+/* What libFuzzer is to find new: it sees nothing of the library, so kinds of outcome are counted here. */
+__attribute__((section("__libfuzzer_extra_counters"))) static uint8_t seen[4096];
+
+static void count(unsigned kind, uint64_t how) {
+    unsigned size = 0;
+    while (how >>= 1) size++;
+    seen[(kind * 64 + size) % sizeof seen] = 1;
+}
+
+/* The input, byte by byte; zeros behind its end. */
+typedef struct {
+    const uint8_t *at, *end;
+} Input;
+
+static unsigned next(Input *in) { return in->at < in->end ? *in->at++ : 0; }
+
+/* ---- lent room ---- */
+
+/* Pages between two that cannot be touched. */
+typedef struct {
+    uint8_t *first;
+    size_t size;
+} Pages;
+
+/* Lent room at one end of its pages, filled with rubbish from one of 256 places on. */
+typedef struct {
+    Pages *pages;
+    uint8_t *at;
+    size_t bytes;
+    uint8_t seed;
+} Room;
+
+enum { STRIP = 64 };
+
+static Pages pages_of(size_t bytes) {
+    size_t page = (size_t)sysconf(_SC_PAGESIZE), size = (bytes + 2 * STRIP + page - 1) / page * page;
+    uint8_t *all = mmap(NULL, size + 2 * page, PROT_NONE, MAP_PRIVATE | MAP_ANONYMOUS, -1, 0);
+    MUST(all != MAP_FAILED && !mprotect(all + page, size, PROT_READ | PROT_WRITE));
+    return (Pages){all + page, size};
+}
+
+/* As much rubbish as any room needs, and where it begins for a room. */
+enum { MOST_RUBBISH = 8 * 4 * NYO_MOST_DEPTH * (NYO_MOST_SITES + 3) };
+static uint8_t rubbish[MOST_RUBBISH + 256];
+
+static void make_rubbish(void) {
+    uint32_t x = 1;
+    for (size_t i = 0; i < sizeof rubbish; i++) rubbish[i] = (uint8_t)((x = x * 1664525 + 1013904223) >> 24);
+}
+
+static Room lend(Pages *pages, size_t bytes, Input *in) {
+    unsigned how = next(in);
+    Room r = {pages, how & 1 ? pages->first : pages->first + pages->size - bytes, bytes, (uint8_t)how};
+    memcpy(r.at, rubbish + r.seed, bytes);
+    uint8_t *beside = how & 1 ? r.at + bytes : r.at - STRIP;
+    memset(beside, 0xa5, STRIP);
+    return r;
+}
+
+/* From byte n on the room is as it was, and so is the strip beside it. */
+static int kept_from(const Room *r, size_t n) {
+    const uint8_t *beside = r->at == r->pages->first ? r->at + r->bytes : r->at - STRIP;
+    for (size_t i = 0; i < STRIP; i++)
+        if (beside[i] != 0xa5) return 0;
+    return !memcmp(r->at + n, rubbish + r->seed + n, r->bytes - n);
+}
+
+static uint64_t *numbers(const Room *r) { return (uint64_t *)r->at; }
+
+/* ---- a trace from the input ---- */
+
+enum { MOST_CHARS = 1 << 16 };
+
+typedef struct {
+    uint8_t chars[MOST_CHARS + NYO_LINE_CHARS];
+    size_t len;
+    unsigned open, sites;
+} Trace;
+
+static void put_line(Trace *t, const uint64_t *frame) {
+    if (t->len + NYO_LINE_CHARS > MOST_CHARS) return;
+    static const char digits[] = "0123456789abcdef";
+    static const unsigned width[NYO_FRAME] = {2, 4, 8, 4, 4};
+    uint8_t *to = t->chars + t->len;
+    for (unsigned f = 0; f < NYO_FRAME; f++)
+        for (unsigned d = width[f]; d-- > 0;) *to++ = (uint8_t)digits[frame[f] >> 4 * d & 15];
+    *to = '\n';
+    t->len += NYO_LINE_CHARS;
+}
+
+static void put_raw(Trace *t, Input *in, unsigned n) {
+    for (; n > 0 && t->len < MOST_CHARS; n--) t->chars[t->len++] = (uint8_t)next(in);
+}
+
+/* One byte of the input, and sometimes some more, as a line. */
+static void put_item(Trace *t, Input *in) {
+    unsigned item = next(in), what = item % 8, more = item / 8;
+    uint64_t wide = 0;
+    switch (what) {
+    case 0: put_line(t, (const uint64_t[]){6, 0, more, 0, 0}); break;
+    case 1:
+        for (unsigned i = 0; i < 4; i++) wide = wide << 8 | next(in);
+        put_line(t, (const uint64_t[]){6, 0, wide, 0, 0});
+        break;
+    case 2:
+    case 3:
+        put_line(t, (const uint64_t[]){what, more < 28 ? more % 8 : next(in), 0, 0, 0});
+        t->open++;
+        break;
+    case 4: put_line(t, (const uint64_t[]){4, 0, 0, 0, 0}); break;
+    case 5:
+        put_line(t, (const uint64_t[]){5, 0, 0, 0, 0});
+        t->open -= t->open > 0;
+        break;
+    case 6:
+        wide = more < 28 ? ++t->sites : next(in);
+        put_line(t, (const uint64_t[]){1, wide, more < 30 ? wide : next(in), 1 + more % 4, 1});
+        break;
+    default: put_raw(t, in, more < 28 ? NYO_LINE_CHARS : more); break;
+    }
+}
+
+static void put_trace(Trace *t, Input *in) {
+    unsigned finish = next(in) % 4;
+    t->len = 0, t->open = 1, t->sites = 0;
+    while (in->at < in->end && t->len < MOST_CHARS) put_item(t, in);
+    for (; finish && t->open > 0; t->open--) put_line(t, (const uint64_t[]){5, 0, 0, 0, 0});
+}
+
+/* ---- what holds ---- */
+
+static Pages of_trace, of_scratch, of_marks, of_rows, of_answer, of_frame, of_out, of_written;
+
+static void reserve(void) {
+    make_rubbish();
+    of_trace = pages_of(sizeof(Trace));
+    of_scratch = pages_of(8 * NYO_TABLES_SCRATCH(NYO_MOST_DEPTH, NYO_MOST_SITES));
+    of_marks = pages_of(sizeof(Trace) / NYO_LINE_CHARS);
+    of_rows = pages_of(8 * NYO_ROWS(NYO_MOST_SITES));
+    of_answer = pages_of(8 * NYO_ANSWER);
+    of_frame = pages_of(8 * NYO_FRAME);
+    of_out = pages_of(NYO_REPORT_CHARS(NYO_MOST_SITES));
+    of_written = pages_of(8);
+}
+
+/* A number of bytes that is mostly enough, sometimes an element short, sometimes none. */
+static size_t enough(size_t elements, size_t size, Input *in) {
+    unsigned how = next(in);
+    if (how == 255) return 0;
+    return how > 250 && elements > 0 ? (elements - 1) * size : elements * size;
+}
+
+/* A line that is read is written as it stood, and a refused one leaves the frame alone. */
+static uint64_t read_and_write(const uint8_t *line, size_t len, Input *in) {
+    Room frame = lend(&of_frame, enough(NYO_FRAME, 8, in), in), out = lend(&of_out, enough(NYO_LINE_CHARS, 1, in), in);
+    uint64_t given = nyo_read_line(line, len, numbers(&frame), frame.bytes / 8);
+    count(1, given);
+    if (given) {
+        MUST((given == 2) == (len != NYO_LINE_CHARS));
+        MUST((given == 2 || given == 4 || given == 5 || given == 6) && kept_from(&frame, 0));
+    } else {
+        MUST(kept_from(&frame, 8 * NYO_FRAME));
+    }
+    uint64_t back = nyo_write_line(numbers(&frame), frame.bytes / 8, out.at, out.bytes);
+    count(2, back);
+    if (back) {
+        MUST((back == 4 || back == 6) && kept_from(&out, 0));
+        MUST(given || out.bytes < NYO_LINE_CHARS);
+    } else {
+        MUST(kept_from(&out, NYO_LINE_CHARS));
+        MUST(given || !memcmp(out.at, line, NYO_LINE_CHARS));
+    }
+    return !given && numbers(&frame)[0] == 6 ? numbers(&frame)[2] : 0;
+}
+
+static void print_refusal(uint64_t number, uint64_t line, Input *in) {
+    Room out = lend(&of_out, enough(NYO_REFUSAL_CHARS, 1, in), in), written = lend(&of_written, enough(1, 8, in), in);
+    uint64_t given = nyo_refusal(number, line, out.at, out.bytes, numbers(&written), written.bytes / 8);
+    count(3, given);
+    if (given) {
+        MUST((given == 1) == (number > 255 || line > UINT32_MAX));
+        MUST((given == 1 || given == 4) && kept_from(&out, 0) && kept_from(&written, 0));
+    } else {
+        char expected[NYO_REFUSAL_CHARS + 1];
+        snprintf(expected, sizeof expected, "ff%02x%08x\n", (unsigned)number, (unsigned)line);
+        MUST(numbers(&written)[0] == NYO_REFUSAL_CHARS && kept_from(&written, 8));
+        MUST(!memcmp(out.at, expected, NYO_REFUSAL_CHARS) && kept_from(&out, NYO_REFUSAL_CHARS));
+    }
+}
+
+static void print_report(const uint64_t *rows, size_t rows_len, uint64_t sites, Input *in) {
+    Room out = lend(&of_out, enough(NYO_REPORT_CHARS(sites), 1, in), in), written = lend(&of_written, enough(1, 8, in), in);
+    uint64_t given = nyo_report(rows, rows_len, sites, out.at, out.bytes, numbers(&written), written.bytes / 8);
+    count(4, given);
+    if (given) {
+        MUST(given == 4 && kept_from(&out, 0) && kept_from(&written, 0));
+        return;
+    }
+    char line[NYO_ROW_CHARS + 1];
+    for (size_t row = 0; row <= sites; row++, rows += NYO_COLUMNS) {
+        snprintf(line, sizeof line, "%04zx%016llx%016llx%016llx%016llx%016llx\n", row, (unsigned long long)rows[0],
+                 (unsigned long long)rows[1], (unsigned long long)rows[2], (unsigned long long)rows[3], (unsigned long long)rows[4]);
+        MUST(!memcmp(out.at + row * NYO_ROW_CHARS, line, NYO_ROW_CHARS));
+    }
+    MUST(numbers(&written)[0] == NYO_REPORT_CHARS(sites) && kept_from(&written, 8) && kept_from(&out, NYO_REPORT_CHARS(sites)));
+}
+
+static int all_zero(const Room *r) {
+    for (size_t i = 0; i < r->bytes; i++)
+        if (r->at[i]) return 0;
+    return 1;
+}
+
+/* Columns 4 and 5 add up to the total work and the total span. */
+static void columns_add_up(const uint64_t *rows, const uint64_t *answer) {
+    uint64_t local = 0, on_span = 0;
+    for (size_t row = 0; row <= answer[2]; row++) local += rows[5 * row + 3], on_span += rows[5 * row + 4];
+    MUST(local == answer[0] && on_span == answer[1] && answer[1] <= answer[0]);
+}
+
+/* Both engines on one trace. */
+static void profile(const Room *trace, Input *in) {
+    static uint64_t first_rows[NYO_ROWS(NYO_MOST_SITES)];
+    unsigned limits = next(in);
+    uint64_t depth = limits < 16 ? 64 : limits < 32 ? next(in) : 1 + next(in) % 8, sites = limits % 16 == 0 ? 255 : limits % 16 == 1 ? 2 * next(in) : next(in) % 8;
+    size_t d = depth > 64 ? 64 : depth, m = sites > 255 ? 255 : sites, lines = trace->bytes / NYO_LINE_CHARS;
+    Room scratch = lend(&of_scratch, enough(NYO_TABLES_SCRATCH(d, m), 8, in), in), rows = lend(&of_rows, enough(NYO_ROWS(m), 8, in), in);
+    Room answer = lend(&of_answer, enough(NYO_ANSWER, 8, in), in);
+    uint64_t first_answer[NYO_ANSWER] = {0};
+    uint64_t first = nyo_tables(trace->at, trace->bytes, depth, sites, numbers(&scratch), scratch.bytes / 8, numbers(&rows),
+                                rows.bytes / 8, numbers(&answer), answer.bytes / 8);
+    count(8 + NYO_NUMBER(first), NYO_LINE(first));
+    if (first) {
+        MUST(NYO_NUMBER(first) <= 14 && NYO_LINE(first) <= lines);
+        MUST(kept_from(&scratch, 0) && kept_from(&rows, 0) && kept_from(&answer, 0));
+        print_refusal(NYO_NUMBER(first), NYO_LINE(first), in);
+    } else {
+        memcpy(first_answer, answer.at, sizeof first_answer);
+        memcpy(first_rows, rows.at, 8 * NYO_ROWS(first_answer[2]));
+        MUST(first_answer[2] <= sites && first_answer[3] == lines);
+        MUST(all_zero(&scratch) && kept_from(&scratch, scratch.bytes) && kept_from(&answer, 8 * NYO_ANSWER));
+        MUST(kept_from(&rows, 8 * NYO_ROWS(first_answer[2])));
+        columns_add_up(first_rows, first_answer);
+        count(32, first_answer[0] - first_answer[1]);
+        count(33, first_answer[2]);
+        print_report(first_rows, NYO_ROWS(first_answer[2]), first_answer[2], in);
+    }
+
+    scratch = lend(&of_scratch, enough(NYO_MARKS_SCRATCH(d), 8, in), in), rows = lend(&of_rows, enough(NYO_ROWS(m), 8, in), in);
+    answer = lend(&of_answer, enough(NYO_ANSWER, 8, in), in);
+    Room marks = lend(&of_marks, enough(lines, 1, in), in);
+    uint64_t second = nyo_marks(trace->at, trace->bytes, depth, sites, numbers(&scratch), scratch.bytes / 8, marks.at, marks.bytes,
+                                numbers(&rows), rows.bytes / 8, numbers(&answer), answer.bytes / 8);
+    count(40 + NYO_NUMBER(second), NYO_LINE(second));
+    MUST(first == second || first == 4 || second == 4);
+    if (second) {
+        MUST(kept_from(&scratch, 0) && kept_from(&rows, 0) && kept_from(&answer, 0) && kept_from(&marks, 0));
+        return;
+    }
+    MUST(all_zero(&scratch) && kept_from(&scratch, scratch.bytes) && kept_from(&answer, 8 * NYO_ANSWER) && kept_from(&marks, lines));
+    const uint64_t *totals = numbers(&answer);
+    MUST(kept_from(&rows, 8 * NYO_ROWS(totals[2])));
+    columns_add_up(numbers(&rows), totals);
+    if (!first) MUST(!memcmp(totals, first_answer, sizeof first_answer) && !memcmp(rows.at, first_rows, 8 * NYO_ROWS(totals[2])));
+    uint64_t marked = 0, all = 0;
+    for (size_t line = 0; line < lines; line++) {
+        Input none = {NULL, NULL};
+        uint64_t cost = read_and_write(trace->at + line * NYO_LINE_CHARS, NYO_LINE_CHARS, &none);
+        MUST(marks.at[line] <= (cost > 0));
+        all += cost, marked += marks.at[line] ? cost : 0;
+    }
+    MUST(all == totals[0] && marked == totals[1]);
+}
+
+int LLVMFuzzerTestOneInput(const uint8_t *data, size_t size) {
+    static Trace written;
+    if (!of_trace.first) reserve();
+    Input head = {data, data + (size < 40 ? size : 40)}, body = {head.end, data + size};
+    put_trace(&written, &body);
+    Room trace = lend(&of_trace, written.len, &head);
+    memcpy(trace.at, written.chars, written.len);
+    profile(&trace, &head);
+    MUST(!memcmp(trace.at, written.chars, written.len));
+    read_and_write(trace.at, written.len < NYO_LINE_CHARS || next(&head) > 250 ? written.len : NYO_LINE_CHARS, &head);
+    uint64_t number = next(&head), line = (uint64_t)next(&head) << (next(&head) % 48);
+    print_refusal(number + (next(&head) > 250) * 256, line, &head);
+    return 0;
+}
