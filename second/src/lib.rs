@@ -9,6 +9,7 @@
 
 #![deny(unsafe_code)]
 
+pub mod bench;
 pub mod chain;
 pub mod check;
 pub mod compare;

@@ -1,0 +1,21 @@
+#!/usr/bin/env python3
+"""time_profile.py DEPTH SITES FILE: the median seconds of three runs of the script's profile over a trace."""
+
+import sys
+import time
+
+from profile import profile
+
+depth, sites, name = int(sys.argv[1]), int(sys.argv[2]), sys.argv[3]
+with open(name, "rb") as file:
+    trace = file.read()
+
+
+def seconds():
+    """One run."""
+    begun = time.perf_counter()
+    profile(trace, depth, sites)
+    return time.perf_counter() - begun
+
+
+print(f"{sorted(seconds() for _ in range(3))[1]:.9f}")

@@ -1,0 +1,5 @@
+//! Timings: the proved engines, the plain one, the script and a pass that only sums the bytes, on the same traces in one run.
+
+pub mod table;
+pub mod timing;
+pub mod traces;

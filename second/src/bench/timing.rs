@@ -1,0 +1,58 @@
+//! Medians of many runs, taken in turn so that what slows the machine slows all alike.
+
+use std::time::{Duration, Instant};
+
+/// The least time that is measured at once.
+const LEAST: Duration = Duration::from_micros(200);
+
+/// The median seconds of one run of each, over so many samples. A sample is as many runs as take the least time.
+pub fn medians(runs: &mut [&mut dyn FnMut()], samples: usize) -> Vec<f64> {
+    let often: Vec<u32> = runs.iter_mut().map(|run| often_enough(run)).collect();
+    let mut all = vec![Vec::with_capacity(samples); runs.len()];
+    for _ in 0..samples {
+        for ((run, times), seconds) in runs.iter_mut().zip(&often).zip(&mut all) {
+            seconds.push(time(run, *times).as_secs_f64() / f64::from(*times));
+        }
+    }
+    all.into_iter().map(median).collect()
+}
+
+/// How many runs take the least time, after the first ones, which warm up.
+fn often_enough(run: &mut dyn FnMut()) -> u32 {
+    let mut times = 1;
+    while time(run, times) < LEAST {
+        times *= 2;
+    }
+    times
+}
+
+fn time(run: &mut dyn FnMut(), times: u32) -> Duration {
+    let begun = Instant::now();
+    for _ in 0..times {
+        run();
+    }
+    begun.elapsed()
+}
+
+/// The middle one in order of size.
+pub fn median(mut numbers: Vec<f64>) -> f64 {
+    numbers.sort_by(f64::total_cmp);
+    numbers[numbers.len() / 2]
+}
+
+#[cfg(test)]
+mod tests {
+    use super::*;
+
+    #[test]
+    fn the_median_is_in_the_middle() {
+        assert_eq!(median(vec![9.0, 1.0, 3.0]), 3.0);
+    }
+
+    #[test]
+    fn what_does_more_takes_longer() {
+        let sum = |end: u64| move || _ = std::hint::black_box((0..std::hint::black_box(end)).fold(0, |a, b| a ^ (b * b)));
+        let found = medians(&mut [&mut sum(1_000), &mut sum(100_000)], 5);
+        assert!(found[0] < found[1], "{found:?}");
+    }
+}

@@ -1,0 +1,146 @@
+//! Traces to time: four shapes, each with exactly so many lines and sites.
+
+use crate::compare::rng::Rng;
+use crate::trace::Trace;
+
+/// The depth limit of every trace here, that of the report program.
+pub const DEPTH: u64 = 32;
+
+/// A shape by its name, and how some more of it is made.
+#[derive(Clone, Copy)]
+pub struct Shape {
+    pub name: &'static str,
+    more: fn(&mut Maker),
+}
+
+pub const SHAPES: [Shape; 4] = [
+    Shape { name: "deep", more: deep },
+    Shape { name: "wide", more: wide },
+    Shape { name: "fib", more: |maker| fib(maker, 24) },
+    Shape { name: "pipeline", more: pipeline },
+];
+
+impl Shape {
+    /// A good trace of this shape, the same each time. The lines are more than the sites.
+    pub fn trace(&self, lines: usize, sites: u64) -> Vec<u8> {
+        let mut maker = Maker { trace: Trace::with_sites(sites), rng: Rng::new(1), lines, sites, site: 0, open: 1 };
+        let mut before = 0;
+        while before < maker.trace.lines() {
+            before = maker.trace.lines();
+            (self.more)(&mut maker);
+        }
+        maker.finish()
+    }
+}
+
+/// A trace in the making that never grows past a number of lines. Sites take turns.
+struct Maker {
+    trace: Trace,
+    rng: Rng,
+    lines: usize,
+    sites: u64,
+    site: u64,
+    open: usize,
+}
+
+impl Maker {
+    /// Whether so many lines more, and a return for each open invocation, still fit.
+    fn fits(&self, more: usize) -> bool {
+        self.trace.lines() + more + self.open <= self.lines
+    }
+
+    fn cost(&mut self) {
+        if self.fits(1) {
+            self.trace.cost(self.rng.between(1, 100_000));
+        }
+    }
+
+    fn sync(&mut self) {
+        if self.fits(1) {
+            self.trace.sync();
+        }
+    }
+
+    /// Calls or spawns the next site, does something there, and returns.
+    fn child(&mut self, spawn: bool, body: impl FnOnce(&mut Maker)) {
+        if !self.fits(2) || self.open as u64 >= DEPTH {
+            return;
+        }
+        self.site = self.site % self.sites + 1;
+        if spawn {
+            self.trace.spawn(self.site);
+        } else {
+            self.trace.call(self.site);
+        }
+        self.open += 1;
+        body(self);
+        self.trace.leave();
+        self.open -= 1;
+    }
+
+    /// Costs up to the last line, and the root's return.
+    fn finish(mut self) -> Vec<u8> {
+        while self.fits(1) {
+            self.cost();
+        }
+        self.trace.leave();
+        self.trace.chars
+    }
+}
+
+/// Down to the depth limit and up again, every other child spawned, with a cost on each side.
+fn deep(maker: &mut Maker) {
+    maker.cost();
+    maker.child(maker.open % 2 == 1, deep);
+    maker.cost();
+}
+
+/// A spawned child with one cost, and a cost beside it; a sync now and then.
+fn wide(maker: &mut Maker) {
+    maker.child(true, Maker::cost);
+    maker.cost();
+    if maker.rng.once_in(32) {
+        maker.sync();
+    }
+}
+
+/// Fibonacci as Cilk writes it: spawn one, call the other, sync, add.
+fn fib(maker: &mut Maker, n: u32) {
+    maker.cost();
+    if n >= 2 {
+        maker.child(true, |maker| fib(maker, n - 1));
+        maker.child(false, |maker| fib(maker, n - 2));
+        maker.sync();
+        maker.cost();
+    }
+}
+
+/// A segment: a spawned worker that calls its five stages in turn; a sync now and then.
+fn pipeline(maker: &mut Maker) {
+    maker.cost();
+    maker.child(true, |maker| (0..5).for_each(|_| maker.child(false, Maker::cost)));
+    if maker.rng.once_in(8) {
+        maker.sync();
+    }
+}
+
+#[cfg(test)]
+mod tests {
+    use super::*;
+    use crate::check::Limits;
+    use crate::library::Second;
+    use crate::line::CHARS;
+
+    #[test]
+    fn each_is_accepted_and_has_its_lines_and_sites() {
+        for shape in SHAPES {
+            for (lines, sites) in [(1_000, 2), (1_000, 255), (8_000, 31)] {
+                let trace = shape.trace(lines, sites);
+                let limits = Limits { depth: DEPTH, sites };
+                assert_eq!(trace.len(), CHARS * lines, "{}", shape.name);
+                let profile = Second::by_paths().profile(&trace, limits, &limits.for_tables());
+                assert_eq!(profile.expect("accepted").answer[2..], [sites, lines as u64], "{}", shape.name);
+            }
+        }
+    }
+}
