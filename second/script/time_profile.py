@@ -1,5 +1,5 @@
 #!/usr/bin/env python3
-"""time_profile.py DEPTH SITES FILE: the median seconds of three runs of the script's profile over a trace."""
+"""time_profile.py DEPTH SITES FILE: the median processor seconds of three runs of the script's profile over a trace."""
 
 import sys
 import time
@@ -13,9 +13,9 @@ with open(name, "rb") as file:
 
 def seconds():
     """One run."""
-    begun = time.perf_counter()
+    begun = time.thread_time()
     profile(trace, depth, sites)
-    return time.perf_counter() - begun
+    return time.thread_time() - begun
 
 
 print(f"{sorted(seconds() for _ in range(3))[1]:.9f}")

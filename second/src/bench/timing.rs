@@ -1,6 +1,7 @@
-//! Medians of many runs, taken in turn so that what slows the machine slows all alike.
+//! Medians of many runs, in processor time, taken in turn so that what slows the machine slows all alike.
 
-use std::time::{Duration, Instant};
+use super::clock;
+use std::time::Duration;
 
 /// The least time that is measured at once.
 const LEAST: Duration = Duration::from_micros(200);
@@ -27,11 +28,11 @@ fn often_enough(run: &mut dyn FnMut()) -> u32 {
 }
 
 fn time(run: &mut dyn FnMut(), times: u32) -> Duration {
-    let begun = Instant::now();
+    let begun = clock::now();
     for _ in 0..times {
         run();
     }
-    begun.elapsed()
+    clock::now() - begun
 }
 
 /// The middle one in order of size.
@@ -51,7 +52,8 @@ mod tests {
 
     #[test]
     fn what_does_more_takes_longer() {
-        let sum = |end: u64| move || _ = std::hint::black_box((0..std::hint::black_box(end)).fold(0, |a, b| a ^ (b * b)));
+        let sum =
+            |end: u64| move || _ = std::hint::black_box((0..std::hint::black_box(end)).fold(0, |a, b| a ^ (b * b)));
         let found = medians(&mut [&mut sum(1_000), &mut sum(100_000)], 5);
         assert!(found[0] < found[1], "{found:?}");
     }

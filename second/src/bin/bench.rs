@@ -1,7 +1,7 @@
 //! `bench DIR [SAMPLES]`: times the proved engines against the plain one, the script and a pass that only sums the bytes.
 //!
 //! Writes the traces and `bench.csv` to DIR, tells its progress, and prints the table and the goals. The numbers are
-//! medians of SAMPLES samples (31 if not said; the script's, of 3), taken in turn in one run. Every engine's answer is
+//! medians of SAMPLES samples (31 if not said; the script's, of 3) of processor time, taken in turn in one run. Every engine's answer is
 //! first held against the plain one's.
 
 use second::bench::table::{csv, goals, head, Measured};
