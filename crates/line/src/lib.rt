@@ -111,7 +111,7 @@ fn read_whole(s: &[u8], n: usize) -> Read
     let value = digits::read::number(&s[6..14]);
     let file = digits::read::number(&s[14..18]);
     let column = digits::read::number(&s[18..22]);
-    if !(kind.good & site.good & value.good & file.good & column.good & (s[22] == 10)) {
+    if !(kind.good & site.good & value.good & file.good & column.good & (s[22] == b'\n')) {
         return Read::Refused(5, n);
     }
     framed(
@@ -145,7 +145,7 @@ fn read_cost(s: &[u8], n: usize) -> Read
     let value = digits::read::number(&s[6..14]);
     let site = zeros(&s[2..6]);
     let rest = zeros(&s[14..22]);
-    if (s[0] == b'0') & site & value.good & (1 <= value.value) & rest & (s[22] == 10) {
+    if (s[0] == b'0') & site & value.good & (1 <= value.value) & rest & (s[22] == b'\n') {
         return Read::Line(n, Frame::Cost(value.value));
     }
     read_whole(s, n)
@@ -159,7 +159,7 @@ fn read_made(s: &[u8], kind: u8, n: usize) -> Read
     let site = digits::read::number(&s[2..6]);
     let value = zeros(&s[6..14]);
     let rest = zeros(&s[14..22]);
-    if (s[0] == b'0') & site.good & value & rest & (s[22] == 10) {
+    if (s[0] == b'0') & site.good & value & rest & (s[22] == b'\n') {
         if kind == b'2' {
             return Read::Line(n, Frame::Call(site.value as u16));
         }
@@ -178,7 +178,7 @@ fn read_bare(s: &[u8], kind: u8, n: usize) -> Read
     let site = zeros(&s[2..6]);
     let value = zeros(&s[6..14]);
     let rest = zeros(&s[14..22]);
-    if (s[0] == b'0') & site & value & rest & (s[22] == 10) {
+    if (s[0] == b'0') & site & value & rest & (s[22] == b'\n') {
         if kind == b'4' {
             return Read::Line(n, Frame::Sync);
         }
