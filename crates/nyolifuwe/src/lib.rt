@@ -215,3 +215,23 @@ pub extern "C" fn nyo_tables(
     let found = tables::profile(trace, depth as usize, sites as usize, scratch, rows);
     hand_over(found, answer)
 }
+
+// Profiles a trace with the marks engine: besides, the marks of the chosen chain go to `marks`.
+#[no_mangle]
+pub extern "C" fn nyo_marks(
+    trace: &[u8],
+    depth: u64,
+    sites: u64,
+    scratch: &mut [u64],
+    marks: &mut [u8],
+    rows: &mut [u64],
+    answer: &mut [u64],
+) -> u64
+    ensures { λ r. ⌜ Profiles Engine.marks (now (trace .entry)) depth sites (record { scratch = now (scratch .entry); rows = now (rows .entry); marks = now (marks .entry) }) (now (answer .entry)) r (record { scratch = now (scratch .exit); rows = now (rows .exit); marks = now (marks .exit) }) (now (answer .exit)) ⌝ }
+{
+    if answer.len() < 4 {
+        return refuse_room(trace.len(), depth as usize, sites as usize);
+    }
+    let found = marks::profile(trace, depth as usize, sites as usize, scratch, marks, rows);
+    hand_over(found, answer)
+}
