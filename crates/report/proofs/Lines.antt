@@ -11,7 +11,8 @@ use lib.ListN.{length, take, drop, getD, length-append, length-drop, List·getD-
 use lib.Seq.{length-take-le, take-suc, getD-at, take-append-le, drop-append-le}
 use Rattle.digits.specs.Digits.{digits}
 use Rattle.digits.proofs.Writing.{digits-length}
-use Rattle.report.specs.Rows.{columns, numbersOf, lineOf, rowLine, width}
+use Rattle.trace.specs.Rows.{columns}
+use Rattle.report.specs.Rows.{numbersOf, lineOf, rowLine, width}
 use Rattle.report.specs.Report.{first, linesOf}
 use Rattle.report.proofs.Pieces.{flatMap-last, Even, pieces-length, piece-at, next-piece}
 
