@@ -13,7 +13,7 @@ ghost use Rattle.report.specs.Report.{first, linesOf, report};
 ghost use Rattle.report.specs.Refusal.{refusalText, printRefusal};
 
 // A row's line: 4 digits, 16 for each number, and a line feed.
-const WIDTH: usize = 4 + 16 * COLUMNS + 1;
+pub const WIDTH: usize = 4 + 16 * COLUMNS + 1;
 
 // A row's line, which is built whole before it goes out.
 pub struct ReportLine {
