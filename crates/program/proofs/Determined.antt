@@ -16,7 +16,7 @@ use Rattle.trace.proofs.Unique.{chosen-unique, spans-unique}
 use Rattle.admit.proofs.Admitted.{accepted-sites}
 use Rattle.report.specs.Rows.{numbersOf, width}
 use Rattle.report.proofs.Lines.{row-length, lines-length, lines-same}
-use Rattle.program.specs.Print.{ruling, Reported, Prints, Put, Printed}
+use Rattle.program.specs.Print.{ruling, Reported, Prints, Printed}
 
 -- a trace's row has one list of numbers
 module _ (t : List Frame) (c x y : List ℕ) (s : ℕ) (p : Row t c x s) (q : Row t c y s) where

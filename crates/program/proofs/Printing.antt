@@ -1,11 +1,10 @@
 -- What the writers leave is put; and each verdict, with what the table engine made of it, is printed as it should be. Assumes nothing.
 use Prim.Native.Nat.{ℕ, _+_, _*_, _≤_, _<_}
-use mathlib.Core.Bool.{true, false, cond}
-use mathlib.Core.List.{List, []}
+use mathlib.Core.Bool.{true}
+use mathlib.Core.List.{List}
 use mathlib.Core.Path.{_≡_, refl, ap, _∙_, sym, subst}
 use native.Mathlib.Omega.{arith}
 use borrow.Author.Tests.{lt-ltb, le-ltb, le-leb}
-use lib.Dec.{ltb, leb}
 use lib.ListN.{length}
 use Rattle.line.specs.declared.Frame.{Frame}
 use Rattle.line.specs.declared.Wrote.{Wrote}
@@ -14,7 +13,7 @@ use Rattle.trace.specs.declared.Answer.the-variants.{Accepted, Refused}
 use Rattle.trace.specs.Shape.{sites}
 use Rattle.trace.specs.Rows.{columns}
 use Rattle.trace.specs.Refusals.{Verdict, accepted, refused, verdict}
-use Rattle.trace.specs.Promise.{tables, Lent, enough, Promise}
+use Rattle.trace.specs.Promise.{tables, enough, Promise}
 use Rattle.trace.proofs.Basics.{clash}
 use Rattle.admit.proofs.Admitted.{accepted-sites}
 use Rattle.admit.proofs.Refused.{refused-line}
@@ -22,26 +21,26 @@ use Rattle.tables.specs.Root.{lent}
 use Rattle.report.specs.Room.{Decision, write, answer, leave, Writes}
 use Rattle.report.specs.Report.{text}
 use Rattle.report.specs.Refusal.{refusalText}
-use Rattle.program.specs.Print.{ruling, Reported, Prints, Put, Printed}
+use Rattle.program.specs.Print.{ruling, Prints, Put, Printed}
 use Rattle.program.specs.Inside.{charsOf}
 
 -- a writer that decided to write s has put it
-pub puts : (s : List ℕ) (d : Decision) (r : Wrote) (n : ℕ) (before after : List ℕ) → d ≡ write s → Writes d r before after → n ≡ charsOf r → Put s n before after
-puts s d r n before after e w c =
+pub puts : {s : List ℕ} {d : Decision} {r : Wrote} {n : ℕ} {before after : List ℕ} → d ≡ write s → Writes d r before after → n ≡ charsOf r → Put s n before after
+puts {before = before} e w c =
     record {
       answered = c ∙ ap charsOf (w .answered ∙ ap answer e);
       left = w .left ∙ ap (λ (x : Decision). leave x before) e;
     }
 
 -- more than 65,527 bytes
-pub too-large : (s : List ℕ) (n : ℕ) (before after : List ℕ) → 65527 < length s → Put (refusalText 3 0) n before after → Printed s n before after
-too-large s n before after h p =
+pub too-large : {s : List ℕ} {n : ℕ} {before after : List ℕ} → 65527 < length s → Put (refusalText 3 0) n before after → Printed s n before after
+too-large {s} h p =
     let e : ruling s ≡ refused 3 0 = rw (lt-ltb _ _ h) in
     record { out = refusalText 3 0; prints = subst (λ (v : Verdict). Prints v (refusalText 3 0)) (sym e) refl; put = p }
 
 -- at most so many, and what the table engine answered and left in its room
-module _ (s scratch rows scratch′ rows′ : List ℕ) (r : Answer) (few : length s ≤ 65527) (wide : 4352 ≤ length scratch) (long : 160 ≤ length rows)
-    (p : Promise tables s 32 31 (lent scratch rows) r (lent scratch′ rows′)) where
+module _ {s scratch rows scratch′ rows′ : List ℕ} {r : Answer} (p : Promise tables s 32 31 (lent scratch rows) r (lent scratch′ rows′))
+    (few : length s ≤ 65527) (wide : 4352 ≤ length scratch) (long : 160 ≤ length rows) where
   room : enough tables s 32 31 (lent scratch rows) ≡ true
   room = rw (le-leb 4352 (length scratch) wide, le-leb 160 (length rows) long)
 
@@ -52,7 +51,7 @@ module _ (s scratch rows scratch′ rows′ : List ℕ) (r : Answer) (few : leng
   judgement = verdict s 32 31 (enough tables s 32 31 (lent scratch rows))
 
   -- an acceptance: its rows
-  module _ (w m count n : ℕ) (e : r ≡ Accepted w m count n) where
+  module _ {w m count n : ℕ} (e : r ≡ Accepted w m count n) where
     whose : (t : List Frame) × (judgement ≡ accepted t) × (sites t ≡ count)
     whose = go judgement refl
       where
@@ -66,8 +65,8 @@ module _ (s scratch rows scratch′ rows′ : List ℕ) (r : Answer) (few : leng
         let few-sites = accepted-sites s 32 31 (enough tables s 32 31 (lent scratch rows)) t h in
         (omega arith, omega (arith, p .when-accepted t h .rows .same-length))
 
-    pub report-prints : (k : ℕ) (before after : List ℕ) → Put (text rows′ count) k before after → Printed s k before after
-    report-prints k before after u =
+    pub report-prints : {k : ℕ} {before after : List ℕ} → Put (text rows′ count) k before after → Printed s k before after
+    report-prints u =
         let (t, h, l) = whose in
         let q = p .when-accepted t h in
         record {
@@ -85,7 +84,7 @@ module _ (s scratch rows scratch′ rows′ : List ℕ) (r : Answer) (few : leng
         }
 
   -- a refusal: its line
-  module _ (number line : ℕ) (e : r ≡ Refused number line) where
+  module _ {number line : ℕ} (e : r ≡ Refused number line) where
     which : judgement ≡ refused number line
     which = go judgement refl
       where
@@ -96,6 +95,6 @@ module _ (s scratch rows scratch′ rows′ : List ℕ) (r : Answer) (few : leng
     pub refusal-asks : line ≤ 65536
     refusal-asks = refused-line s 32 31 (enough tables s 32 31 (lent scratch rows)) number line which
 
-    pub refusal-prints : (k : ℕ) (before after : List ℕ) → Put (refusalText number line) k before after → Printed s k before after
-    refusal-prints k before after u =
+    pub refusal-prints : {k : ℕ} {before after : List ℕ} → Put (refusalText number line) k before after → Printed s k before after
+    refusal-prints u =
         record { out = refusalText number line; prints = subst (λ (v : Verdict). Prints v (refusalText number line)) (sym (ruled (refused number line) which)) refl; put = u }

@@ -1,16 +1,15 @@
 -- `program::print` meets its contract: each branch prints the verdict. Assumes nothing.
-use mathlib.Core.Path.{sym}
 use borrow.Author.Needs.{needs}
 use Rattle.program.proofs.Printing.{too-large, report-asks, report-prints, refusal-asks, refusal-prints}
-use Rattle.program.proofs.print.Tie as tie
 use Rattle.program.proofs.print.Statement.{statement}
+use Rattle.program.proofs.print.Tie as tie
 
 print-refusal-requires : tie.Need-print-refusal-requires
 print-refusal-requires c κs = search needs
 
 returns : tie.Need-returns
 returns c =
-    too-large (c .before .before .before .before .args .input .now) (c .print-refusal .result) (c .before .before .before .before .args .out .now) (c .print-refusal .last .1 .1 .0) (c .before .before .if1 .taken) (c .print-refusal .ensures)
+    too-large (c .before .before .if1 .taken) (c .print-refusal .ensures)
 
 slice-aggregate-profile : tie.Need-slice-aggregate-profile
 slice-aggregate-profile c = search needs
@@ -29,8 +28,7 @@ slice-aggregate-print-report c = search needs
 
 print-report-requires : tie.Need-print-report-requires
 print-report-requires c κs =
-    let g = c .before .before .before .count .given in
-    let a = report-asks (c .before .before .before .before .before .before .before .before .before .before .before .before .args .input .now) _ _ _ _ (c .before .before .before .before .before .before .before .profile .result) (c .before .before .before .before .before .before .before .before .before .before .if1 .left) (search needs) (search needs) (c .before .before .before .before .before .before .before .profile .ensures) (g .0 .0) (g .0 .1 .0) (g .0 .1 .1 .0) (g .0 .1 .1 .1 .0) (g .1) in
+    let a = report-asks (c .before .before .before .before .before .before .before .profile .ensures) (c .before .before .before .before .before .before .before .before .before .before .if1 .left) (search needs) (search needs) (c .before .before .before .count .given .1) in
     (a .0, (a .1, search needs))
 
 enum-known-number : tie.Need-enum-known-number
@@ -38,18 +36,15 @@ enum-known-number c = search needs
 
 print-refusal-requires-2 : tie.Need-print-refusal-requires-2
 print-refusal-requires-2 c κs =
-    let g = c .before .before .number .given in
-    (refusal-asks (c .before .before .before .before .before .before .before .before .before .before .before .args .input .now) _ _ _ _ (c .before .before .before .before .before .before .profile .result) (c .before .before .before .before .before .before .before .before .before .if1 .left) (search needs) (search needs) (c .before .before .before .before .before .before .profile .ensures) (g .0 .0) (g .0 .1 .0) (g .1), search needs)
+    (refusal-asks (c .before .before .before .before .before .before .profile .ensures) (c .before .before .before .before .before .before .before .before .before .if1 .left) (search needs) (search needs) (c .before .before .number .given .1), search needs)
 
 returns-2 : tie.Need-returns-2
 returns-2 c =
-    let g = c .before .before .before .before .count .given in
-    report-prints (c .before .before .before .before .before .before .before .before .before .before .before .before .before .args .input .now) _ _ _ _ (c .before .before .before .before .before .before .before .before .profile .result) (c .before .before .before .before .before .before .before .before .before .before .before .if1 .left) (search needs) (search needs) (c .before .before .before .before .before .before .before .before .profile .ensures) (g .0 .0) (g .0 .1 .0) (g .0 .1 .1 .0) (g .0 .1 .1 .1 .0) (g .1) (c .print-report .result) (c .before .before .before .before .before .before .before .before .before .before .before .before .before .args .out .now) (c .print-report .last .1 .1 .0) (c .print-report .ensures)
+    report-prints (c .before .before .before .before .before .before .before .before .profile .ensures) (c .before .before .before .before .before .before .before .before .before .before .before .if1 .left) (search needs) (search needs) (c .before .before .before .before .count .given .1) (c .print-report .ensures)
 
 returns-3 : tie.Need-returns-3
 returns-3 c =
-    let g = c .before .before .before .number .given in
-    refusal-prints (c .before .before .before .before .before .before .before .before .before .before .before .before .args .input .now) _ _ _ _ (c .before .before .before .before .before .before .before .profile .result) (c .before .before .before .before .before .before .before .before .before .before .if1 .left) (search needs) (search needs) (c .before .before .before .before .before .before .before .profile .ensures) (g .0 .0) (g .0 .1 .0) (g .1) (c .print-refusal2 .result) (c .before .before .before .before .before .before .before .before .before .before .before .before .args .out .now) (c .print-refusal2 .last .1 .1 .0) (c .print-refusal2 .ensures)
+    refusal-prints (c .before .before .before .before .before .before .before .profile .ensures) (c .before .before .before .before .before .before .before .before .before .before .if1 .left) (search needs) (search needs) (c .before .before .before .number .given .1) (c .print-refusal2 .ensures)
 
 pub print-spec : {M : Type 1} → statement M
 print-spec =

@@ -17,7 +17,7 @@ same-length c = search needs
 returns : tie.Need-returns
 returns c =
     let a = c .before .before .before .before .before .before .before .args in
-    puts _ _ (c .before .before .before .write-report .result) (c .written .result) (a .out .now) _ (report-text (a .rows .now) (a .count) _ (search needs) (search needs) (search needs)) (c .before .before .before .write-report .ensures) (c .written .ensures)
+    puts (report-text (a .rows .now) (a .count) _ (search needs) (search needs) (search needs)) (c .before .before .before .write-report .ensures) (c .written .ensures)
 
 pub print-report-spec : {M : Type 1} → statement M
 print-report-spec = tie.close (tie.spec write-report-requires written-requires same-length returns)
