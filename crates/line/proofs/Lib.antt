@@ -6,3 +6,5 @@ pub mod Writable
 pub mod RoundTrip
 pub mod Items
 mod Examples
+pub mod Zero
+pub mod Short

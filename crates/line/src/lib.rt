@@ -2,11 +2,12 @@
 ghost use mathlib.Core.Path.{_≡_};
 ghost use mathlib.Core.Bool.{cond};
 ghost use Prim.Native.Nat.{_+_, _≤_};
-ghost use lib.ListN.{replicate};
+ghost use lib.ListN.{length, getD, replicate};
 ghost use Rattle.line.specs.Table.{only, table};
 ghost use Rattle.line.specs.declared.Wrote.the-variants.{Chars, Refused};
 ghost use Rattle.line.specs.Write.{chars, writeAnswer, writeChars};
 ghost use Rattle.line.specs.Read.{tabled, readLine, readAt};
+ghost use Rattle.line.specs.Zeros.{allZero};
 ghost use Rattle.line.specs.At.{fieldAt, kindAt, siteAt, valueAt};
 
 // "A site line carries its place: file, line and column."
@@ -100,13 +101,11 @@ fn framed(kind: u32, site: u16, value: u32, file: u16, column: u16, n: usize) ->
     }
 }
 
-// What the characters s are as line n. Every digit is decoded before the one test of them all.
-fn read_as(s: &[u8], n: usize) -> Read
+// What 23 characters are as line n. Every digit is decoded before the one test of them all.
+fn read_whole(s: &[u8], n: usize) -> Read
+    requires { ⌜ length (now s) ≡ 23 ⌝ }
     ensures { λ r. ⌜ r ≡ readLine (now (s .entry)) n ⌝ }
 {
-    if s.len() != 23 {
-        return Read::Refused(2, 0);
-    }
     let kind = digits::read::number(&s[0..2]);
     let site = digits::read::number(&s[2..6]);
     let value = digits::read::number(&s[6..14]);
@@ -123,6 +122,94 @@ fn read_as(s: &[u8], n: usize) -> Read
         column.value as u16,
         n,
     )
+}
+
+// Whether every character is the digit 0.
+fn zeros(s: &[u8]) -> bool
+    ensures { λ r. ⌜ r ≡ allZero (now (s .entry)) ⌝ }
+{
+    let mut all = true;
+    let mut i = 0;
+    while i < s.len() {
+        all = all & (s[i] == b'0');
+        i += 1;
+    }
+    all
+}
+
+// A line of kind 06. Only the digits of its value are decoded, unless it is no cost after all.
+fn read_cost(s: &[u8], n: usize) -> Read
+    requires { ⌜ (length (now s) ≡ 23) × (getD (now s) 1 0 ≡ 54) ⌝ }
+    ensures { λ r. ⌜ r ≡ readLine (now (s .entry)) n ⌝ }
+{
+    let value = digits::read::number(&s[6..14]);
+    let site = zeros(&s[2..6]);
+    let rest = zeros(&s[14..22]);
+    if (s[0] == b'0') & site & value.good & (1 <= value.value) & rest & (s[22] == b'\n') {
+        return Read::Line(n, Frame::Cost(value.value));
+    }
+    read_whole(s, n)
+}
+
+// A line of kind 02 or 03, whose second character is kind. Only the digits of its site are decoded, unless it is neither after all.
+fn read_made(s: &[u8], kind: u8, n: usize) -> Read
+    requires { ⌜ (length (now s) ≡ 23) × (getD (now s) 1 0 ≡ kind) ⌝ }
+    ensures { λ r. ⌜ r ≡ readLine (now (s .entry)) n ⌝ }
+{
+    let site = digits::read::number(&s[2..6]);
+    let value = zeros(&s[6..14]);
+    let rest = zeros(&s[14..22]);
+    if (s[0] == b'0') & site.good & value & rest & (s[22] == b'\n') {
+        if kind == b'2' {
+            return Read::Line(n, Frame::Call(site.value as u16));
+        }
+        if kind == b'3' {
+            return Read::Line(n, Frame::Spawn(site.value as u16));
+        }
+    }
+    read_whole(s, n)
+}
+
+// A line of kind 04 or 05, whose second character is kind. No digit is decoded, unless it is neither after all.
+fn read_bare(s: &[u8], kind: u8, n: usize) -> Read
+    requires { ⌜ (length (now s) ≡ 23) × (getD (now s) 1 0 ≡ kind) ⌝ }
+    ensures { λ r. ⌜ r ≡ readLine (now (s .entry)) n ⌝ }
+{
+    let site = zeros(&s[2..6]);
+    let value = zeros(&s[6..14]);
+    let rest = zeros(&s[14..22]);
+    if (s[0] == b'0') & site & value & rest & (s[22] == b'\n') {
+        if kind == b'4' {
+            return Read::Line(n, Frame::Sync);
+        }
+        if kind == b'5' {
+            return Read::Line(n, Frame::Return);
+        }
+    }
+    read_whole(s, n)
+}
+
+// What the characters s are as line n. The kind's second digit tells which fields have to be decoded.
+fn read_as(s: &[u8], n: usize) -> Read
+    ensures { λ r. ⌜ r ≡ readLine (now (s .entry)) n ⌝ }
+{
+    if s.len() != 23 {
+        return Read::Refused(2, 0);
+    }
+    let kind = s[1];
+    if kind == b'6' {
+        return read_cost(s, n);
+    }
+    if kind == b'5' {
+        return read_bare(s, kind, n);
+    }
+    if kind == b'4' {
+        return read_bare(s, kind, n);
+    }
+    if kind == b'1' {
+        return read_whole(s, n);
+    }
+    read_made(s, kind, n)
 }
 
 // The line reader: the frame that the 23 characters lent are, or refusal 2, 5 or 6 with line 0.

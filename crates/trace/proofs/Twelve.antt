@@ -21,7 +21,7 @@ use Rattle.trace.proofs.Root.{root-span, root-chosen}
 use Rattle.trace.proofs.Columns.{spans-tree}
 
 -- the trees, which the law finds the chosen chains with
-abbrev trees : List Body
+abbrev pub trees : List Body
 trees =
     done
     ∷ spend 5 (spend 3 done)
@@ -38,21 +38,21 @@ trees =
     ∷ []
 
 -- the two sites
-abbrev heads : List Frame
+abbrev pub heads : List Frame
 heads = Site 1 (record { file = 1; line = 10; column = 5 }) ∷ Site 2 (record { file = 1; line = 20; column = 9 }) ∷ []
 
-record Row : Type 0 where
-  answer : Verdict
-  work : ℕ
-  span : ℕ
-  on0 : ℕ
-  on1 : ℕ
-  on2 : ℕ
+pub record Row : Type 0 where
+  pub answer : Verdict
+  pub work : ℕ
+  pub span : ℕ
+  pub on0 : ℕ
+  pub on1 : ℕ
+  pub on2 : ℕ
 
-abbrev expected : Case → Row
+abbrev pub expected : Case → Row
 expected c = record { answer = verdict (c .trace) 4 2 true; work = c .work; span = c .span; on0 = c .on0; on1 = c .on1; on2 = c .on2 }
 
-abbrev computed : Body → Row
+abbrev pub computed : Body → Row
 computed b =
     record {
       answer = accepted (heads ++ linesOf b);
@@ -64,7 +64,7 @@ computed b =
     }
 
 -- the one computed test
-test : map expected twelve ≡ map computed trees
+pub test : map expected twelve ≡ map computed trees
 unfolding choose
 test = refl
 
@@ -82,7 +82,7 @@ module _ (s : List ℕ) (b : Body) (e : verdict s 4 2 true ≡ accepted (heads +
   span-here : Span t root (spanOf b)
   span-here = subst (λ (c : Body). Span t root (spanOf c)) (same .1) (root-span 4 t p)
 
-  chosen-here : Chosen t (linesIn (chainOf 2 0 b))
+  pub chosen-here : Chosen t (linesIn (chainOf 2 0 b))
   chosen-here =
       subst (λ (h : List Frame). Chosen t (linesIn (chainOf (length h) 0 b))) (same .0)
       (subst (λ (c : Body). Chosen t (linesIn (chainOf (length (p .heads)) 0 c))) (same .1) (root-chosen 4 t p))

@@ -1,144 +1,66 @@
--- `line::read_as` meets its contract: the five numerals are those of the line's parts (`Numerals`). Assumes nothing.
+use Rattle.line.proofs.Lines.{read-long}
 use mathlib.Core.Path.{_∙_, sym}
 use borrow.Author.Needs.{needs}
-use Rattle.line.proofs.Lines.{Numerals, read-long, wrong-line, good-line, site-below, file-below, column-below}
 use Rattle.line.proofs.read_as.Statement.{statement}
 use Rattle.line.proofs.read_as.Tie as tie
 use Rattle.line.proofs.read_as.Reads as reads
 use Rattle.line.proofs.read_as.Lts as lts
-use Rattle.digits.proofs.read.number.Reads as number-reads
-use Rattle.line.proofs.framed.Reads as framed-reads
-
--- the five numerals, once the last is read
-abbrev Five : Type 0
-Five = lts.After-number5 (number-reads.Asked, number-reads.Learnt, framed-reads.Asked, framed-reads.Learnt) reads.Pre reads.Post
-
-numerals : (c : Five)
-    → Numerals (c .before .before .before .before .before .before .before .before .before .before .before .before .args .s .now) (c .before .before .before .before .before .before .before .before .number .result) (c .before .before .before .before .before .before .number2 .result) (c .before .before .before .before .number3 .result) (c .before .before .number4 .result) (c .number5 .result)
-numerals c =
-    record {
-      long = c .before .before .before .before .before .before .before .before .before .before .if1 .left;
-      kind-is = c .before .before .before .before .before .before .before .before .number .ensures;
-      site-is = c .before .before .before .before .before .before .number2 .ensures;
-      value-is = c .before .before .before .before .number3 .ensures;
-      file-is = c .before .before .number4 .ensures;
-      column-is = c .number5 .ensures;
-    }
+use Rattle.line.proofs.read_bare.Reads as read-bare-reads
+use Rattle.line.proofs.read_cost.Reads as read-cost-reads
+use Rattle.line.proofs.read_made.Reads as read-made-reads
+use Rattle.line.proofs.read_whole.Reads as read-whole-reads
 
 returns : tie.Need-returns
 returns c =
-    sym (read-long (c .before .before .args .s .now) (c .before .before .args .n) (c .if1 .taken))
+    let a = c .before .before in
+    sym (read-long (a .args .s .now) (a .args .n) (c .if1 .taken))
 
-sub-number : tie.Need-sub-number
-sub-number c = search needs
+shared-slice-read-kind : tie.Need-shared-slice-read-kind
+shared-slice-read-kind c = search needs
 
-part-number-start : tie.Need-part-number-start
-part-number-start c = search needs
-
-part-number-end : tie.Need-part-number-end
-part-number-end c = search needs
-
-number-requires : tie.Need-number-requires
-number-requires c κs = search needs
-
-sub-number-2 : tie.Need-sub-number-2
-sub-number-2 c = search needs
-
-part-number-start-2 : tie.Need-part-number-start-2
-part-number-start-2 c = search needs
-
-part-number-end-2 : tie.Need-part-number-end-2
-part-number-end-2 c = search needs
-
-number-requires-2 : tie.Need-number-requires-2
-number-requires-2 c κs = search needs
-
-sub-number-3 : tie.Need-sub-number-3
-sub-number-3 c = search needs
-
-part-number-start-3 : tie.Need-part-number-start-3
-part-number-start-3 c = search needs
-
-part-number-end-3 : tie.Need-part-number-end-3
-part-number-end-3 c = search needs
-
-number-requires-3 : tie.Need-number-requires-3
-number-requires-3 c κs = search needs
-
-sub-number-4 : tie.Need-sub-number-4
-sub-number-4 c = search needs
-
-part-number-start-4 : tie.Need-part-number-start-4
-part-number-start-4 c = search needs
-
-part-number-end-4 : tie.Need-part-number-end-4
-part-number-end-4 c = search needs
-
-number-requires-4 : tie.Need-number-requires-4
-number-requires-4 c κs = search needs
-
-sub-number-5 : tie.Need-sub-number-5
-sub-number-5 c = search needs
-
-part-number-start-5 : tie.Need-part-number-start-5
-part-number-start-5 c = search needs
-
-part-number-end-5 : tie.Need-part-number-end-5
-part-number-end-5 c = search needs
-
-number-requires-5 : tie.Need-number-requires-5
-number-requires-5 c κs = search needs
-
-shared-slice-read-if2 : tie.Need-shared-slice-read-if2
-shared-slice-read-if2 c = search needs
+read-cost-requires : tie.Need-read-cost-requires
+read-cost-requires c κs = search needs
 
 returns-2 : tie.Need-returns-2
-returns-2 c = wrong-line (numerals (c .before .before .before .before .before .before .before)) _ (c .if2 .taken)
+returns-2 c = search needs
 
-cast-framed : tie.Need-cast-framed
-cast-framed c = record { fits = site-below (numerals (c .before .before .before .before .before .before .before .before)) }
-
-cast-framed-2 : tie.Need-cast-framed-2
-cast-framed-2 c = record { fits = file-below (numerals (c .before .before .before .before .before .before .before .before .before)) }
-
-cast-framed-3 : tie.Need-cast-framed-3
-cast-framed-3 c = record { fits = column-below (numerals (c .before .before .before .before .before .before .before .before .before .before)) }
-
-framed-requires : tie.Need-framed-requires
-framed-requires c κs = search needs
+read-bare-requires : tie.Need-read-bare-requires
+read-bare-requires c κs = search needs
 
 returns-3 : tie.Need-returns-3
-returns-3 c = c .framed .ensures ∙ good-line (numerals (c .before .before .before .before .before .before .before .before .before .before .before)) _ (c .before .before .before .before .if2 .left)
+returns-3 c = search needs
+
+read-bare-requires-2 : tie.Need-read-bare-requires-2
+read-bare-requires-2 c κs = search needs
+
+returns-4 : tie.Need-returns-4
+returns-4 c = search needs
+
+read-whole-requires : tie.Need-read-whole-requires
+read-whole-requires c κs = search needs
+
+returns-5 : tie.Need-returns-5
+returns-5 c = search needs
+
+read-made-requires : tie.Need-read-made-requires
+read-made-requires c κs = search needs
+
+returns-6 : tie.Need-returns-6
+returns-6 c = search needs
 
 pub read-as-spec : {M : Type 1} → statement M
 read-as-spec =
     tie.close
     (tie.spec
     returns
-    sub-number
-    part-number-start
-    part-number-end
-    number-requires
-    sub-number-2
-    part-number-start-2
-    part-number-end-2
-    number-requires-2
-    sub-number-3
-    part-number-start-3
-    part-number-end-3
-    number-requires-3
-    sub-number-4
-    part-number-start-4
-    part-number-end-4
-    number-requires-4
-    sub-number-5
-    part-number-start-5
-    part-number-end-5
-    number-requires-5
-    shared-slice-read-if2
+    shared-slice-read-kind
+    read-cost-requires
     returns-2
-    cast-framed
-    cast-framed-2
-    cast-framed-3
-    framed-requires
-    returns-3)
+    read-bare-requires
+    returns-3
+    read-bare-requires-2
+    returns-4
+    read-whole-requires
+    returns-5
+    read-made-requires
+    returns-6)

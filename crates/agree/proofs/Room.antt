@@ -1,0 +1,120 @@
+-- What a run gives that lacks room, beside one that does not; and refusal 4 is given on no other ground.
+use mathlib.Core.Path.{_≡_, refl, sym, _∙_, ap}
+use mathlib.Core.Bool.{Bool, true, false, cond}
+use mathlib.Core.List.{List, [], _∷_, _++_}
+use Prim.Native.Nat.{ℕ, zero, suc, _<_}
+use native.Mathlib.Omega.{arith}
+use lib.ListN.{length}
+use lib.Dec.{eqb}
+use Rattle.line.specs.declared.Frame.{Frame}
+use Rattle.line.specs.declared.Read.{Read}
+use Rattle.line.specs.declared.Read.the-variants.{Line, Refused}
+use Rattle.line.specs.Table.{Entry, frame, none, table}
+use Rattle.line.specs.Read.{fields, wrong, tabled, readLine, lineAt, readAt}
+use Rattle.trace.specs.Refusals.{outOfRange, broken, lineCount, tooMany, afterRoot, misplaced, aboveM, placeAgain, undeclared, tooDeep, beyond, fault, Verdict, accepted, refused, judged, scan, readsFrom, reads, verdict}
+use Rattle.trace.specs.Promise.{Engine, refusal}
+use Rattle.trace.proofs.Basics.{clash}
+use Rattle.agree.specs.Demand.{Run, Ran, HasRoom}
+use Rattle.agree.specs.Room.{LacksRoom, refusalFor, WithoutRoom, OneLacksRoom}
+use Rattle.agree.proofs.Demand.{accepts, refuses}
+
+-- ── no line is refused with 4 ──
+
+read-never : (s : List ℕ) (n m k : ℕ) → readLine s n ≡ Refused m k → m ≡ 4 → ⊥
+read-never s n m k e h = go (eqb (length s) 23) (wrong s) (table (fields s)) e
+  where
+    go : (a b : Bool) (x : Entry) → cond a (cond b (Refused 5 n) (tabled x n)) (Refused 2 0) ≡ Refused m k → ⊥
+    go true true x q = let y : 5 ≡ m = cc in omega arith
+    go true false (frame f) q = clash (cc)
+    go true false none q = let y : 6 ≡ m = cc in omega arith
+    go false b x q = let y : 2 ≡ m = cc in omega arith
+
+fault-never : (a b c d e f g : Bool) → _≡_ {A = ℕ} (cond a 7 (cond b 8 (cond c 9 (cond d 10 (cond e 11 (cond f 12 (cond g 13 0))))))) 4 → ⊥
+fault-never true b c d e f g q = omega arith
+fault-never false true c d e f g q = omega arith
+fault-never false false true d e f g q = omega arith
+fault-never false false false true e f g q = omega arith
+fault-never false false false false true f g q = omega arith
+fault-never false false false false false true g q = omega arith
+fault-never false false false false false false true q = omega arith
+fault-never false false false false false false false q = omega arith
+
+scan-never : (D M : ℕ) (s : List ℕ) (before : List Frame) (n count k : ℕ) → scan D M before (readsFrom s n count) ≡ refused 4 k → ⊥
+scan-never D M s before n zero k e = go (afterRoot before) e
+  where
+    go : (b : Bool) → cond b (accepted before) (refused 14 (length before)) ≡ refused 4 k → ⊥
+    go true q = clash (cc)
+    go false q = let y : _≡_ {A = ℕ} 14 4 = cc in omega arith
+scan-never D M s before n (suc count) k e = go (λ f. scan-never D M s (before ++ f ∷ []) (suc n) count k) (readAt s n) refl e
+  where
+    rs : List Read
+    rs = readsFrom s (suc n) count
+
+    on : (j : ℕ) (f : Frame) (b : Bool) → (scan D M (before ++ f ∷ []) rs ≡ refused 4 k → ⊥) → cond b (scan D M (before ++ f ∷ []) rs) (refused (fault D M before f) j) ≡ refused 4 k → ⊥
+    on j f true rec q = rec q
+    on j f false rec q =
+        let y : fault D M before f ≡ 4 = cc in
+        fault-never (afterRoot before) (misplaced before f) (aboveM M f) (placeAgain before f) (undeclared before f) (tooDeep D before f) (beyond before f) y
+
+    go : ((f : Frame) → scan D M (before ++ f ∷ []) rs ≡ refused 4 k → ⊥) → (r : Read) → readAt s n ≡ r → judged D M before r (λ f. scan D M (before ++ f ∷ []) rs) ≡ refused 4 k → ⊥
+    go rec (Refused m j) r q = (let y : m ≡ 4 = cc in read-never (lineAt s n) n m j r y)
+    go rec (Line j f) r q = on j f (eqb (fault D M before f) 0) (rec f) q
+
+-- ── the verdict without room, and with it ──
+
+module _ (s : List ℕ) (D M : ℕ) where
+  lacking : verdict s D M false ≡ refused (refusalFor s D M) 0
+  lacking = go (outOfRange D M) (broken s) (tooMany s)
+    where
+      go : (a b c : Bool) → cond a (refused 1 0) (cond b (refused 2 0) (cond c (refused 3 0) (refused 4 0))) ≡ refused (cond a 1 (cond b 2 (cond c 3 4))) 0
+      go true b c = refl
+      go false true c = refl
+      go false false true = refl
+      go false false false = refl
+
+  -- checks 1, 2 and 3 come before the room
+  early : refusalFor s D M < 4 → verdict s D M true ≡ refused (refusalFor s D M) 0
+  early l = go (outOfRange D M) (broken s) (tooMany s) l
+    where
+      go : (a b c : Bool) → cond a 1 (cond b 2 (cond c 3 4)) < 4 → cond a (refused 1 0) (cond b (refused 2 0) (cond c (refused 3 0) (scan D M [] (reads s)))) ≡ refused (cond a 1 (cond b 2 (cond c 3 4))) 0
+      go true b c l = refl
+      go false true c l = refl
+      go false false true l = refl
+      go false false false l = absurd (omega arith)
+
+  -- LAW: with room the verdict has that number only where it is 1, 2 or 3; it is never 4
+  pub never-four : (k : ℕ) → verdict s D M true ≡ refused (refusalFor s D M) k → refusalFor s D M < 4
+  never-four k e = go (outOfRange D M) (broken s) (tooMany s) e
+    where
+      go : (a b c : Bool) → cond a (refused 1 0) (cond b (refused 2 0) (cond c (refused 3 0) (scan D M [] (reads s)))) ≡ refused (cond a 1 (cond b 2 (cond c 3 4))) k → cond a 1 (cond b 2 (cond c 3 4)) < 4
+      go true b c q = omega arith
+      go false true c q = omega arith
+      go false false true q = omega arith
+      go false false false q = absurd (scan-never D M s [] 0 (lineCount s) k q)
+
+-- LAW: what a run gives that lacks room
+pub lacks-room : (e : Engine) (s : List ℕ) (D M : ℕ) (x : Run) → Ran e s D M x → LacksRoom e s D M x → WithoutRoom s D M x
+lacks-room e s D M x h i =
+    let w = h .when-refused (refusalFor s D M) 0 (ap (verdict s D M) i ∙ lacking s D M) in
+    record { answer = w .0; unchanged = w .1 }
+
+-- LAW: two such runs have equal answers, of either engine
+pub both-lack-room : (e f : Engine) (s : List ℕ) (D M : ℕ) (x y : Run) → Ran e s D M x → Ran f s D M y → LacksRoom e s D M x → LacksRoom f s D M y → x .answer ≡ y .answer
+both-lack-room e f s D M x y h k i j = lacks-room e s D M x h i .answer ∙ sym (lacks-room f s D M y k j .answer)
+
+-- LAW: where one lacks room and the other does not
+pub one-lacks-room : (e f : Engine) (s : List ℕ) (D M : ℕ) (x y : Run) → Ran e s D M x → Ran f s D M y → LacksRoom e s D M x → HasRoom f s D M y → OneLacksRoom f s D M x y
+one-lacks-room e f s D M x y h k i j =
+    let w = lacks-room e s D M x h i in
+    record {
+      one = w;
+      other = record { accepts = accepts f s D M y k j; refuses = refuses f s D M y k j };
+      equal = (λ q. go (verdict s D M true) refl (sym (w .answer) ∙ q), λ l. w .answer ∙ sym (refuses f s D M y k j (refusalFor s D M) 0 (early s D M l) .0));
+    }
+  where
+    go : (v : Verdict) → verdict s D M true ≡ v → refusal (refusalFor s D M) 0 ≡ y .answer → refusalFor s D M < 4
+    go (accepted t) a q = let p = accepts f s D M y k j t a .answer in clash (cc)
+    go (refused n l) a q =
+        let p = refuses f s D M y k j n l a .0 in
+        let z : n ≡ refusalFor s D M = cc in
+        never-four s D M l (a ∙ ap (λ (m : ℕ). refused m l) z)

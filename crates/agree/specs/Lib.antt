@@ -1,0 +1,4 @@
+pub mod Shown
+pub mod Demand
+pub mod Room
+pub mod Twelve

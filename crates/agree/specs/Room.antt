@@ -1,0 +1,35 @@
+-- What a run gives that lacks room, what one gives that does not, and where their answers are equal.
+use Prim.Native.Nat.{ℕ, _<_}
+use mathlib.Core.Path.{_≡_}
+use mathlib.Core.Logic.{_↔_}
+use mathlib.Core.Bool.{true, false, cond}
+use mathlib.Core.List.{List}
+use Rattle.line.specs.declared.Frame.{Frame}
+use Rattle.trace.specs.Refusals.{outOfRange, broken, tooMany, accepted, refused, verdict}
+use Rattle.trace.specs.Promise.{Engine, enough, refusal, Profile}
+use Rattle.agree.specs.Demand.{Run}
+
+-- 4: "any lent slice shorter than stated"
+abbrev pub LacksRoom : Engine → List ℕ → ℕ → ℕ → Run → Type 0
+LacksRoom e s D M x = enough e s D M (x .lent) ≡ false
+
+-- "Checks 1 to 4 run in that order": the refusal of a run that lacks room
+abbrev pub refusalFor : List ℕ → ℕ → ℕ → ℕ
+refusalFor s D M = cond (outOfRange D M) 1 (cond (broken s) 2 (cond (tooMany s) 3 4))
+
+-- a run that lacks room is refused, with line 0, and changes nothing
+pub record WithoutRoom (s : List ℕ) (D M : ℕ) (x : Run) : Type 0 where
+  pub answer : x .answer ≡ refusal (refusalFor s D M) 0
+  pub unchanged : x .left ≡ x .lent
+
+-- a run of the engine e that does not lack room gives the text's verdict
+pub record WithRoom (e : Engine) (s : List ℕ) (D M : ℕ) (x : Run) : Type 0 where
+  pub accepts : (t : List Frame) → verdict s D M true ≡ accepted t → Profile e t (x .lent) (x .answer) (x .left)
+  pub refuses : (number line : ℕ) → verdict s D M true ≡ refused number line → (x .answer ≡ refusal number line) × (x .left ≡ x .lent)
+
+-- x lacks room; y, a run of the engine f, does not
+pub record OneLacksRoom (f : Engine) (s : List ℕ) (D M : ℕ) (x y : Run) : Type 0 where
+  pub one : WithoutRoom s D M x
+  pub other : WithRoom f s D M y
+  -- their answers are equal exactly where 1, 2 or 3 is given
+  pub equal : (x .answer ≡ y .answer) ↔ (refusalFor s D M < 4)
