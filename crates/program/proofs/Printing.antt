@@ -13,7 +13,7 @@ use Rattle.trace.specs.declared.Answer.the-variants.{Accepted, Refused}
 use Rattle.trace.specs.Shape.{sites}
 use Rattle.trace.specs.Rows.{columns}
 use Rattle.trace.specs.Refusals.{Verdict, accepted, refused, verdict}
-use Rattle.trace.specs.Promise.{tables, enough, Promise}
+use Rattle.trace.specs.Promise.{tables, scratchRoom, rowsRoom, enough, Promise}
 use Rattle.trace.proofs.Basics.{clash}
 use Rattle.admit.proofs.Admitted.{accepted-sites}
 use Rattle.admit.proofs.Refused.{refused-line}
@@ -40,15 +40,15 @@ too-large {s} h p =
 
 -- at most so many, and what the table engine answered and left in its room
 module _ {s scratch rows scratch′ rows′ : List ℕ} {r : Answer} (p : Promise tables s 32 31 (lent scratch rows) r (lent scratch′ rows′))
-    (few : length s ≤ 65527) (wide : 4352 ≤ length scratch) (long : 160 ≤ length rows) where
-  room : enough tables s 32 31 (lent scratch rows) ≡ true
-  room = rw (le-leb 4352 (length scratch) wide, le-leb 160 (length rows) long)
-
-  ruled : (v : Verdict) → verdict s 32 31 (enough tables s 32 31 (lent scratch rows)) ≡ v → ruling s ≡ v
-  ruled v e = rw (le-ltb _ _ few) (ap (verdict s 32 31) (sym room) ∙ e)
-
+    (few : length s ≤ 65527) (wide : scratchRoom tables 32 31 ≤ length scratch) (long : rowsRoom 31 ≤ length rows) where
   abbrev judgement : Verdict
   judgement = verdict s 32 31 (enough tables s 32 31 (lent scratch rows))
+
+  room : enough tables s 32 31 (lent scratch rows) ≡ true
+  room = rw (le-leb _ (length scratch) wide, le-leb _ (length rows) long)
+
+  ruled : (v : Verdict) → judgement ≡ v → ruling s ≡ v
+  ruled v e = rw (le-ltb _ _ few) (ap (verdict s 32 31) (sym room) ∙ e)
 
   -- an acceptance: its rows
   module _ {w m count n : ℕ} (e : r ≡ Accepted w m count n) where
