@@ -7,3 +7,6 @@ pub mod Says
 pub mod Columns
 pub mod Root
 pub mod Zeros
+pub mod Child
+pub mod Room
+pub mod Accepted

@@ -1,0 +1,196 @@
+-- The item reader: what each kind of item asks for and comes to, with no code in sight.
+use mathlib.Core.Path.{_≡_, refl, ap, _∙_, sym, subst}
+use mathlib.Core.List.{List}
+use Prim.Native.Nat.{ℕ, _+_, _*_, _-_, _^_, _≤_, _<_}
+use native.Mathlib.Omega.{arith}
+use lib.ListN.{length, getD}
+use Rattle.line.specs.At.{kindAt, siteAt, valueAt}
+use Rattle.chain.specs.Plan.{weight}
+use Rattle.trace.specs.Rows.{columns}
+use Rattle.trace.specs.Tree.{Body, spend, sync, call, spawn, linesOf, workOf}
+use Rattle.trace.specs.Fold.{Chains, nothing, joined, called, spawned, run}
+use Rattle.walk.specs.declared.Open.{Open}
+use Rattle.walk.specs.Stands.{Stands, Says, kindOf, siteOf}
+use Rattle.walk.specs.Numbers.{numbers}
+use Rattle.walk.specs.Gain.{one, counted, Grown}
+use Rattle.walk.specs.Item.{itemChains}
+use Rattle.walk.specs.Reader.{ItemDone}
+use Rattle.walk.proofs.Items.{size-some, run-le}
+use Rattle.walk.proofs.Lines.{is-sync}
+use Rattle.walk.proofs.Says.{kind-says, site-says, value-says}
+use Rattle.walk.proofs.Room.{lines-in}
+use Rattle.walk.proofs.Child.{cost-is, call-is, spawn-is, Child, child-is, cost-fits, child-work, deeper as child-deeper, child-ready, count-room as child-room, count-fits as child-fits, ChildDone, child-done}
+use Rattle.marks.specs.declared.Zones.{Zones}
+use Rattle.marks.specs.Shown.{Zone, Shows, Kept}
+use Rattle.marks.specs.Park.{Zero}
+use Rattle.marks.specs.Steps.{Fits, At, Spent, Joined, Called, Spawned}
+use Rattle.marks.specs.Reader.{Lent, ItemAsks, ItemLeft, ItemLeaves, BodyAsks, BodyLeft, BodyLeaves}
+use Rattle.marks.proofs.Shown.{zone-kept}
+use Rattle.marks.proofs.Bodies.{shows-begun}
+
+-- what a step leaves, as the item's
+left-is : (n e w : ℕ) (b : Body) (k : Chains) (z : Zones) (m rows : List ℕ) (r : Zones) (m′ rows′ : List ℕ) → At n e w (itemChains (z .own .at) (z .row) b k) m z r m′ → ItemDone (z .row) (z .own) rows b k (r .own) rows′
+    → ItemLeft n b k z m rows r m′ rows′
+left-is n e w b k z m rows r m′ rows′ a done = record { done = done; same-row = a .same-row; shows = a .shows; kept = subst (λ (x : ℕ). Kept n x m m′) (sym (ap (λ (x : Open). x .at) (a .numbers-are))) (a .kept) }
+
+-- marks behind the zones of an invocation changed
+shows-kept : (n a e : ℕ) (m m₁ : List ℕ) (z : Zones) (k : Chains) → z .own .at ≤ a → Kept a e m m₁ → Shows n m z k → Shows n m₁ z k
+shows-kept n a e m m₁ z k l kept s =
+    record {
+      begins = s .begins;
+      then = s .then;
+      ends = s .ends;
+      P = zone-kept m m₁ n (z .child) (k .p) (λ i p q. kept i (λ x y. omega (arith, s .then, s .ends))) (s .P);
+      L = zone-kept m m₁ (z .child) (z .after) (k .l) (λ i p q. kept i (λ x y. omega (arith, s .ends))) (s .L);
+      C = zone-kept m m₁ (z .after) (z .own .at) (k .c) (λ i p q. kept i (λ x y. omega arith)) (s .C);
+    }
+
+module _ {s : List ℕ} {deep : ℕ} {z : Zones} {t m rows : List ℕ} (l : Lent s deep z t m rows) where
+  line-in : z .own .at < length m
+  line-in = omega (arith, l .lines, lines-in s (l .ready .body) (z .own .at) (l .ready .stands), size-some (l .ready .body))
+
+  -- whatever fits the chains
+  step-asks : (v : ℕ) (m₁ : List ℕ) → length m₁ ≡ length m → z .own .prefix + (z .own .longest + z .own .since) + v < 2 ^ 64 → Fits m₁ z v
+  step-asks v m₁ lm h = record { order = (l .shows .then, l .shows .ends); room = omega (arith, line-in, lm); load = h }
+
+  pub line-fits : z .own .at + 1 < 2 ^ 64
+  line-fits = omega (arith, l .ready .ends, size-some (l .ready .body))
+
+  -- a sync, or the return
+  pub join-asks : Fits m z 0
+  join-asks = step-asks 0 m refl (omega (arith, l .ready .load-fits))
+
+  pub sync-leaves : (kind : ℕ) → kind ≡ kindAt s (z .own .at) → kind ≡ 4 → (r : Zones) (m′ : List ℕ) → Joined m z r m′ → ItemLeaves s z m rows r m′ rows
+  sync-leaves kind reads k4 r m′ j b n k more h e sh =
+      let q = is-sync s (z .own .at) kind (kind-says s (z .own .at) (z .own .at) kind refl reads) b h k4 in
+      let d = j n k e sh in
+      let o : z .own .work ≡ z .own .work + 0 = omega arith in
+      subst (λ (x : Body). ItemLeft n x k z m rows r m′ rows) (sym (q .1))
+      (left-is n (z .own .at + 1) (z .own .work) (sync (q .0)) k z m rows r m′ rows d (record { numbers-are = d .numbers-are ∙ ap (λ (x : ℕ). numbers (z .own .at + 1) x (joined k)) o; rows-are = λ i l. omega arith }))
+
+-- the item is a cost of v
+pub record Costs (s : List ℕ) (deep : ℕ) (z : Zones) (t m rows : List ℕ) (kind v : ℕ) : Type 0 where
+  pub lent : Lent s deep z t m rows
+  pub kind-is : kind ≡ kindAt s (z .own .at)
+  pub value-is : v ≡ valueAt s (z .own .at)
+  pub cost : kind ≡ 6
+
+module _ {s : List ℕ} {deep : ℕ} {z : Zones} {t m rows : List ℕ} {kind v : ℕ} (h : Costs s deep z t m rows kind v) where
+  spend-is : (b : Body) → Stands s (z .own .at) (linesOf b) → (r : Body) × (b ≡ spend v r)
+  spend-is = cost-is s (z .own .at) kind (kind-says s (z .own .at) (z .own .at) kind refl (h .kind-is)) v (value-says s (z .own .at) (z .own .at) v refl (h .value-is)) (h .cost)
+
+  fit : ((columns * z .row + 3 < length rows) × (getD rows (columns * z .row + 3) 0 + v < 2 ^ 64)) × ((z .own .work + v < 2 ^ 64) × (z .own .prefix + (z .own .longest + z .own .since) + v < 2 ^ 64))
+  fit =
+      let y = h .lent .ready in
+      let q = spend-is (y .body) (y .stands) in
+      cost-fits s (z .row) (h .lent .sites) deep (z .own) rows y v (q .0) (q .1)
+
+  pub rows-asks : (columns * z .row + 3 < length rows) × (getD rows (columns * z .row + 3) 0 + v < 2 ^ 64)
+  rows-asks = fit .0
+
+  pub spend-asks : Fits m z v × (z .own .work + v < 2 ^ 64)
+  spend-asks = (step-asks (h .lent) v m refl (fit .1 .1), fit .1 .0)
+
+  pub cost-leaves : (r : Zones) (m′ rows′ : List ℕ) → Grown rows (one (columns * z .row + 3) v) rows′ → Spent v m z r m′ → ItemLeaves s z m rows r m′ rows′
+  cost-leaves r m′ rows′ grown sp b n k more st e sh =
+      let q = spend-is b st in
+      let d = sp n k e sh in
+      subst (λ (x : Body). ItemLeft n x k z m rows r m′ rows′) (sym (q .1))
+      (left-is n (z .own .at + 1) (z .own .work + v) (spend v (q .0)) k z m rows r m′ rows′ d (record { numbers-are = d .numbers-are; rows-are = grown }))
+
+-- the item is a call or a spawn of site
+pub record Calls (s : List ℕ) (deep : ℕ) (z : Zones) (t m rows : List ℕ) (kind site : ℕ) : Type 0 where
+  pub asks : ItemAsks s deep z t m rows
+  pub kind-is : kind ≡ kindAt s (z .own .at)
+  pub site-is : site ≡ siteAt s (z .own .at)
+  pub no-cost : kind ≡ 6 → ⊥
+  pub no-sync : kind ≡ 4 → ⊥
+
+module _ {s : List ℕ} {deep : ℕ} {z : Zones} {t m rows : List ℕ} {kind site : ℕ} (h : Calls s deep z t m rows kind site) where
+  abbrev l : Lent s deep z t m rows
+  l = h .asks .lent
+
+  says : Says kindOf s (z .own .at) kind
+  says = kind-says s (z .own .at) (z .own .at) kind refl (h .kind-is)
+
+  sited : Says siteOf s (z .own .at) site
+  sited = site-says s (z .own .at) (z .own .at) site refl (h .site-is)
+
+  abbrev child : Child s (z .own .at) site (l .ready .body)
+  child = child-is s (z .own .at) kind site says sited (h .no-cost) (h .no-sync) (l .ready .body) (l .ready .stands) (h .asks .more)
+
+  pub deeper : 1 ≤ deep
+  deeper = child-deeper s (z .row) (l .sites) deep (z .own) rows (l .ready) site child
+
+  pub room : 8 ≤ length t
+  room = omega (arith, l .room)
+
+  pub body-asks : (part : List ℕ) → Zero part → length part ≡ length t - 8 → BodyAsks s (z .own .at + 1) site (deep - 1) part m rows
+  body-asks part zero long =
+      record {
+        sites = l .sites;
+        ready = child-ready s (z .row) (l .sites) deep (z .own) rows (l .ready) site child;
+        lines = l .lines;
+        zero = zero;
+        room = omega (arith, l .room, long, deeper);
+        n = z .own .at + 1;
+        k = nothing;
+        weighs = refl;
+        shows = shows-begun (z .own .at + 1) site m;
+      }
+
+  -- the child's numbers are c, and it left the marks m₁ and the rows rows₁
+  module _ (c : Open) (m₁ rows₁ : List ℕ) (lm : length m₁ ≡ length m) (lr : length rows₁ ≡ length rows) (done : BodyLeaves s (z .own .at + 1) site m rows c m₁ rows₁) where
+    left : BodyLeft (z .own .at + 1) site (child .g) m rows c m₁ rows₁
+    left = done (child .g) (child .stands)
+
+    pub count-asks : (columns * site + 2 < length rows₁) × ((getD rows₁ (columns * site) 0 + 1 < 2 ^ 64) × ((getD rows₁ (columns * site + 1) 0 + c .work < 2 ^ 64) × (getD rows₁ (columns * site + 2) 0 + c .prefix < 2 ^ 64)))
+    count-asks = (child-room s (z .row) (l .sites) deep (z .own) rows (l .ready) site child c rows₁ lr (left .done), child-fits s (z .row) (l .sites) deep (z .own) rows (l .ready) site child c rows₁ lr (left .done))
+
+    both : (z .own .work + workOf (child .g) < 2 ^ 64) × (z .own .prefix + (z .own .longest + z .own .since) + workOf (child .g) < 2 ^ 64)
+    both = child-work s (z .row) (l .sites) deep (z .own) rows (l .ready) site child
+
+    pub called-asks : Fits m₁ z (c .prefix) × (z .own .work + c .work < 2 ^ 64)
+    called-asks = (
+      step-asks l (c .prefix) m₁ lm (omega (arith, both .1, ap (λ (x : Open). x .prefix) (left .done .numbers-are), run-le (child .g) (z .own .at + 1) site nothing)),
+      omega (arith, both .0, ap (λ (x : Open). x .work) (left .done .numbers-are)),
+    )
+
+    pub spawned-asks : Fits m₁ z (c .prefix) × ((z .own .work + c .work < 2 ^ 64) × ((z .own .at < c .at) × (c .at ≤ length m₁)))
+    spawned-asks =
+        let at = ap (λ (x : Open). x .at) (left .done .numbers-are) in
+        (called-asks .0, (called-asks .1, (omega (arith, at), omega (arith, at, lm, l .lines, lines-in s (child .g) (z .own .at + 1) (child .stands)))))
+
+    -- it was counted, and the step left r and the marks m₂
+    module _ (rows₂ : List ℕ) (counts : Grown rows₁ (counted site (c .work) (c .prefix)) rows₂) (r : Zones) (m₂ : List ℕ) where
+      -- the child's body is g: what the step asks for and leaves, as the item's
+      behind : (n : ℕ) (k : Chains) (g b : Body) (x : Chains) → Stands s (z .own .at + 1) (linesOf g) → Shows n m z k
+          → (weight (run (z .own .at + 1) site nothing g) ≡ c .prefix → Shows n m₁ z k → z .own .at < c .at → Zone m₁ (z .own .at + 1) (c .at) (run (z .own .at + 1) site nothing g) → At n (c .at) (z .own .work + c .work) x m₁ z r m₂)
+          → (ChildDone (z .own) site rows g c rows₂ → r .own ≡ numbers (c .at) (z .own .work + c .work) x → ItemDone (z .row) (z .own) rows b k (r .own) rows₂)
+          → x ≡ itemChains (z .own .at) (z .row) b k → ItemLeft n b k z m rows r m₂ rows₂
+      behind n k g b x st sh step item e =
+          let d = done g st in
+          let v = child-done (z .own) site rows rows₁ rows₂ g c lr (d .done) counts in
+          let q = step (v .chain) (shows-kept n (z .own .at + 1) (c .at) m m₁ z k (omega arith) (d .kept) sh) (omega (arith, v .at-is)) (d .zone) in
+          record {
+            done = item v (q .numbers-are);
+            same-row = q .same-row;
+            shows = subst (Shows n m₂ r) e (q .shows);
+            kept = λ j o.
+                let to : r .own .at ≡ c .at = ap (λ (x : Open). x .at) (q .numbers-are) in
+                q .kept j (λ p w. o p (omega (arith, to))) ∙ d .kept j (λ p w. o (omega (arith, sh .begins, sh .then, sh .ends)) (omega (arith, to)));
+          }
+
+      pub call-leaves : kind ≡ 2 → Called m₁ z c r m₂ → ItemLeaves s z m rows r m₂ rows₂
+      call-leaves k2 step b n k more st e sh =
+          let q = call-is s (z .own .at) kind says site sited b st k2 in
+          let g = run (z .own .at + 1) site nothing (q .0) in
+          subst (λ (x : Body). ItemLeft n x k z m rows r m₂ rows₂) (sym (q .2))
+          (behind n k (q .0) (call site (q .0) (q .1)) (called g k) (q .3) sh (step n k g e) (λ v w. record { numbers-are = w ∙ v .numbers-are (called g k); rows-are = v .rows-are }) refl)
+
+      pub spawn-leaves : (kind ≡ 2 → ⊥) → Spawned m₁ z c r m₂ → ItemLeaves s z m rows r m₂ rows₂
+      spawn-leaves k2 step b n k more st e sh =
+          let q = spawn-is s (z .own .at) kind says site sited (h .no-cost) (h .no-sync) b st more k2 in
+          let g = run (z .own .at + 1) site nothing (q .0) in
+          subst (λ (x : Body). ItemLeft n x k z m rows r m₂ rows₂) (sym (q .2))
+          (behind n k (q .0) (spawn site (q .0) (q .1)) (spawned g k) (q .3) sh (step n k g e) (λ v w. record { numbers-are = w ∙ v .numbers-are (spawned g k); rows-are = v .rows-are }) refl)

@@ -1,0 +1,202 @@
+-- From acceptance to the promise: what the two readings of the root ask for, and what they come to.
+use mathlib.Core.Path.{_≡_, refl, ap, _∙_, sym, subst}
+use mathlib.Core.Bool.{Bool, cond}
+use mathlib.Core.List.{List}
+use Prim.Native.Nat.{ℕ, _+_, _*_, _-_, _^_, _≤_, _<_}
+use native.Mathlib.Decide.{decLt}
+use native.Mathlib.Omega.{arith}
+use lib.ListN.{length, getD, replicate, length-replicate, List·getD-eq-default}
+use Rattle.line.specs.declared.Frame.{Frame}
+use Rattle.trace.specs.declared.Answer.{Answer}
+use Rattle.trace.specs.declared.Answer.the-variants.{Accepted, Refused}
+use Rattle.trace.specs.Shape.{has, sites}
+use Rattle.trace.specs.Rows.{columns}
+use Rattle.trace.specs.Refusals.{accepted, refused, verdict}
+use Rattle.trace.specs.Promise.{marks, Lent, enough, Profile, Promise}
+use Rattle.trace.specs.ByTree.{cell, ProfileBy}
+use Rattle.trace.specs.Tree.{Body, size, Within, Parts, workOf, spanOf}
+use Rattle.trace.specs.Fold.{nothing, chainOf, onRow, linesIn}
+use Rattle.trace.proofs.Basics.{clash}
+use Rattle.trace.proofs.Scan.{accepted-is}
+use Rattle.trace.proofs.Outcome.{tree-profile, work-small}
+use Rattle.admit.specs.declared.Verdict.the-variants as Verdict
+use Rattle.admit.specs.Answer.{admission}
+use Rattle.admit.proofs.Admitted.{refused-only, accepted-only}
+use Rattle.walk.specs.declared.Open.{Open}
+use Rattle.walk.specs.Gain.{counted, Grown}
+use Rattle.walk.proofs.Root.{tree, first-line, last-line}
+use Rattle.walk.proofs.Room.{lines-in}
+use Rattle.walk.proofs.Zeros.{zeros-at}
+use Rattle.walk.proofs.Accepted.{fine, limits, rooms, rows-room, cleared, body, stands, ready, work-is, span-is, count-fits, cells, none-on, rest}
+use Rattle.marks.specs.Shown.{Wiped}
+use Rattle.marks.specs.Reader.{BodyAsks, BodyLeft, BodyLeaves}
+use Rattle.marks.specs.Column.{onGain, OnLent, OnBodyLeaves}
+use Rattle.marks.specs.Root.{lent, Admitted}
+use Rattle.marks.proofs.Shown.{outside}
+use Rattle.marks.proofs.Bodies.{shows-begun}
+use Rattle.marks.proofs.OnSpan.{on-cross, on-out, on-le, on-row}
+
+accepted-same : (t u : List Frame) → accepted t ≡ accepted u → t ≡ u
+accepted-same t u e = cc
+
+module _ {s : List ℕ} {D M : ℕ} {x : Lent} {count lines : ℕ} (a : Admitted s D M x count lines) where
+  abbrev t : List Frame
+  t = a .frames
+
+  abbrev b : Body
+  b = body marks s D M x t (a .is) count (a .count-is)
+
+  abbrev rows₀ : List ℕ
+  rows₀ = cleared marks s D M x t (a .is) count (a .count-is)
+
+  pub bounds : (1 ≤ D) × (D ≤ 64) × (M ≤ 255) × (count ≤ M)
+  bounds = limits marks s D M x t (a .is) count (a .count-is)
+
+  pub rows-in : columns * (count + 1) ≤ length (x .rows)
+  rows-in = rows-room marks s D M x t (a .is) count (a .count-is)
+
+  lines-are : lines ≡ count + size b
+  lines-are = omega (arith, a .lines-is, last-line D M t (fine marks s D M x t (a .is) count (a .count-is)), a .count-is)
+
+  -- each line of the text has a mark
+  text-in : length s ≤ 23 * length (x .marks)
+  text-in =
+      let r = rooms marks s D M x t (a .is) count (a .count-is) .2 in
+      let w = accepted-is s D M (enough marks s D M x) t (a .is) .1 .whole-lines in
+      omega arith
+
+  pub marks-in : count ≤ length (x .marks)
+  marks-in = omega (arith, text-in, lines-in s b count (stands marks s D M x t (a .is) count (a .count-is)))
+
+  -- the first reading, on a cleared scratch and cleared rows
+  pub body-asks : (t₁ m₁ r₁ : List ℕ) → t₁ ≡ replicate (length (x .scratch)) 0 → length m₁ ≡ length (x .marks) → r₁ ≡ rows₀ → ((i : ℕ) → getD (x .rows) i 0 < 2 ^ 64) → BodyAsks s count 0 (D - 1) t₁ m₁ r₁
+  body-asks t₁ m₁ r₁ et em er fits =
+      subst (λ (y : List ℕ). BodyAsks s count 0 (D - 1) t₁ m₁ y) (sym er)
+      (record {
+        sites = sites t;
+        ready = ready marks s D M x t (a .is) count (a .count-is) fits;
+        lines = omega (arith, text-in, em);
+        zero = λ j. ap (λ (y : List ℕ). getD y j 0) et ∙ zeros-at (length (x .scratch)) j;
+        room = omega (arith, rooms marks s D M x t (a .is) count (a .count-is) .0, bounds .0, ap length et, length-replicate {A = ℕ} (length (x .scratch)) 0);
+        n = count;
+        k = nothing;
+        weighs = refl;
+        shows = shows-begun count 0 m₁;
+      })
+
+  -- It left the numbers c, the marks m₂ and the rows rows₁; m₁ are the marks with those of the sites cleared.
+  module _ (m₁ : List ℕ) (sites-off : Wiped 0 count (x .marks) m₁) (r₁ : List ℕ) (er : r₁ ≡ rows₀) (c : Open) (m₂ rows₁ : List ℕ) (lm : length m₂ ≡ length (x .marks)) (lr : length rows₁ ≡ length (x .rows))
+      (leaves : BodyLeaves s count 0 m₁ r₁ c m₂ rows₁) where
+    left : BodyLeft count 0 b m₁ rows₀ c m₂ rows₁
+    left = subst (λ (y : List ℕ). BodyLeft count 0 b m₁ y c m₂ rows₁) er (leaves b (stands marks s D M x t (a .is) count (a .count-is)))
+
+    at-is : c .at ≡ count + size b
+    at-is = ap (λ (y : Open). y .at) (left .done .numbers-are)
+
+    pub count-asks : (columns * 0 + 2 < length rows₁) × ((getD rows₁ (columns * 0) 0 + 1 < 2 ^ 64) × ((getD rows₁ (columns * 0 + 1) 0 + c .work < 2 ^ 64) × (getD rows₁ (columns * 0 + 2) 0 + c .prefix < 2 ^ 64)))
+    count-asks = count-fits marks s D M x t (a .is) count (a .count-is) c rows₁ lr (left .done)
+
+    -- the root was counted
+    module _ (rows₂ : List ℕ) (lr₂ : length rows₂ ≡ length (x .rows)) (counts : Grown rows₁ (counted 0 (c .work) (c .prefix)) rows₂) where
+      abbrev p : Parts D t
+      p = tree D M t (fine marks s D M x t (a .is) count (a .count-is))
+
+      heads : length (p .heads) ≡ count
+      heads = first-line D M t (fine marks s D M x t (a .is) count (a .count-is)) ∙ a .count-is
+
+      within : Within count D 1 b
+      within = subst (λ (k : ℕ). Within k D 1 b) heads (p .within)
+
+      pub on-asks : OnLent s count 0 (D - 1) m₂ rows₂
+      on-asks =
+          record {
+            sites = count;
+            body = b;
+            stands = stands marks s D M x t (a .is) count (a .count-is);
+            D = D;
+            d = 1;
+            within = within;
+            depth = omega (arith, bounds .0);
+            row-in = omega arith;
+            rows-long = omega (arith, lr₂, rows-in);
+            lines = omega (arith, text-in, lm);
+            ends = omega (arith, lines-are, a .lines-is, fine marks s D M x t (a .is) count (a .count-is) .lines-most);
+            fits = λ j l.
+                omega (
+                  arith,
+                  none-on marks s D M x t (a .is) count (a .count-is) c rows₁ lr (left .done) rows₂ counts j l,
+                  on-le m₂ (columns * j + 4) b count 0,
+                  work-small D t p M (fine marks s D M x t (a .is) count (a .count-is)),
+                );
+          }
+
+      -- the second reading
+      module _ (n : ℕ) (t₃ rows₃ : List ℕ) (zero : t₃ ≡ replicate (length (x .scratch)) 0) (lr₃ : length rows₃ ≡ length (x .rows)) (on : OnBodyLeaves s count 0 m₂ rows₂ n rows₃) where
+        abbrev answer : Answer
+        answer = Accepted (c .work) (c .prefix) count lines
+
+        grown : (i : ℕ) → i < length (x .rows) → getD rows₃ i 0 ≡ getD rows₂ i 0 + onGain m₂ count 0 b i
+        grown i l = on b (stands marks s D M x t (a .is) count (a .count-is)) .1 i (omega (arith, lr₂))
+
+        shown : (i : ℕ) → count ≤ i → i < count + size b → getD m₂ i 0 ≡ cond (has i (linesIn (chainOf count 0 b))) 1 0
+        shown i l r = left .zone .marks-are i l (omega (arith, at-is))
+
+        on-is : (k : ℕ) → onGain m₂ count 0 b (columns * k + 4) ≡ onRow k (chainOf count 0 b)
+        on-is k =
+            subst (λ (h : ℕ). ((i : ℕ) → h ≤ i → i < h + size b → getD m₂ i 0 ≡ cond (has i (linesIn (chainOf h 0 b))) 1 0) → onGain m₂ h 0 b (columns * k + 4) ≡ onRow k (chainOf h 0 b)) heads (on-row D t p m₂ k) shown
+
+        cells-are : (k j : ℕ) → k ≤ count → j < columns → getD rows₃ (columns * k + j) 0 ≡ cell count b k j
+        cells-are k j h l = go (decLt j 4)
+          where
+            go : Dec (j < 4) → getD rows₃ (columns * k + j) 0 ≡ cell count b k j
+            go (yes q) = omega (arith, grown (columns * k + j) (omega (arith, rows-in)), on-cross m₂ j k q b count 0, cells marks s D M x t (a .is) count (a .count-is) c rows₁ lr (left .done) rows₂ counts k j h q)
+            go (no q) =
+                let e : j ≡ 4 = omega arith in
+                rw e (omega (arith, grown (columns * k + 4) (omega (arith, rows-in)), none-on marks s D M x t (a .is) count (a .count-is) c rows₁ lr (left .done) rows₂ counts k h, on-is k))
+
+        rest-is : (i : ℕ) → columns * (count + 1) ≤ i → getD rows₃ i 0 ≡ getD (x .rows) i 0
+        rest-is i h = go (decLt i (length (x .rows)))
+          where
+            go : Dec (i < length (x .rows)) → getD rows₃ i 0 ≡ getD (x .rows) i 0
+            go (yes q) = omega (arith, grown i q, on-out m₂ count D 1 i b count 0 within (omega arith) h, rest marks s D M x t (a .is) count (a .count-is) c rows₁ lr (left .done) rows₂ counts i h q)
+            go (no q) = List·getD-eq-default rows₃ 0 {n = i} (omega arith) ∙ sym (List·getD-eq-default (x .rows) 0 {n = i} (omega arith))
+
+        marks-are : (k : ℕ) → k < count + size b → getD m₂ k 0 ≡ cond (has k (linesIn (chainOf count 0 b))) 1 0
+        marks-are k l = go (decLt k count)
+          where
+            go : Dec (k < count) → getD m₂ k 0 ≡ cond (has k (linesIn (chainOf count 0 b))) 1 0
+            go (yes q) =
+                left .kept k (λ v w. omega arith)
+                ∙ sites-off .gone k (omega arith) q
+                ∙ ap (λ (y : Bool). cond y 1 0) (sym (outside k count (c .at) (chainOf count 0 b) (left .zone .inside) (λ v w. omega arith)))
+            go (no q) = shown k (omega arith) l
+
+        by-tree : ProfileBy marks count b x answer (lent t₃ m₂ rows₃)
+        by-tree =
+            record {
+              answer = ap (λ (y : ℕ). Accepted y (c .prefix) count lines) (work-is marks s D M x t (a .is) count (a .count-is) c rows₁ lr (left .done)) ∙ ap (λ (y : ℕ). Accepted (workOf b) y count lines) (span-is marks s D M x t (a .is) count (a .count-is) c rows₁ lr (left .done)) ∙ ap (Accepted (workOf b) (spanOf b) count) lines-are;
+              rows = record { same-length = lr₃; cells = cells-are; rest = rest-is };
+              scratch = zero;
+              marked = record { same-length = lm; marks-are = marks-are; rest = λ k l. left .kept k (λ v w. omega (arith, at-is)) ∙ sites-off .rest k (λ v w. omega arith) };
+            }
+
+        pub promised : Promise marks s D M x answer (lent t₃ m₂ rows₃)
+        promised =
+            let h = tree-profile D t p marks x answer (lent t₃ m₂ rows₃) (subst (λ (m : ℕ). ProfileBy marks m b x answer (lent t₃ m₂ rows₃)) (sym heads) by-tree) in
+            record {
+              when-accepted = λ u e. subst (λ (y : List Frame). Profile marks y x answer (lent t₃ m₂ rows₃)) (accepted-same t u (sym (a .is) ∙ e)) h;
+              when-refused = λ k n e. clash (let z = sym (a .is) ∙ e in cc);
+            }
+
+-- what the answer of acceptance says
+module _ (s : List ℕ) (D M : ℕ) (x : Lent) where
+  pub admitted : (count lines : ℕ) → Verdict.Accepted count lines ≡ admission marks s D M (length (x .scratch)) (length (x .rows)) (length (x .marks)) → Admitted s D M x count lines
+  admitted count lines e =
+      let h = accepted-only (verdict s D M (enough marks s D M x)) count lines e in
+      record { frames = h .0; is = h .1; count-is = h .2; lines-is = h .3 }
+
+  pub refuses : (number line : ℕ) → Verdict.Refused number line ≡ admission marks s D M (length (x .scratch)) (length (x .rows)) (length (x .marks)) → Promise marks s D M x (Refused number line) x
+  refuses number line e =
+      let v = verdict s D M (enough marks s D M x) in
+      let h : v ≡ refused number line = refused-only v number line e in
+      record { when-accepted = λ t q. clash (let z = sym h ∙ q in cc); when-refused = λ n k q. (let z = sym h ∙ q in (cc), refl) }

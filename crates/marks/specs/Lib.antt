@@ -1,0 +1,6 @@
+pub mod Shown
+pub mod Steps
+pub mod Park
+pub mod Reader
+pub mod Column
+pub mod Root

@@ -1,0 +1,61 @@
+-- What the two readers of the marks engine ask for and leave: t is the scratch from their invocation's part on, and m the marks.
+use Prim.Native.Nat.{ℕ, _+_, _*_, _≤_}
+use mathlib.Core.Path.{_≡_}
+use mathlib.Core.List.{List}
+use lib.ListN.{length}
+use Rattle.trace.specs.Tree.{Body, linesOf}
+use Rattle.trace.specs.Fold.{Chains, nothing, run}
+use Rattle.walk.specs.declared.Open.{Open}
+use Rattle.walk.specs.Stands.{Stands}
+use Rattle.walk.specs.Numbers.{numbers}
+use Rattle.walk.specs.Item.{More, itemChains}
+use Rattle.walk.specs.Reader.{Ready, ItemDone, BodyDone}
+use Rattle.marks.specs.declared.Zones.{Zones}
+use Rattle.marks.specs.Shown.{allPrefix, Zone, Shows, Kept}
+use Rattle.marks.specs.Park.{Zero}
+
+-- The marks show the chains that the invocation's numbers weigh, and each line of the text has one; the scratch is zero, and has room for deep invocations more.
+pub record Lent (s : List ℕ) (deep : ℕ) (z : Zones) (t m rows : List ℕ) : Type 0 where
+  pub sites : ℕ
+  pub ready : Ready s (z .row) sites deep (z .own) rows
+  pub lines : length s ≤ 23 * length m
+  pub zero : Zero t
+  pub room : 8 + deep * 8 ≤ length t
+  pub n : ℕ
+  pub k : Chains
+  pub weighs : z .own ≡ numbers (z .own .at) (z .own .work) k
+  pub shows : Shows n m z k
+
+-- the item reader: there is an item
+pub record ItemAsks (s : List ℕ) (deep : ℕ) (z : Zones) (t m rows : List ℕ) : Type 0 where
+  pub lent : Lent s deep z t m rows
+  pub more : More (lent .ready .body)
+
+-- behind the first item of b, of an invocation that began at line n and has come to the chains k
+pub record ItemLeft (n : ℕ) (b : Body) (k : Chains) (z : Zones) (m rows : List ℕ) (r : Zones) (m′ rows′ : List ℕ) : Type 0 where
+  pub done : ItemDone (z .row) (z .own) rows b k (r .own) rows′
+  pub same-row : r .row ≡ z .row
+  pub shows : Shows n m′ r (itemChains (z .own .at) (z .row) b k)
+  pub kept : Kept n (r .own .at) m m′
+
+-- whatever body stands here, wherever its invocation began and whatever chains it has come to
+abbrev pub ItemLeaves : (s : List ℕ) (z : Zones) (m rows : List ℕ) (r : Zones) (m′ rows′ : List ℕ) → Type 0
+ItemLeaves s z m rows r m′ rows′ = (b : Body) (n : ℕ) (k : Chains) → More b → Stands s (z .own .at) (linesOf b) → z .own ≡ numbers (z .own .at) (z .own .work) k → Shows n m z k
+    → ItemLeft n b k z m rows r m′ rows′
+
+-- an invocation of a row whose body begins at a line
+abbrev pub begun : ℕ → ℕ → Zones
+begun from row = allPrefix (numbers from 0 nothing) row
+
+-- the body reader
+abbrev pub BodyAsks : (s : List ℕ) (from row deep : ℕ) (t m rows : List ℕ) → Type 0
+BodyAsks s from row deep t m rows = Lent s deep (begun from row) t m rows
+
+-- behind the whole body b: its zone shows its chain
+pub record BodyLeft (from row : ℕ) (b : Body) (m rows : List ℕ) (r : Open) (m′ rows′ : List ℕ) : Type 0 where
+  pub done : BodyDone from row rows b r rows′
+  pub zone : Zone m′ from (r .at) (run from row nothing b)
+  pub kept : Kept from (r .at) m m′
+
+abbrev pub BodyLeaves : (s : List ℕ) (from row : ℕ) (m rows : List ℕ) (r : Open) (m′ rows′ : List ℕ) → Type 0
+BodyLeaves s from row m rows r m′ rows′ = (b : Body) → Stands s from (linesOf b) → BodyLeft from row b m rows r m′ rows′

@@ -1,0 +1,344 @@
+// The marks engine. A mark is a byte a line. The lines of an open invocation are three zones: the prefix's, the longest child's and the continuation's. The
+// marks of each zone show its chain, and where a zone loses, its marks are cleared. A second reading takes column 5 from the marks.
+ghost use mathlib.Core.Path.{_≡_};
+ghost use Prim.Native.Nat.{_+_, _*_, _^_, _≤_, _<_};
+ghost use lib.ListN.{length, getD, replicate};
+ghost use Rattle.trace.specs.Rows.{columns};
+ghost use Rattle.trace.specs.Promise.{Engine, Promise};
+ghost use Rattle.walk.specs.Gain.{one, Grown};
+ghost use Rattle.marks.specs.Shown.{allPrefix, Wiped};
+ghost use Rattle.marks.specs.Steps.{Fits, Spent, Joined, Called, Spawned};
+ghost use Rattle.marks.specs.Park.{park, parked, blank};
+ghost use Rattle.marks.specs.Reader.{ItemAsks, ItemLeaves, BodyAsks, BodyLeaves};
+ghost use Rattle.marks.specs.Column.{marked, OnLent, OnItemAsks, OnItemLeaves, OnBodyLeaves};
+ghost use Rattle.marks.specs.Root.{lent, Admitted};
+
+// An open invocation: its numbers, its row, and the lines at which the zones of its longest child and of its continuation begin.
+pub struct Zones {
+    pub own: walk::Open,
+    pub row: usize,
+    pub child: usize,
+    pub after: usize,
+}
+
+impl Zones {
+    // An invocation all of whose lines so far are the prefix's zone.
+    fn prefix(own: walk::Open, row: usize) -> Zones
+        ensures { λ r. ⌜ r ≡ allPrefix own row ⌝ }
+    {
+        Zones {
+            own,
+            row,
+            child: own.at,
+            after: own.at,
+        }
+    }
+}
+
+// Clears marks.
+fn wipe(a: &mut [u8])
+    ensures { λ _. ⌜ now (a .exit) ≡ replicate (length (now (a .entry))) 0 ⌝ }
+{
+    let mut i = 0;
+    while i < a.len() {
+        a[i] = 0;
+        i += 1;
+    }
+}
+
+// Clears the marks of the lines from a on and before e.
+fn wipe_lines(marks: &mut [u8], a: usize, e: usize)
+    requires { ⌜ (a ≤ e) × (e ≤ length (now marks)) ⌝ }
+    ensures { λ _. ⌜ Wiped a e (now (marks .entry)) (now (marks .exit)) ⌝ }
+{
+    wipe(&mut marks[a..e]);
+}
+
+// A cost of v: its line is marked.
+fn spend(marks: &mut [u8], z: Zones, v: u64) -> Zones
+    requires { ⌜ Fits (now marks) z v ⌝ }
+    requires { ⌜ z .own .work + v < 2 ^ 64 ⌝ }
+    ensures { λ r. ⌜ Spent v (now (marks .entry)) z r (now (marks .exit)) ⌝ }
+{
+    let own = z.own;
+    let at = own.at;
+    marks[at] = 1;
+    Zones {
+        own: own.spent(v),
+        row: z.row,
+        child: z.child,
+        after: z.after,
+    }
+}
+
+// A sync, or the join at a return: the longest child's zone is cleared where the continuation is heavier, else the continuation's, and all is the prefix's zone.
+fn join(marks: &mut [u8], z: Zones) -> Zones
+    requires { ⌜ Fits (now marks) z 0 ⌝ }
+    ensures { λ r. ⌜ Joined (now (marks .entry)) z r (now (marks .exit)) ⌝ }
+{
+    let own = z.own;
+    let at = own.at;
+    let child = z.child;
+    let after = z.after;
+    marks[at] = 0;
+    if own.longest < own.since {
+        wipe_lines(marks, child, after);
+        return Zones::prefix(own.joined(), z.row);
+    }
+    wipe_lines(marks, after, at);
+    Zones::prefix(own.joined(), z.row)
+}
+
+// A called child has returned: its zone is the continuation's.
+fn called(marks: &mut [u8], z: Zones, c: walk::Open) -> Zones
+    requires { ⌜ Fits (now marks) z (c .prefix) ⌝ }
+    requires { ⌜ z .own .work + c .work < 2 ^ 64 ⌝ }
+    ensures { λ r. ⌜ Called (now (marks .entry)) z c r (now (marks .exit)) ⌝ }
+{
+    let own = z.own;
+    let at = own.at;
+    marks[at] = 0;
+    Zones {
+        own: own.called(c),
+        row: z.row,
+        child: z.child,
+        after: z.after,
+    }
+}
+
+// A spawned child has returned: where it is longer, it is the longest from now on and the one before it is cleared; else it is cleared itself.
+fn spawned(marks: &mut [u8], z: Zones, c: walk::Open) -> Zones
+    requires { ⌜ Fits (now marks) z (c .prefix) ⌝ }
+    requires { ⌜ (z .own .work + c .work < 2 ^ 64) × ((z .own .at < c .at) × (c .at ≤ length (now marks))) ⌝ }
+    ensures { λ r. ⌜ Spawned (now (marks .entry)) z c r (now (marks .exit)) ⌝ }
+{
+    let own = z.own;
+    let at = own.at;
+    let to = c.at;
+    let child = z.child;
+    let after = z.after;
+    if own.longest < own.since + c.prefix {
+        marks[at] = 0;
+        wipe_lines(marks, child, after);
+        return Zones {
+            own: own.spawned(c),
+            row: z.row,
+            child: at,
+            after: to,
+        };
+    }
+    wipe_lines(marks, at, to);
+    Zones {
+        own: own.spawned(c),
+        row: z.row,
+        child,
+        after,
+    }
+}
+
+// Stores an invocation in its own eight numbers of the scratch, for as long as a child is open.
+fn store(t: &mut [u64], z: Zones)
+    requires { ⌜ 8 ≤ length (now t) ⌝ }
+    ensures { λ _. ⌜ now (t .exit) ≡ park z (now (t .entry)) ⌝ }
+{
+    let own = z.own;
+    t[0] = own.at as u64;
+    t[1] = own.work;
+    t[2] = own.prefix;
+    t[3] = own.longest;
+    t[4] = own.since;
+    t[5] = z.row as u64;
+    t[6] = z.child as u64;
+    t[7] = z.after as u64;
+}
+
+// Loads it again, and clears the numbers.
+fn load(t: &mut [u64]) -> Zones
+    requires { ⌜ 8 ≤ length (now t) ⌝ }
+    ensures { λ r. ⌜ r ≡ parked (now (t .entry)) ⌝ }
+    ensures { λ _. ⌜ now (t .exit) ≡ park blank (now (t .entry)) ⌝ }
+{
+    let own = walk::Open {
+        at: t[0] as usize,
+        work: t[1],
+        prefix: t[2],
+        longest: t[3],
+        since: t[4],
+    };
+    let z = Zones {
+        own,
+        row: t[5] as usize,
+        child: t[6] as usize,
+        after: t[7] as usize,
+    };
+    t[0] = 0;
+    t[1] = 0;
+    t[2] = 0;
+    t[3] = 0;
+    t[4] = 0;
+    t[5] = 0;
+    t[6] = 0;
+    t[7] = 0;
+    z
+}
+
+// Reads the items of an invocation of a row from its first line up to and with its return. At most deep more invocations open inside one another.
+fn body(
+    trace: &[u8],
+    from: usize,
+    row: usize,
+    deep: usize,
+    t: &mut [u64],
+    marks: &mut [u8],
+    rows: &mut [u64],
+) -> walk::Open
+    requires { ⌜ BodyAsks (now trace) from row deep (now t) (now marks) (now rows) ⌝ }
+    ensures { λ r. ⌜ BodyLeaves (now (trace .entry)) from row (now (marks .entry)) (now (rows .entry)) r (now (marks .exit)) (now (rows .exit)) ⌝ }
+    ensures { λ _. ⌜ now (t .exit) ≡ now (t .entry) ⌝ }
+{
+    let mut z = Zones::prefix(walk::Open::new(from), row);
+    let mut at = from;
+    while line::kind_at(trace, at) != 5 {
+        z = item(trace, z, deep, t, marks, rows);
+        at = z.own.at;
+    }
+    let end = join(marks, z);
+    end.own
+}
+
+// Reads one item, with the whole body of a call or a spawn.
+fn item(
+    trace: &[u8],
+    z: Zones,
+    deep: usize,
+    t: &mut [u64],
+    marks: &mut [u8],
+    rows: &mut [u64],
+) -> Zones
+    requires { ⌜ ItemAsks (now trace) deep z (now t) (now marks) (now rows) ⌝ }
+    ensures { λ r. ⌜ ItemLeaves (now (trace .entry)) z (now (marks .entry)) (now (rows .entry)) r (now (marks .exit)) (now (rows .exit)) ⌝ }
+    ensures { λ _. ⌜ now (t .exit) ≡ now (t .entry) ⌝ }
+{
+    let at = z.own.at;
+    let kind = line::kind_at(trace, at);
+    if kind == 6 {
+        let v = line::value_at(trace, at) as u64;
+        walk::spend(rows, z.row, v);
+        return spend(marks, z, v);
+    }
+    if kind == 4 {
+        return join(marks, z);
+    }
+    let site = line::site_at(trace, at) as usize;
+    store(t, z);
+    let c = body(trace, at + 1, site, deep - 1, &mut t[8..], marks, rows);
+    let back = load(t);
+    walk::count(rows, site, c.work, c.prefix);
+    if kind == 2 {
+        return called(marks, back, c);
+    }
+    spawned(marks, back, c)
+}
+
+// Column 5 of a row: a cost of v whose line has this mark.
+fn add_marked(rows: &mut [u64], row: usize, v: u64, mark: u8)
+    requires { ⌜ (columns * row + 4 < length (now rows)) × (getD (now rows) (columns * row + 4) 0 + marked mark v < 2 ^ 64) ⌝ }
+    ensures { λ _. ⌜ Grown (now (rows .entry)) (one (columns * row + 4) (marked mark v)) (now (rows .exit)) ⌝ }
+{
+    if mark == 1 {
+        walk::add(rows, walk::COLUMNS * row + 4, v);
+    }
+}
+
+// Reads the items of an invocation of a row once more, from its first line up to and with its return, and answers the line behind it: each marked cost
+// is added to column 5 of the row that it stands in.
+fn on_body(
+    trace: &[u8],
+    from: usize,
+    row: usize,
+    deep: usize,
+    marks: &[u8],
+    rows: &mut [u64],
+) -> usize
+    requires { ⌜ OnLent (now trace) from row deep (now marks) (now rows) ⌝ }
+    ensures { λ r. ⌜ OnBodyLeaves (now (trace .entry)) from row (now (marks .entry)) (now (rows .entry)) r (now (rows .exit)) ⌝ }
+{
+    let mut at = from;
+    while line::kind_at(trace, at) != 5 {
+        at = on_item(trace, at, row, deep, marks, rows);
+    }
+    at + 1
+}
+
+// Reads one item once more, with the whole body of a call or a spawn.
+fn on_item(
+    trace: &[u8],
+    at: usize,
+    row: usize,
+    deep: usize,
+    marks: &[u8],
+    rows: &mut [u64],
+) -> usize
+    requires { ⌜ OnItemAsks (now trace) at row deep (now marks) (now rows) ⌝ }
+    ensures { λ r. ⌜ OnItemLeaves (now (trace .entry)) at row (now (marks .entry)) (now (rows .entry)) r (now (rows .exit)) ⌝ }
+{
+    let kind = line::kind_at(trace, at);
+    if kind == 6 {
+        add_marked(rows, row, line::value_at(trace, at) as u64, marks[at]);
+        return at + 1;
+    }
+    if kind == 4 {
+        return at + 1;
+    }
+    let site = line::site_at(trace, at) as usize;
+    on_body(trace, at + 1, site, deep - 1, marks, rows)
+}
+
+// An accepted trace of count sites and lines lines: the room is cleared, and the root is read twice, once for all and once for column 5.
+fn accepted(
+    text: &[u8],
+    depth: usize,
+    sites: usize,
+    count: usize,
+    lines: usize,
+    scratch: &mut [u64],
+    marks: &mut [u8],
+    rows: &mut [u64],
+) -> trace::Answer
+    requires { ⌜ Admitted (now text) depth sites (lent (now scratch) (now marks) (now rows)) count lines ⌝ }
+    ensures { λ r. ⌜ Promise Engine.marks (now (text .entry)) depth sites (lent (now (scratch .entry)) (now (marks .entry)) (now (rows .entry))) r (lent (now (scratch .exit)) (now (marks .exit)) (now (rows .exit))) ⌝ }
+{
+    walk::zero(scratch, scratch.len());
+    walk::zero(rows, walk::COLUMNS * (count + 1));
+    wipe_lines(marks, 0, count);
+    let f = body(text, count, 0, depth - 1, scratch, marks, rows);
+    walk::count(rows, 0, f.work, f.prefix);
+    on_body(text, count, 0, depth - 1, marks, rows);
+    trace::Answer::Accepted(f.work, f.prefix, count, lines)
+}
+
+// The marks engine: any text, any limits and any room.
+pub fn profile(
+    text: &[u8],
+    depth: usize,
+    sites: usize,
+    scratch: &mut [u64],
+    marks: &mut [u8],
+    rows: &mut [u64],
+) -> trace::Answer
+    ensures { λ r. ⌜ Promise Engine.marks (now (text .entry)) depth sites (lent (now (scratch .entry)) (now (marks .entry)) (now (rows .entry))) r (lent (now (scratch .exit)) (now (marks .exit)) (now (rows .exit))) ⌝ }
+{
+    match admit::for_marks(text, depth, sites, scratch.len(), rows.len(), marks.len()) {
+        admit::Verdict::Accepted(count, lines) => accepted(
+            text,
+            depth,
+            sites,
+            count,
+            lines,
+            scratch,
+            marks,
+            rows,
+        ),
+        admit::Verdict::Refused(number, line) => trace::Answer::Refused(number, line),
+    }
+}

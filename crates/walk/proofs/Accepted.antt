@@ -1,0 +1,111 @@
+-- The root of an accepted trace, whichever engine reads it: its limits and room, the cleared rows, and what its reading comes to in them.
+use mathlib.Core.Path.{_≡_, refl, ap, _∙_, sym, subst}
+use mathlib.Core.Bool.{Bool, true, _&&_}
+use mathlib.Core.List.{List, _++_}
+use Prim.Native.Nat.{ℕ, _+_, _*_, _-_, _^_, _≤_, _<_}
+use native.Mathlib.Decide.{decLt}
+use native.Mathlib.Omega.{arith}
+use lib.Dec.{leb}
+use lib.ListN.{length, getD, drop, replicate}
+use borrow.Author.Tests.{leb-true}
+use Rattle.line.specs.declared.Frame.{Frame}
+use Rattle.trace.specs.Shape.{sites}
+use Rattle.trace.specs.Rows.{columns}
+use Rattle.trace.specs.Refusals.{lineCount, accepted, verdict}
+use Rattle.trace.specs.Promise.{Engine, Lent, enough, scratchRoom, rowsRoom, marksRoom}
+use Rattle.trace.specs.Tree.{Body, linesOf, Parts, workOf, spanOf}
+use Rattle.trace.specs.Fold.{nothing}
+use Rattle.trace.specs.ByTree.{cell}
+use Rattle.trace.proofs.Basics.{both}
+use Rattle.trace.proofs.Scan.{Fine, accepted-is, accepted-fine}
+use Rattle.trace.proofs.Accept.{sites-le-M}
+use Rattle.trace.proofs.Recurrence.{weight-chain}
+use Rattle.walk.specs.declared.Open.{Open}
+use Rattle.walk.specs.Stands.{Stands}
+use Rattle.walk.specs.Numbers.{numbers}
+use Rattle.walk.specs.Gain.{counted, made, gain, Grown}
+use Rattle.walk.specs.Reader.{Ready, BodyDone}
+use Rattle.walk.proofs.Columns.{whole, whole-on}
+use Rattle.walk.proofs.Root.{tree, first-line, whole-small, root-stands, root-ready, cells-are, behind}
+use Rattle.walk.proofs.Zeros.{cleared-length, cleared-front, cleared-back}
+
+module _ (e : Engine) (s : List ℕ) (D M : ℕ) (x : Lent) (t : List Frame) (is : verdict s D M (enough e s D M x) ≡ accepted t) (count : ℕ) (count-is : sites t ≡ count) where
+  pub fine : Fine D M t
+  fine = accepted-fine s D M (enough e s D M x) t is
+
+  pub limits : (1 ≤ D) × (D ≤ 64) × (M ≤ 255) × (count ≤ M)
+  limits = (fine .least, fine .most, fine .sites-most, omega (arith, sites-le-M D M t fine))
+
+  -- no lent slice is too short
+  pub rooms : (scratchRoom e D M ≤ length (x .scratch)) × (rowsRoom M ≤ length (x .rows)) × (marksRoom e s ≤ length (x .marks))
+  rooms =
+      let h = accepted-is s D M (enough e s D M x) t is .0 in
+      let a = both (leb (scratchRoom e D M) (length (x .scratch)) && leb (rowsRoom M) (length (x .rows))) (leb (marksRoom e s) (length (x .marks))) h in
+      let b = both (leb (scratchRoom e D M) (length (x .scratch))) (leb (rowsRoom M) (length (x .rows))) (a .0) in
+      (leb-true (scratchRoom e D M) (length (x .scratch)) (b .0), leb-true (rowsRoom M) (length (x .rows)) (b .1), leb-true (marksRoom e s) (length (x .marks)) (a .1))
+
+  pub rows-room : columns * (count + 1) ≤ length (x .rows)
+  rows-room = omega (arith, rooms .1, limits .3)
+
+  -- the rows with their numbers cleared
+  abbrev pub cleared : List ℕ
+  cleared = replicate (columns * (count + 1)) 0 ++ drop (columns * (count + 1)) (x .rows)
+
+  pub cleared-long : length cleared ≡ length (x .rows)
+  cleared-long = cleared-length (x .rows) (columns * (count + 1)) rows-room
+
+  zeros : (i : ℕ) → i < columns * (sites t + 1) → getD cleared i 0 ≡ 0
+  zeros i l = cleared-front (x .rows) (columns * (count + 1)) rows-room i (omega (arith, count-is))
+
+  abbrev pub body : Body
+  body = tree D M t fine .body
+
+  pub stands : Stands s count (linesOf body)
+  stands = subst (λ (k : ℕ). Stands s k (linesOf body)) count-is (root-stands D M t fine s (enough e s D M x) is)
+
+  pub ready : ((i : ℕ) → getD (x .rows) i 0 < 2 ^ 64) → Ready s 0 (sites t) (D - 1) (numbers count 0 nothing) cleared
+  ready fits =
+      subst (λ (k : ℕ). Ready s 0 (sites t) (D - 1) (numbers k 0 nothing) cleared) count-is
+      (root-ready D M t fine s (enough e s D M x) is cleared (omega (arith, cleared-long, rows-room, count-is)) zeros (λ i. small i (decLt i (columns * (count + 1)))))
+    where
+      small : (i : ℕ) → Dec (i < columns * (count + 1)) → getD cleared i 0 < 2 ^ 64
+      small i (yes l) = omega (arith, zeros i (omega (arith, count-is)))
+      small i (no l) = omega (arith, cleared-back (x .rows) (columns * (count + 1)) rows-room i (omega arith), fits i)
+
+  -- the root's body was read: its numbers are c
+  module _ (c : Open) (rows₁ : List ℕ) (same : length rows₁ ≡ length (x .rows)) (done : BodyDone count 0 cleared body c rows₁) where
+    pub work-is : c .work ≡ workOf body
+    work-is = ap (λ (y : Open). y .work) (done .numbers-are)
+
+    pub span-is : c .prefix ≡ spanOf body
+    span-is = ap (λ (y : Open). y .prefix) (done .numbers-are) ∙ weight-chain body count 0
+
+    pub count-fits : (columns * 0 + 2 < length rows₁) × ((getD rows₁ (columns * 0) 0 + 1 < 2 ^ 64) × ((getD rows₁ (columns * 0 + 1) 0 + c .work < 2 ^ 64) × (getD rows₁ (columns * 0 + 2) 0 + c .prefix < 2 ^ 64)))
+    count-fits = (omega (arith, same, rows-room), (at 0 1 (omega arith) (omega arith), (at 1 (c .work) (omega arith) (omega (arith, work-is)), at 2 (c .prefix) (omega arith) (omega (arith, span-is)))))
+      where
+        at : (i v : ℕ) → i < 3 → v ≤ made 0 body i → getD rows₁ i 0 + v < 2 ^ 64
+        at i v l h = omega (arith, done .rows-are i (omega (arith, cleared-long, rows-room)), zeros i (omega arith), whole-small D M t fine i)
+
+    -- and the root was counted
+    module _ (rows₂ : List ℕ) (counts : Grown rows₁ (counted 0 (c .work) (c .prefix)) rows₂) where
+      itself : Grown rows₁ (made 0 body) rows₂
+      itself i l = counts i l ∙ ap (λ (y : ℕ). getD rows₁ i 0 + counted 0 y (c .prefix) i) work-is ∙ ap (λ (y : ℕ). getD rows₁ i 0 + counted 0 (workOf body) y i) span-is
+
+      long : columns * (sites t + 1) ≤ length cleared
+      long = omega (arith, cleared-long, rows-room, count-is)
+
+      pub cells : (k j : ℕ) → k ≤ count → j < 4 → getD rows₂ (columns * k + j) 0 ≡ cell count body k j
+      cells k j h l =
+          cells-are D M t fine cleared rows₁ rows₂ long (omega (arith, same, cleared-long)) zeros (done .rows-are) itself k j (omega (arith, count-is)) l
+          ∙ ap (λ (m : ℕ). cell m body k j) count-is
+
+      -- column 5 is still zero
+      pub none-on : (k : ℕ) → k ≤ count → getD rows₂ (columns * k + 4) 0 ≡ 0
+      none-on k h =
+          let w = tree D M t fine .within in
+          omega (arith, itself (columns * k + 4) (omega (arith, same, rows-room)), done .rows-are (columns * k + 4) (omega (arith, cleared-long, rows-room)), zeros (columns * k + 4) (omega (arith, count-is)), whole-on (length (tree D M t fine .heads)) D 1 body w k)
+
+      pub rest : (i : ℕ) → columns * (count + 1) ≤ i → i < length (x .rows) → getD rows₂ i 0 ≡ getD (x .rows) i 0
+      rest i h l =
+          behind D M t fine cleared rows₁ rows₂ long (omega (arith, same, cleared-long)) zeros (done .rows-are) itself i (omega (arith, count-is)) (omega (arith, cleared-long))
+          ∙ cleared-back (x .rows) (columns * (count + 1)) rows-room i h
