@@ -7,7 +7,6 @@ use native.Mathlib.Omega.{arith}
 use lib.ListN.{length}
 use Rattle.line.specs.declared.Frame.{Frame}
 use Rattle.chain.specs.Plan.{choose}
-use Rattle.trace.specs.Shape.{sites}
 use Rattle.trace.specs.Series.{Chosen}
 use Rattle.trace.specs.Rows.{Spans}
 use Rattle.trace.specs.Refusals.{accepted, verdict}
@@ -20,7 +19,7 @@ use Rattle.trace.proofs.Root.{root-chosen}
 use Rattle.trace.proofs.Columns.{spans-tree}
 use Rattle.trace.proofs.Twelve.{heads}
 use Rattle.report.specs.Rows.{lineOf}
-use Rattle.program.specs.Print.{ruling, Reported, Prints}
+use Rattle.program.specs.Print.{ruling, Prints}
 use Rattle.program.specs.CaseI.{input, output, Claim}
 use Rattle.program.proofs.Determined.{prints-unique}
 
