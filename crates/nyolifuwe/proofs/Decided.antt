@@ -18,7 +18,8 @@ use Rattle.line.specs.Write.{chars, narrow, isFrame, writable, writeChars}
 use Rattle.line.proofs.Cases.{Case, long, wrongs, unlisted, listed, line-case}
 use Rattle.line.proofs.RoundTrip.{written, table-fields}
 use Rattle.report.specs.Room.{Decision, write, refuse, answer, leave, Writes}
-use Rattle.report.specs.Rows.{columns, width}
+use Rattle.trace.specs.Rows.{columns}
+use Rattle.report.specs.Rows.{width}
 use Rattle.report.specs.Report.{text, report}
 use Rattle.report.specs.Refusal.{refusalText, printRefusal}
 use Rattle.nyolifuwe.specs.Code.{coded, code, Gives}
