@@ -60,3 +60,6 @@ module _ (number line room : ℕ) where
 
     pub print-fitting : line ≤ 4294967295 → {s : List ℕ} → s ≡ refusalText number line → printRefusal number line room ≡ fitting s room
     print-fitting fits′ e = simp (le-ltb _ _ fits, le-ltb _ _ fits′) (sym (ap (λ (s : List ℕ). fitting s room) e))
+
+    pub print-text : line ≤ 4294967295 → 13 ≤ room → printRefusal number line room ≡ write (refusalText number line)
+    print-text fits′ h = simp (le-ltb _ _ fits, le-ltb _ _ fits′, le-ltb _ _ h)
