@@ -14,11 +14,11 @@ ghost use Rattle.marks.specs.Column.{marked, OnLent, OnItemAsks, OnItemL
 ghost use Rattle.marks.specs.Root.{lent, Admitted};
 
 // An open invocation: its numbers, its row, and the lines at which the zones of its longest child and of its continuation begin.
-pub struct Zones {
-    pub own: walk::Open,
-    pub row: usize,
-    pub child: usize,
-    pub after: usize,
+struct Zones {
+    own: walk::Open,
+    row: usize,
+    child: usize,
+    after: usize,
 }
 
 impl Zones {
