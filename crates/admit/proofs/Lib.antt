@@ -3,3 +3,4 @@ pub mod Tallies
 pub mod Reach
 pub mod Entry
 pub mod Admitted
+pub mod Refused

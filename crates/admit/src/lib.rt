@@ -208,7 +208,7 @@ fn rows_room(sites: usize) -> usize
     requires { ⌜ sites ≤ 255 ⌝ }
     ensures { λ r. ⌜ r ≡ rowsRoom sites ⌝ }
 {
-    5 * (sites + 1)
+    trace::COLUMNS * (sites + 1)
 }
 
 // Acceptance for the table engine, lent `scratch` numbers of scratch and `rows` row numbers.

@@ -246,7 +246,7 @@ fn add_marked(rows: &mut [u64], row: usize, v: u64, mark: u8)
     ensures { λ _. ⌜ Grown (now (rows .entry)) (one (columns * row + 4) (marked mark v)) (now (rows .exit)) ⌝ }
 {
     if mark == 1 {
-        walk::add(rows, walk::COLUMNS * row + 4, v);
+        walk::add(rows, trace::COLUMNS * row + 4, v);
     }
 }
 
@@ -311,7 +311,7 @@ fn accepted(
     ensures { λ r. ⌜ Promise Engine.marks (now (text .entry)) depth sites (lent (now (scratch .entry)) (now (marks .entry)) (now (rows .entry))) r (lent (now (scratch .exit)) (now (marks .exit)) (now (rows .exit))) ⌝ }
 {
     walk::zero(scratch, scratch.len());
-    walk::zero(rows, walk::COLUMNS * (count + 1));
+    walk::zero(rows, trace::COLUMNS * (count + 1));
     wipe_lines(marks, 0, count);
     let f = body(text, count, 0, depth - 1, scratch, marks, rows);
     walk::count(rows, 0, f.work, f.prefix);

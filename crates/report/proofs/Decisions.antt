@@ -7,7 +7,8 @@ use lib.ListN.{length, drop}
 use Rattle.line.specs.declared.Wrote.{Wrote}
 use Rattle.line.specs.declared.Wrote.the-variants.{Chars, Refused}
 use Rattle.report.specs.Room.{Decision, write, refuse, answer, leave, Writes}
-use Rattle.report.specs.Rows.{columns, width}
+use Rattle.trace.specs.Rows.{columns}
+use Rattle.report.specs.Rows.{width}
 use Rattle.report.specs.Report.{text, report}
 use Rattle.report.specs.Refusal.{refusalText, printRefusal}
 

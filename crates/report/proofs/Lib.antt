@@ -1,6 +1,6 @@
 mod Parts
 mod Pieces
-mod Lines
+pub mod Lines
 mod Examples
 pub mod Decisions
 pub mod ReadBack

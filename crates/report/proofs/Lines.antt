@@ -11,7 +11,8 @@ use lib.ListN.{length, take, drop, getD, length-append, length-drop, List·getD-
 use lib.Seq.{length-take-le, take-suc, getD-at, take-append-le, drop-append-le}
 use Rattle.digits.specs.Digits.{digits}
 use Rattle.digits.proofs.Writing.{digits-length}
-use Rattle.report.specs.Rows.{columns, numbersOf, lineOf, rowLine, width}
+use Rattle.trace.specs.Rows.{columns}
+use Rattle.report.specs.Rows.{numbersOf, lineOf, rowLine, width}
 use Rattle.report.specs.Report.{first, linesOf}
 use Rattle.report.proofs.Pieces.{flatMap-last, Even, pieces-length, piece-at, next-piece}
 
@@ -60,6 +61,16 @@ lines-length rows n h = pieces-length (rowLine rows) width (first n) (lines-even
 pub line-at : (rows t : List ℕ) (n r : ℕ) → columns * n ≤ length rows → r < n → take width (drop (width * r) (linesOf rows (first n) ++ t)) ≡ rowLine rows r
 line-at rows t n r h l = piece-at (rowLine rows) width (first n) t r (lines-even rows n h) (rw first-length l) ∙ ap (rowLine rows) (first-at n r l)
 
+-- rows with equal numbers have equal lines
+pub lines-same : (rows others : List ℕ) (n : ℕ) → ((r : ℕ) → r < n → numbersOf rows r ≡ numbersOf others r) → linesOf rows (first n) ≡ linesOf others (first n)
+unfolding flatMap
+lines-same rows others zero h = refl
+lines-same rows others (suc n) h =
+    flatMap-last (rowLine rows) (first n) n
+    ∙ ap (λ (l : List ℕ). l ++ rowLine rows n) (lines-same rows others n (λ r l. h r (omega arith)))
+    ∙ ap (λ (l : List ℕ). linesOf others (first n) ++ lineOf n l) (h n (omega arith))
+    ∙ sym (flatMap-last (rowLine others) (first n) n)
+
 -- what stands behind the rows makes no difference
 row-front : (rows rest : List ℕ) (r : ℕ) → columns * (r + 1) ≤ length rows → numbersOf (rows ++ rest) r ≡ numbersOf rows r
 row-front rows rest r h =
@@ -67,13 +78,7 @@ row-front rows rest r h =
     ∙ take-append-le columns (drop (columns * r) rows) rest (simp length-drop (omega arith))
 
 pub lines-front : (rows rest : List ℕ) (n : ℕ) → columns * n ≤ length rows → linesOf (rows ++ rest) (first n) ≡ linesOf rows (first n)
-unfolding flatMap
-lines-front rows rest zero h = refl
-lines-front rows rest (suc n) h =
-    flatMap-last (rowLine (rows ++ rest)) (first n) n
-    ∙ ap (λ (l : List ℕ). l ++ rowLine (rows ++ rest) n) (lines-front rows rest n (omega arith))
-    ∙ ap (λ (l : List ℕ). linesOf rows (first n) ++ lineOf n l) (row-front rows rest n (omega arith))
-    ∙ sym (flatMap-last (rowLine rows) (first n) n)
+lines-front rows rest n h = lines-same (rows ++ rest) rows n (λ r l. row-front rows rest r (omega arith))
 
 -- a part that begins with the digits of the first k numbers, and then with those of the next one
 pub numbers-more : (numbers before part piece : List ℕ) (k : ℕ) → k < length numbers → length part ≡ 16 * length numbers

@@ -9,7 +9,8 @@ use lib.Seq.{take-at, drop-at, drop-drop, getD-take, getD-drop, ext-getD, length
 use Rattle.digits.specs.Digits.{digits, number}
 use Rattle.digits.proofs.Laws.{digits-number}
 use Rattle.digits.proofs.Writing.{digits-length}
-use Rattle.report.specs.Rows.{columns, numbersOf, lineOf, rowLine, width}
+use Rattle.trace.specs.Rows.{columns}
+use Rattle.report.specs.Rows.{numbersOf, lineOf, rowLine, width}
 use Rattle.report.specs.Report.{text}
 use Rattle.report.specs.Refusal.{refusalText}
 use Rattle.report.proofs.Lines.{number-at, row-length, line-length, lines-length, line-at, lines-front}

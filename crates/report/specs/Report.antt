@@ -5,7 +5,8 @@ use mathlib.Core.List.{List, [], _∷_, _++_, flatMap}
 use lib.Dec.{ltb}
 use lib.ListN.{length}
 use Rattle.report.specs.Room.{Decision, write, refuse}
-use Rattle.report.specs.Rows.{columns, rowLine, width}
+use Rattle.trace.specs.Rows.{columns}
+use Rattle.report.specs.Rows.{rowLine, width}
 
 -- 0, 1, 2 and on: the first n row numbers
 abbrev pub first : ℕ → List ℕ

@@ -3,10 +3,7 @@ use Prim.Native.Nat.{ℕ, _+_, _*_}
 use mathlib.Core.List.{List, [], _∷_, _++_, flatMap}
 use lib.ListN.{take, drop}
 use Rattle.digits.specs.Digits.{digits}
-
--- "Five numbers a row"
-abbrev pub columns : ℕ
-columns = 5
+use Rattle.trace.specs.Rows.{columns}
 
 -- "Row 0 is the root, row s is site s.": the numbers of row r
 abbrev pub numbersOf : List ℕ → ℕ → List ℕ

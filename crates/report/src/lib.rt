@@ -1,20 +1,19 @@
 // The report: a line for each row, and the line of a refusal.
 use line::Wrote;
+use trace::COLUMNS;
 ghost use mathlib.Core.Path.{_≡_};
 ghost use Prim.Native.Nat.{_+_, _*_, _≤_, _<_};
 ghost use mathlib.Core.List.{_++_, flatMap};
 ghost use lib.ListN.{length, drop};
 ghost use Rattle.digits.specs.Digits.{digits};
 ghost use Rattle.report.specs.Room.{Writes};
-ghost use Rattle.report.specs.Rows.{columns, lineOf, width};
+ghost use Rattle.trace.specs.Rows.{columns};
+ghost use Rattle.report.specs.Rows.{lineOf, width};
 ghost use Rattle.report.specs.Report.{first, linesOf, report};
 ghost use Rattle.report.specs.Refusal.{refusalText, printRefusal};
 
-// "Five numbers a row."
-const COLUMNS: usize = 5;
-
 // A row's line: 4 digits, 16 for each number, and a line feed.
-const WIDTH: usize = 4 + 16 * COLUMNS + 1;
+pub const WIDTH: usize = 4 + 16 * COLUMNS + 1;
 
 // A row's line, which is built whole before it goes out.
 pub struct ReportLine {

@@ -156,7 +156,7 @@ fn settle(t: &mut [u64], rows: &mut [u64], w: usize)
 {
     let mut i = 0;
     while i < w {
-        rows[walk::COLUMNS * i + 4] = t[i];
+        rows[trace::COLUMNS * i + 4] = t[i];
         t[i] = 0;
         i += 1;
     }
@@ -176,7 +176,7 @@ fn accepted(
     ensures { λ r. ⌜ Promise tables (now (text .entry)) depth sites (lent (now (scratch .entry)) (now (rows .entry))) r (lent (now (scratch .exit)) (now (rows .exit))) ⌝ }
 {
     walk::zero(scratch, scratch.len());
-    walk::zero(rows, walk::COLUMNS * (count + 1));
+    walk::zero(rows, trace::COLUMNS * (count + 1));
     let f = body(
         text,
         count,

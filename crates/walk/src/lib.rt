@@ -1,5 +1,5 @@
 // What both engines share: an open invocation's numbers, and columns 1 to 4 of the rows.
-
+use trace::COLUMNS;
 ghost use mathlib.Core.Path.{_≡_};
 ghost use Prim.Native.Nat.{_+_, _*_, _^_, _≤_, _<_};
 ghost use mathlib.Core.List.{_++_};
@@ -8,9 +8,6 @@ ghost use Rattle.trace.specs.Rows.{columns};
 ghost use Rattle.trace.specs.Fold.{nothing};
 ghost use Rattle.walk.specs.Gain.{one, counted, Grown};
 ghost use Rattle.walk.specs.Numbers.{numbers, spentN, joinedN, calledN, spawnedN};
-
-// Five numbers a row.
-pub const COLUMNS: usize = 5;
 
 // An open invocation: its next line, the work so far, and what its three chains weigh: up to the last join, the longest child's since, and
 // that since the spawn of this child.

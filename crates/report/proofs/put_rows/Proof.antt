@@ -8,7 +8,8 @@ use native.Mathlib.Nat.{add-sub-cancel-left}
 use native.Mathlib.Omega.{arith}
 use borrow.Rule.Slice.PartMut.{midOf, mid-len, same-len-mid}
 use lib.ListN.{length, drop, length-take, length-drop}
-use Rattle.report.specs.Rows.{columns, lineOf, width}
+use Rattle.trace.specs.Rows.{columns}
+use Rattle.report.specs.Rows.{lineOf, width}
 use Rattle.report.specs.Report.{first, linesOf}
 use Rattle.report.proofs.Lines.{line-length, lines-length, lines-more}
 use Rattle.report.proofs.put_rows.Statement.{statement}

@@ -6,7 +6,8 @@ use mathlib.Core.Path.{refl, _∙_, ap}
 use native.Mathlib.Omega.{arith}
 use lib.ListN.{replicate, length-append}
 use Rattle.digits.specs.Digits.{digits}
-use Rattle.report.specs.Rows.{columns, lineOf}
+use Rattle.trace.specs.Rows.{columns}
+use Rattle.report.specs.Rows.{lineOf}
 use Rattle.report.proofs.Parts.{behind}
 use Rattle.report.proofs.report_line.Statement.{statement}
 use Rattle.report.proofs.report_line.Tie as tie

@@ -1,0 +1,77 @@
+-- The promise of the report program determines its outcome, and no text is longer than its room. Assumes nothing.
+use Prim.Native.Nat.{ℕ, zero, suc, _+_, _*_, _≤_, _<_}
+use mathlib.Core.Bool.{Bool, true, false, cond}
+use mathlib.Core.List.{List, _++_}
+use mathlib.Core.Path.{_≡_, refl, ap, _∙_, sym, subst}
+use native.Mathlib.Omega.{arith}
+use lib.Dec.{ltb}
+use lib.ListN.{length, drop, getD, length-append}
+use lib.Seq.{ext-getD, getD-take, getD-drop}
+use Rattle.line.specs.declared.Frame.{Frame}
+use Rattle.trace.specs.Shape.{sites}
+use Rattle.trace.specs.Rows.{columns}
+use Rattle.trace.specs.Refusals.{Verdict, accepted, refused, verdict}
+use Rattle.trace.specs.Promise.{Row}
+use Rattle.trace.proofs.Unique.{chosen-unique, spans-unique}
+use Rattle.admit.proofs.Admitted.{accepted-sites}
+use Rattle.report.specs.Rows.{numbersOf, width}
+use Rattle.report.proofs.Lines.{row-length, lines-length, lines-same}
+use Rattle.program.specs.Print.{ruling, Reported, Prints, Printed}
+
+-- a trace's row has one list of numbers
+module _ (t : List Frame) (c x y : List ℕ) (s : ℕ) (p : Row t c x s) (q : Row t c y s) where
+  cell-same : (k : ℕ) → k < columns → getD x (columns * s + k) 0 ≡ getD y (columns * s + k) 0
+  cell-same zero l = let e : columns * s + 0 ≡ columns * s = omega arith in rw e (p .calls-is ∙ sym (q .calls-is))
+  cell-same (suc zero) l = p .work-is ∙ sym (q .work-is)
+  cell-same (suc (suc zero)) l = spans-unique t s _ _ (p .span-is) (q .span-is)
+  cell-same (suc (suc (suc zero))) l = p .local-is ∙ sym (q .local-is)
+  cell-same (suc (suc (suc (suc zero)))) l = p .on-span-is ∙ sym (q .on-span-is)
+  cell-same (suc (suc (suc (suc (suc k))))) l = absurd (omega arith)
+
+  row-same : columns * (s + 1) ≤ length x → columns * (s + 1) ≤ length y → numbersOf x s ≡ numbersOf y s
+  row-same l m =
+      let a = row-length x s l in
+      ext-getD 0 (numbersOf x s) (numbersOf y s) (a ∙ sym (row-length y s m))
+      (λ k h. (let h′ : k < columns = omega arith in number x k h′ ∙ cell-same k h′ ∙ sym (number y k h′)))
+    where
+      number : (z : List ℕ) (k : ℕ) → k < columns → getD (numbersOf z s) k 0 ≡ getD z (columns * s + k) 0
+      number z k h = getD-take columns (drop (columns * s) z) k 0 h ∙ getD-drop (columns * s) z k 0
+
+-- LAW: a trace has one report
+pub reported-unique : (t : List Frame) (a b : List ℕ) → Reported t a → Reported t b → a ≡ b
+reported-unique t a b x y =
+    let c = chosen-unique t (x .chain) (y .chain) (x .chosen) (y .chosen) in
+    x .is
+    ∙ lines-same (x .rows) (y .rows) (sites t + 1)
+    (λ s l. row-same t (y .chain) (x .rows) (y .rows) s (subst (λ (d : List ℕ). Row t d (x .rows) s) c (x .rows-are s (omega arith))) (y .rows-are s (omega arith)) (omega (arith, x .enough)) (omega (arith, y .enough)))
+    ∙ sym (y .is)
+
+-- LAW: a verdict is printed in one way
+pub prints-unique : (v : Verdict) (a b : List ℕ) → Prints v a → Prints v b → a ≡ b
+prints-unique (accepted t) a b x y = reported-unique t a b x y
+prints-unique (refused number line) a b x y = x ∙ sym y
+
+-- LAW: two outcomes that meet the promise for the same input and output are equal
+pub printed-unique : (s : List ℕ) (n m : ℕ) (before after other : List ℕ) → Printed s n before after → Printed s m before other → (n ≡ m) × (after ≡ other)
+printed-unique s n m before after other x y =
+    let e = prints-unique (ruling s) (x .out) (y .out) (x .prints) (y .prints) in (
+      x .put .answered ∙ ap length e ∙ sym (y .put .answered),
+      x .put .left ∙ ap (λ (o : List ℕ). o ++ drop (length o) before) e ∙ sym (y .put .left),
+    )
+
+-- the characters answered stand in the output
+pub printed-within : {s : List ℕ} {n : ℕ} {before after : List ℕ} → Printed s n before after → n ≤ length after
+printed-within {before = before} x = omega (arith, x .put .answered, ap length (x .put .left), length-append (x .out) (drop (length (x .out)) before))
+
+-- LAW: no text is longer than the room for 32 rows
+pub prints-length : (s out : List ℕ) → Prints (ruling s) out → length out ≤ width * 32
+prints-length s out h = go (ltb 65527 (length s)) h
+  where
+    judged : (v : Verdict) → verdict s 32 31 true ≡ v → Prints v out → length out ≤ width * 32
+    judged (accepted t) e r =
+        omega (arith, ap length (r .is), lines-length (r .rows) (sites t + 1) (r .enough), accepted-sites s 32 31 true t e)
+    judged (refused number line) e r = omega (arith, ap length r)
+
+    go : (b : Bool) → Prints (cond b (refused 3 0) (verdict s 32 31 true)) out → length out ≤ width * 32
+    go true r = omega (arith, ap length r)
+    go false r = judged (verdict s 32 31 true) refl r

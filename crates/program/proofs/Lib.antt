@@ -1,0 +1,3 @@
+pub mod Printing
+pub mod Determined
+pub mod CaseI
