@@ -23,6 +23,9 @@ step-requires c κs = search needs
 enum-known-number : tie.Need-enum-known-number
 enum-known-number c = search needs
 
+refuse-requires : tie.Need-refuse-requires
+refuse-requires c κs = search needs
+
 same-length : tie.Need-same-length
 same-length c = search needs
 
@@ -35,9 +38,9 @@ returns c =
 
 returns-2 : tie.Need-returns-2
 returns-2 c =
-    let a = c .before .before .before .before .before .before .args in
-    let e : readAt (a .trace .now) (a .t .lines) ≡ Refused _ _ = sym (c .before .before .before .read-at .ensures) ∙ c .before .number .given .1 in
-    rw e (refl, refl)
+    let a = c .before .before .before .before .before .before .before .args in
+    let e : readAt (a .trace .now) (a .t .lines) ≡ Refused _ _ = sym (c .before .before .before .before .read-at .ensures) ∙ c .before .before .number .given .1 in
+    rw e (c .refuse .ensures, refl)
 
 pub judge-spec : {M : Type 1} → statement M
 judge-spec =
@@ -48,6 +51,7 @@ judge-spec =
     again-requires
     step-requires
     enum-known-number
+    refuse-requires
     same-length
     returns
     returns-2)
