@@ -150,6 +150,27 @@ fn step(t: Tally, frame: Frame, again: bool, depth: usize, sites: usize) -> Tall
     }
 }
 
+// "A tally of lines, sites and open depth is kept up to date at each line": the same step on a tally that is lent. The answer is 0 or the
+// refusal.
+fn update(tally: &mut Tally, frame: Frame, again: bool, depth: usize, sites: usize) -> u8
+    requires { ⌜ Small depth (now tally) ⌝ }
+    ensures { λ r. ⌜ (r ≡ stepped depth sites again (now (tally .entry)) frame .refusal) × (now (tally .exit) ≡ stepped depth sites again (now (tally .entry)) frame .tally) ⌝ }
+{
+    let next = step(*tally, frame, again, depth, sites);
+    *tally = next.tally;
+    next.refusal
+}
+
+// The same step from value to value: it lends a tally of its own, so that no caller has to.
+fn updated(t: Tally, frame: Frame, again: bool, depth: usize, sites: usize) -> Tallied
+    requires { ⌜ Small depth t ⌝ }
+    ensures { λ r. ⌜ r ≡ stepped depth sites again t frame ⌝ }
+{
+    let mut tally = t;
+    let refusal = update(&mut tally, frame, again, depth, sites);
+    Tallied { refusal, tally }
+}
+
 // A line of the trace, judged with the lines before it: their tally, and the keys of their places.
 fn judge(trace: &[u8], keys: &mut [u64], t: Tally, depth: usize, sites: usize) -> Tallied
     requires { ⌜ Within depth (now keys) t ⌝ }
@@ -158,7 +179,7 @@ fn judge(trace: &[u8], keys: &mut [u64], t: Tally, depth: usize, sites: usize) -
     match line::read_at(trace, t.lines) {
         Read::Line(_, frame) => {
             let found = again(keys, t.sites, frame);
-            step(t, frame, found, depth, sites)
+            updated(t, frame, found, depth, sites)
         }
         Read::Refused(number, _) => refuse(t, number),
     }
