@@ -4,3 +4,4 @@ pub mod Reach
 pub mod Entry
 pub mod Admitted
 pub mod Refused
+mod Lent

@@ -2,29 +2,29 @@
 use mathlib.Core.Path.{_≡_, refl, sym, _∙_, ap, subst⁻¹}
 use mathlib.Core.Bool.{Bool, true, false, cond}
 use mathlib.Core.List.{List, [], _∷_, _++_}
+use mathlib.Core.Logic.{_⊎_, inl, inr}
 use Prim.Native.Nat.{ℕ, zero, suc, _+_, _≤_, _<_}
 use native.Mathlib.Omega.{arith}
 use lib.ListN.{length, take, length-append}
 use lib.Dec.{eqb}
-use borrow.Author.Tests.{eqb-true}
+use borrow.Author.Tests.{eqb-true, eqb-false}
 use Rattle.line.specs.declared.Frame.{Frame}
 use Rattle.line.specs.declared.Read.{Read}
 use Rattle.line.specs.declared.Read.the-variants.{Line, Refused}
 use Rattle.line.specs.Read.{lineAt, readAt}
+use Rattle.line.proofs.Cases.{refusals-at}
 use Rattle.trace.specs.Shape.{sites}
 use Rattle.trace.specs.Refusals.{lineCount, openNow, afterRoot, fault, accepted, refused, judged, scan, readsFrom, reads}
 use Rattle.trace.specs.Refusals.{Verdict as Judgement}
-use Rattle.trace.proofs.Basics.{clash}
 use Rattle.trace.proofs.Scan.{read-line, faultless}
 use Rattle.trace.proofs.Sites.{sites-le}
 use Rattle.trace.proofs.Bounds.{Safe, thirteen-never, safe-snoc, safe-start}
 use Rattle.admit.specs.declared.Verdict.the-variants.{Accepted}
 use Rattle.admit.specs.declared.Verdict.the-variants.{Refused as Denied}
 use Rattle.admit.specs.declared.Tally.{Tally}
-use Rattle.admit.specs.declared.Tallied.the-variants.{Next}
-use Rattle.admit.specs.declared.Tallied.the-variants.{Refused as Stop}
+use Rattle.admit.specs.declared.Tallied.{Tallied}
 use Rattle.admit.specs.Answer.{answerOf}
-use Rattle.admit.specs.Step.{tallyOf, judgedBy, keptBy, stepped, seen, kept, Limits, Within}
+use Rattle.admit.specs.Step.{tallyOf, refuse, next, judgedBy, keptBy, stepped, seen, kept, Limits, Within}
 use Rattle.admit.proofs.Keys.{NarrowSites, narrow-snoc, read-narrow, keysOf, seen-is, kept-is, kept-length}
 use Rattle.admit.proofs.Tallies.{Numbered, numbered-start, numbered-snoc, within-snoc, none-open, judgement, step-is}
 
@@ -97,28 +97,32 @@ module _ {D M : ℕ} {s ks : List ℕ} (limits : Limits D M s) where
           go zero w e = absurd (omega arith)
           go (suc k) w e = (k, omega arith, e)
 
-      refused-is : (number line : ℕ) → judgedBy D M ks (tallyOf before) (readAt s n) ≡ Stop number line → answerOf (scan D M [] (reads s)) ≡ Denied number line
-      refused-is number line e = sym (ap answerOf (unrolled .2)) ∙ go (unrolled .0) (readAt s n) refl e
+      refused-is : (x : Tallied) → x ≡ judgedBy D M ks (tallyOf before) (readAt s n) → (x .refusal ≡ 0 → ⊥) → answerOf (scan D M [] (reads s)) ≡ Denied (x .refusal) n
+      refused-is x e z = sym (ap answerOf (unrolled .2)) ∙ go (unrolled .0) (readAt s n) refl e
         where
-          stop : (on : Judgement) (k : ℕ) (f : Frame) (b : Bool) → k ≡ n → cond b (Next (tallyOf (before ++ f ∷ []))) (Stop (fault D M before f) n) ≡ Stop number line → answerOf (cond b on (refused (fault D M before f) k)) ≡ Denied number line
-          stop on k f true q e = clash (cc)
-          stop on k f false q e = cc
+          stop : (on : Judgement) (k : ℕ) (f : Frame) (b : Bool) → k ≡ n → x ≡ cond b (next (tallyOf (before ++ f ∷ []))) (refuse (tallyOf before) (fault D M before f)) → answerOf (cond b on (refused (fault D M before f) k)) ≡ Denied (x .refusal) n
+          stop on k f true q e = absurd (z (ap (λ (y : Tallied). y .refusal) e))
+          stop on k f false q e = rw (q, e) refl
 
-          go : (j : ℕ) (x : Read) → readAt s n ≡ x → judgedBy D M ks (tallyOf before) x ≡ Stop number line → answerOf (judged D M before x (behind j)) ≡ Denied number line
-          go j (Refused a b) h e = cc
-          go j (Line k f) h e = stop (behind j f) k f (eqb (fault D M before f) 0) (read-line (lineAt s n) n k f h .0) (sym (judged-is k f h) ∙ e)
+          go : (j : ℕ) (y : Read) → readAt s n ≡ y → x ≡ judgedBy D M ks (tallyOf before) y → answerOf (judged D M before y (behind j)) ≡ Denied (x .refusal) n
+          go j (Refused a b) h e = rw (refusals-at s n a b l h .0, e) refl
+          go j (Line k f) h e = stop (behind j f) k f (eqb (fault D M before f) 0) (read-line (lineAt s n) n k f h .0) (e ∙ judged-is k f h)
 
-      next-is : (u : Tally) → judgedBy D M ks (tallyOf before) (readAt s n) ≡ Next u → (u .lines ≡ suc n) × Reached D M s (keptBy ks (tallyOf before) (readAt s n)) u
-      next-is u e = go (readAt s n) refl e (unrolled .2)
+      next-is : (x : Tallied) → x ≡ judgedBy D M ks (tallyOf before) (readAt s n) → x .refusal ≡ 0 → (x .tally .lines ≡ suc n) × Reached D M s (keptBy ks (tallyOf before) (readAt s n)) (x .tally)
+      next-is x e z = go (readAt s n) refl e (unrolled .2)
         where
+          unread : (a : ℕ) → (a ≡ 5) ⊎ (a ≡ 6) → a ≡ 0 → ⊥
+          unread a (inl h) z = omega arith
+          unread a (inr h) z = omega arith
+
           one-more : (f : Frame) → length (before ++ f ∷ []) ≡ suc n
           one-more f = omega (arith, length-append before (f ∷ []))
 
-          on : (k : ℕ) (f : Frame) (b : Bool) → readAt s n ≡ Line k f → eqb (fault D M before f) 0 ≡ b → cond b (Next (tallyOf (before ++ f ∷ []))) (Stop (fault D M before f) n) ≡ Next u
-              → cond b (behind (unrolled .0) f) (refused (fault D M before f) k) ≡ scan D M [] (reads s) → (u .lines ≡ suc n) × Reached D M s (kept ks (sites before) f) u
+          on : (k : ℕ) (f : Frame) (b : Bool) → readAt s n ≡ Line k f → eqb (fault D M before f) 0 ≡ b → x ≡ cond b (next (tallyOf (before ++ f ∷ []))) (refuse (tallyOf before) (fault D M before f))
+              → cond b (behind (unrolled .0) f) (refused (fault D M before f) k) ≡ scan D M [] (reads s) → (x .tally .lines ≡ suc n) × Reached D M s (kept ks (sites before) f) (x .tally)
           on k f true h b e w =
               let c = faultless D M before f (eqb-true (fault D M before f) 0 b) in
-              let q : u ≡ tallyOf (before ++ f ∷ []) = cc in
+              let q : x .tally ≡ tallyOf (before ++ f ∷ []) = ap (λ (y : Tallied). y .tally) e in
               let k : Known D M s (kept ks (sites before) f) (before ++ f ∷ []) =
               record {
                 left = unrolled .0;
@@ -132,11 +136,11 @@ module _ {D M : ℕ} {s ks : List ℕ} (limits : Limits D M s) where
                 keys = kept-is ks before (r .keys) f (omega (arith, r .within, limits .sites-most, r .room));
               } in
               (ap (λ (v : Tally). v .lines) q ∙ one-more f, record { before = before ++ f ∷ []; tally = q; known = k })
-          on k f false h b e w = clash (cc)
+          on k f false h b e w = absurd (eqb-false (fault D M before f) 0 b (sym (ap (λ (y : Tallied). y .refusal) e) ∙ z))
 
-          go : (x : Read) → readAt s n ≡ x → judgedBy D M ks (tallyOf before) x ≡ Next u → judged D M before x (behind (unrolled .0)) ≡ scan D M [] (reads s) → (u .lines ≡ suc n) × Reached D M s (keptBy ks (tallyOf before) x) u
-          go (Refused a b) h e w = clash (cc)
-          go (Line k f) h e w = on k f (eqb (fault D M before f) 0) h refl (sym (judged-is k f h) ∙ e) w
+          go : (y : Read) → readAt s n ≡ y → x ≡ judgedBy D M ks (tallyOf before) y → judged D M before y (behind (unrolled .0)) ≡ scan D M [] (reads s) → (x .tally .lines ≡ suc n) × Reached D M s (keptBy ks (tallyOf before) y) (x .tally)
+          go (Refused a b) h e w = absurd (unread a (refusals-at s n a b l h .1) (sym (ap (λ (y : Tallied). y .refusal) e) ∙ z))
+          go (Line k f) h e w = on k f (eqb (fault D M before f) 0) h refl (e ∙ judged-is k f h) w
 
   -- the same by the tally
   module _ {t : Tally} (r : Reached D M s ks t) where
@@ -145,9 +149,7 @@ module _ {D M : ℕ} {s ks : List ℕ} (limits : Limits D M s) where
         let a : t .lines ≡ length (r .before) = ap (λ (u : Tally). u .lines) (r .tally) in
         let b : t .sites ≡ sites (r .before) = ap (λ (u : Tally). u .sites) (r .tally) in
         record {
-          deep = limits .most;
-          lines = omega (arith, limits .lines-most);
-          sites = omega (arith, sites-le (r .before));
+          small = (omega (arith, limits .lines-most), (omega (arith, sites-le (r .before)), limits .most));
           room = omega (arith, r .known .within, limits .sites-most, r .known .room);
         }
 
@@ -156,12 +158,12 @@ module _ {D M : ℕ} {s ks : List ℕ} (limits : Limits D M s) where
         subst⁻¹ (λ (v : Tally). lineCount s ≤ v .lines → answerOf (scan D M [] (reads s)) ≡ cond (eqb (v .depth) 0) (Accepted (v .sites) (v .lines)) (Denied 14 (v .lines))) (r .tally)
         (end-is (r .known))
 
-    pub reached-refused : t .lines < lineCount s → (number line : ℕ) → judgedBy D M ks t (readAt s (t .lines)) ≡ Stop number line → answerOf (scan D M [] (reads s)) ≡ Denied number line
+    pub reached-refused : t .lines < lineCount s → (x : Tallied) → x ≡ judgedBy D M ks t (readAt s (t .lines)) → (x .refusal ≡ 0 → ⊥) → answerOf (scan D M [] (reads s)) ≡ Denied (x .refusal) (t .lines)
     reached-refused =
-        subst⁻¹ (λ (v : Tally). v .lines < lineCount s → (number line : ℕ) → judgedBy D M ks v (readAt s (v .lines)) ≡ Stop number line → answerOf (scan D M [] (reads s)) ≡ Denied number line) (r .tally)
+        subst⁻¹ (λ (v : Tally). v .lines < lineCount s → (x : Tallied) → x ≡ judgedBy D M ks v (readAt s (v .lines)) → (x .refusal ≡ 0 → ⊥) → answerOf (scan D M [] (reads s)) ≡ Denied (x .refusal) (v .lines)) (r .tally)
         (refused-is (r .known))
 
-    pub reached-next : t .lines < lineCount s → (u : Tally) → judgedBy D M ks t (readAt s (t .lines)) ≡ Next u → (u .lines ≡ suc (t .lines)) × Reached D M s (keptBy ks t (readAt s (t .lines))) u
+    pub reached-next : t .lines < lineCount s → (x : Tallied) → x ≡ judgedBy D M ks t (readAt s (t .lines)) → x .refusal ≡ 0 → (x .tally .lines ≡ suc (t .lines)) × Reached D M s (keptBy ks t (readAt s (t .lines))) (x .tally)
     reached-next =
-        subst⁻¹ (λ (v : Tally). v .lines < lineCount s → (u : Tally) → judgedBy D M ks v (readAt s (v .lines)) ≡ Next u → (u .lines ≡ suc (v .lines)) × Reached D M s (keptBy ks v (readAt s (v .lines))) u) (r .tally)
+        subst⁻¹ (λ (v : Tally). v .lines < lineCount s → (x : Tallied) → x ≡ judgedBy D M ks v (readAt s (v .lines)) → x .refusal ≡ 0 → (x .tally .lines ≡ suc (v .lines)) × Reached D M s (keptBy ks v (readAt s (v .lines))) (x .tally)) (r .tally)
         (next-is (r .known))

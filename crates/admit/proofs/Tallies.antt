@@ -16,9 +16,7 @@ use Rattle.trace.proofs.Scan.{now}
 use Rattle.trace.proofs.Sites.{sites-append}
 use Rattle.admit.specs.declared.Tally.{Tally}
 use Rattle.admit.specs.declared.Tallied.{Tallied}
-use Rattle.admit.specs.declared.Tallied.the-variants.{Next}
-use Rattle.admit.specs.declared.Tallied.the-variants.{Refused as Stop}
-use Rattle.admit.specs.Step.{tallyOf, stepped}
+use Rattle.admit.specs.Step.{tallyOf, refuse, next, stepped}
 
 -- ── sites are numbered 1, 2, 3 and on ──
 
@@ -132,27 +130,27 @@ closed-length [] = omega arith
 closed-length (x ∷ o) = omega arith
 
 -- what a fault, or none, makes of a line
-abbrev outcome : ℕ → Tally → ℕ → Tallied
-outcome k next n = cond (eqb k 0) (Next next) (Stop k n)
+abbrev outcome : ℕ → Tally → Tally → Tallied
+outcome k after t = cond (eqb k 0) (next after) (refuse t k)
 
 -- what the refusals say of a line
 abbrev pub judgement : ℕ → ℕ → List Frame → Frame → Tallied
-judgement D M before f = outcome (fault D M before f) (tallyOf (before ++ f ∷ [])) (length before)
+judgement D M before f = outcome (fault D M before f) (tallyOf (before ++ f ∷ [])) (tallyOf before)
 
 -- a, b: 7 and 13 apply
-plain : (a b d : Bool) (u v : Tally) (n : ℕ) → d ≡ a → b ≡ false → u ≡ v → cond d (Stop 7 n) (Next u) ≡ outcome (cond a 7 (cond b 13 0)) v n
-plain a b d u v n e f g = rw (e, f, g) (go a)
+plain : (a b d : Bool) (u v t : Tally) → d ≡ a → b ≡ false → u ≡ v → cond d (refuse t 7) (next u) ≡ outcome (cond a 7 (cond b 13 0)) v t
+plain a b d u v t e f g = rw (e, f, g) (go a)
   where
-    go : (a : Bool) → cond a (Stop 7 n) (Next v) ≡ outcome (cond a 7 0) v n
+    go : (a : Bool) → cond a (refuse t 7) (next v) ≡ outcome (cond a 7 0) v t
     go true = refl
     go false = refl
 
 -- z, w: the site is 0, or is not declared; k: too deep
-make : (a b d : Bool) (x z w k : Bool) (u v : Tally) (n : ℕ) → d ≡ a → b ≡ false → u ≡ v → x ≡ (z || w)
-    → cond d (Stop 7 n) (cond z (Stop 11 n) (cond w (Stop 11 n) (cond k (Stop 12 n) (Next u)))) ≡ outcome (cond a 7 (cond x 11 (cond k 12 (cond b 13 0)))) v n
-make a b d x z w k u v n e f g h = rw (e, f, g, h) (go a z w k)
+make : (a b d : Bool) (x z w k : Bool) (u v t : Tally) → d ≡ a → b ≡ false → u ≡ v → x ≡ (z || w)
+    → cond d (refuse t 7) (cond z (refuse t 11) (cond w (refuse t 11) (cond k (refuse t 12) (next u)))) ≡ outcome (cond a 7 (cond x 11 (cond k 12 (cond b 13 0)))) v t
+make a b d x z w k u v t e f g h = rw (e, f, g, h) (go a z w k)
   where
-    go : (a z w k : Bool) → cond a (Stop 7 n) (cond z (Stop 11 n) (cond w (Stop 11 n) (cond k (Stop 12 n) (Next v)))) ≡ outcome (cond a 7 (cond (z || w) 11 (cond k 12 0))) v n
+    go : (a z w k : Bool) → cond a (refuse t 7) (cond z (refuse t 11) (cond w (refuse t 11) (cond k (refuse t 12) (next v)))) ≡ outcome (cond a 7 (cond (z || w) 11 (cond k 12 0))) v t
     go true z w k = refl
     go false true w k = refl
     go false false true k = refl
@@ -160,11 +158,11 @@ make a b d x z w k u v n e f g h = rw (e, f, g, h) (go a z w k)
     go false false false false = refl
 
 -- o: sites alone come before; q: the number is the next; m: above M; g: the place again
-site : (a b d : Bool) (o q m g r : Bool) (u v : Tally) (n : ℕ) → d ≡ a → b ≡ false → u ≡ v → r ≡ g
-    → cond d (Stop 7 n) (cond o (cond q (cond m (Stop 9 n) (cond r (Stop 10 n) (Next u))) (Stop 8 n)) (Stop 8 n)) ≡ outcome (cond a 7 (cond (not o || not q) 8 (cond m 9 (cond g 10 (cond b 13 0))))) v n
-site a b d o q m g r u v n e f h k = rw (e, f, h, k) (go a o q m g)
+site : (a b d : Bool) (o q m g r : Bool) (u v t : Tally) → d ≡ a → b ≡ false → u ≡ v → r ≡ g
+    → cond d (refuse t 7) (cond o (cond q (cond m (refuse t 9) (cond r (refuse t 10) (next u))) (refuse t 8)) (refuse t 8)) ≡ outcome (cond a 7 (cond (not o || not q) 8 (cond m 9 (cond g 10 (cond b 13 0))))) v t
+site a b d o q m g r u v t e f h k = rw (e, f, h, k) (go a o q m g)
   where
-    go : (a o q m g : Bool) → cond a (Stop 7 n) (cond o (cond q (cond m (Stop 9 n) (cond g (Stop 10 n) (Next v))) (Stop 8 n)) (Stop 8 n)) ≡ outcome (cond a 7 (cond (not o || not q) 8 (cond m 9 (cond g 10 0)))) v n
+    go : (a o q m g : Bool) → cond a (refuse t 7) (cond o (cond q (cond m (refuse t 9) (cond g (refuse t 10) (next v))) (refuse t 8)) (refuse t 8)) ≡ outcome (cond a 7 (cond (not o || not q) 8 (cond m 9 (cond g 10 0)))) v t
     go true o q m g = refl
     go false false q m g = refl
     go false true false m g = refl
@@ -180,27 +178,30 @@ module _ (D M : ℕ) (before : List Frame) (again : Bool) (h : Numbered before) 
   abbrev o : List ℕ
   o = openNow before
 
+  abbrev t : Tally
+  t = tallyOf before
+
   abbrev behind : ℕ → ℕ → Tally
   behind s d = record { lines = n + 1; sites = s; depth = d }
 
   -- a line that has no refusal of its own
-  plain-is : (f : Frame) (d : ℕ) → beyond before f ≡ false → _≡_ {A = ℕ} (sites (f ∷ [])) 0 → d ≡ length (step n f o) → cond (eqb (length o) 0) (Stop 7 n) (Next (behind (sites before) d)) ≡ outcome (cond (afterRoot before) 7 (cond (beyond before f) 13 0)) (tallyOf (before ++ f ∷ [])) n
-  plain-is f d b z e = plain (afterRoot before) (beyond before f) (eqb (length o) 0) (behind (sites before) d) (tallyOf (before ++ f ∷ [])) n (none-open o) b (next-is before f (sites before) d (omega (arith, z)) e)
+  plain-is : (f : Frame) (d : ℕ) → beyond before f ≡ false → _≡_ {A = ℕ} (sites (f ∷ [])) 0 → d ≡ length (step n f o) → cond (eqb (length o) 0) (refuse t 7) (next (behind (sites before) d)) ≡ outcome (cond (afterRoot before) 7 (cond (beyond before f) 13 0)) (tallyOf (before ++ f ∷ [])) t
+  plain-is f d b z e = plain (afterRoot before) (beyond before f) (eqb (length o) 0) (behind (sites before) d) (tallyOf (before ++ f ∷ [])) t (none-open o) b (next-is before f (sites before) d (omega (arith, z)) e)
 
   -- a call or spawn of site s
   make-is : (f : Frame) (s : ℕ) → beyond before f ≡ false → _≡_ {A = ℕ} (sites (f ∷ [])) 0 → length o + 1 ≡ length (step n f o)
-      → cond (eqb (length o) 0) (Stop 7 n) (cond (eqb s 0) (Stop 11 n) (cond (ltb (sites before) s) (Stop 11 n) (cond (leb D (length o)) (Stop 12 n) (Next (behind (sites before) (length o + 1))))))
-      ≡ outcome (cond (afterRoot before) 7 (cond (eqb s 0 || not (declared s before)) 11 (cond (ltb D (suc (length o))) 12 (cond (beyond before f) 13 0)))) (tallyOf (before ++ f ∷ [])) n
+      → cond (eqb (length o) 0) (refuse t 7) (cond (eqb s 0) (refuse t 11) (cond (ltb (sites before) s) (refuse t 11) (cond (leb D (length o)) (refuse t 12) (next (behind (sites before) (length o + 1))))))
+      ≡ outcome (cond (afterRoot before) 7 (cond (eqb s 0 || not (declared s before)) 11 (cond (ltb D (suc (length o))) 12 (cond (beyond before f) 13 0)))) (tallyOf (before ++ f ∷ [])) t
   make-is f s b z e =
       rw (too-deep-is D (length o))
-      (make (afterRoot before) (beyond before f) (eqb (length o) 0) (eqb s 0 || not (declared s before)) (eqb s 0) (ltb (sites before) s) (leb D (length o)) (behind (sites before) (length o + 1)) (tallyOf (before ++ f ∷ [])) n
+      (make (afterRoot before) (beyond before f) (eqb (length o) 0) (eqb s 0 || not (declared s before)) (eqb s 0) (ltb (sites before) s) (leb D (length o)) (behind (sites before) (length o + 1)) (tallyOf (before ++ f ∷ [])) t
       (none-open o) b (next-is before f (sites before) (length o + 1) (omega (arith, z)) e) (undeclared-is before s h))
 
   pub step-is : (f : Frame) → beyond before f ≡ false → again ≡ placeAgain before f → stepped D M again (tallyOf before) f ≡ judgement D M before f
   step-is (Site s p) b g =
       let e : sites before + 1 ≡ suc (lastSite 0 before) = omega (arith, h .last) in
       rw e
-      (site (afterRoot before) (beyond before (Site s p)) (eqb (length o) 0) (allSites before) (eqb s (suc (lastSite 0 before))) (ltb M s) (placed p before) again (behind (suc (lastSite 0 before)) (length o)) (tallyOf (before ++ Site s p ∷ [])) n
+      (site (afterRoot before) (beyond before (Site s p)) (eqb (length o) 0) (allSites before) (eqb s (suc (lastSite 0 before))) (ltb M s) (placed p before) again (behind (suc (lastSite 0 before)) (length o)) (tallyOf (before ++ Site s p ∷ [])) t
       (none-open o) b (next-is before (Site s p) (suc (lastSite 0 before)) (length o) (omega (arith, h .last)) refl) g)
   step-is (Call s) b g = make-is (Call s) s b refl (omega arith)
   step-is (Spawn s) b g = make-is (Spawn s) s b refl (omega arith)

@@ -13,8 +13,6 @@ use Rattle.trace.specs.Shape.{ifSite, has, sites}
 use Rattle.trace.specs.Refusals.{lineCount, openNow}
 use Rattle.admit.specs.declared.Tally.{Tally}
 use Rattle.admit.specs.declared.Tallied.{Tallied}
-use Rattle.admit.specs.declared.Tallied.the-variants.{Next}
-use Rattle.admit.specs.declared.Tallied.the-variants.{Refused as Stop}
 
 -- "A tally of lines, sites and open depth": that of the lines before
 abbrev pub tallyOf : List Frame → Tally
@@ -31,27 +29,35 @@ seen ks n f = ifSite (λ s p. has (key p) (take n ks)) false f
 abbrev pub kept : List ℕ → ℕ → Frame → List ℕ
 kept ks n f = ifSite (λ s p. set ks n (key p)) ks f
 
+-- a line that is refused, behind the tally t: the tally stays as it was
+abbrev pub refuse : Tally → ℕ → Tallied
+refuse t number = record { refusal = number; tally = t }
+
+-- a line that passes, with the tally t behind it
+abbrev pub next : Tally → Tallied
+next t = record { refusal = 0; tally = t }
+
 -- one line more, with the sites and the open invocations behind it
 abbrev pub onward : Tally → ℕ → ℕ → Tallied
-onward t sites depth = Next (record { lines = t .lines + 1; sites = sites; depth = depth })
+onward t sites depth = next (record { lines = t .lines + 1; sites = sites; depth = depth })
 
 -- a site line of site s: refusals 8, 9 and 10
 abbrev pub declaring : ℕ → Bool → ℕ → Tally → Tallied
 declaring M again s t =
     cond (eqb (t .sites) (t .lines))
     (cond (eqb s (t .sites + 1))
-    (cond (ltb M s) (Stop 9 (t .lines))
-    (cond again (Stop 10 (t .lines))
+    (cond (ltb M s) (refuse t 9)
+    (cond again (refuse t 10)
     (onward t (t .sites + 1) (t .depth))))
-    (Stop 8 (t .lines)))
-    (Stop 8 (t .lines))
+    (refuse t 8))
+    (refuse t 8)
 
 -- a call or spawn of site s: refusals 11 and 12
 abbrev pub entering : ℕ → ℕ → Tally → Tallied
 entering D s t =
-    cond (eqb s 0) (Stop 11 (t .lines))
-    (cond (ltb (t .sites) s) (Stop 11 (t .lines))
-    (cond (leb D (t .depth)) (Stop 12 (t .lines))
+    cond (eqb s 0) (refuse t 11)
+    (cond (ltb (t .sites) s) (refuse t 11)
+    (cond (leb D (t .depth)) (refuse t 12)
     (onward t (t .sites) (t .depth + 1))))
 
 -- a line of an open root, by its kind
@@ -65,11 +71,11 @@ inside D M again t (Cost v) = onward t (t .sites) (t .depth)
 
 -- a line, refusal 7 first
 abbrev pub stepped : ℕ → ℕ → Bool → Tally → Frame → Tallied
-stepped D M again t f = cond (eqb (t .depth) 0) (Stop 7 (t .lines)) (inside D M again t f)
+stepped D M again t f = cond (eqb (t .depth) 0) (refuse t 7) (inside D M again t f)
 
 -- a line as it reads, and the keys behind it
 abbrev pub judgedBy : ℕ → ℕ → List ℕ → Tally → Read → Tallied
-judgedBy D M ks t (Refused n k) = Stop n k
+judgedBy D M ks t (Refused n k) = refuse t n
 judgedBy D M ks t (Line k f) = stepped D M (seen ks (t .sites) f) t f
 
 abbrev pub keptBy : List ℕ → Tally → Read → List ℕ
@@ -77,10 +83,12 @@ keptBy ks t (Refused n k) = ks
 keptBy ks t (Line k f) = kept ks (t .sites) f
 
 -- the numbers stay far below the machine's
+abbrev pub Small : ℕ → Tally → Type 0
+Small D t = (t .lines < 65536) × ((t .sites ≤ t .lines) × (D ≤ 64))
+
+-- and there is room for one key more
 pub record Within (D : ℕ) (ks : List ℕ) (t : Tally) : Type 0 where
-  pub deep : D ≤ 64
-  pub lines : t .lines < 65536
-  pub sites : t .sites ≤ t .lines
+  pub small : Small D t
   pub room : t .sites < length ks
 
 -- what checks 1 to 3 leave

@@ -12,7 +12,7 @@ ghost use Rattle.trace.specs.Shape.{has};
 ghost use Rattle.trace.specs.Refusals.{scan, reads};
 ghost use Rattle.trace.specs.Promise.{Engine, rowsRoom};
 ghost use Rattle.admit.specs.Answer.{answerOf, admission, opening};
-ghost use Rattle.admit.specs.Step.{key, seen, kept, onward, declaring, entering, stepped, judgedBy, keptBy, Within, Limits};
+ghost use Rattle.admit.specs.Step.{key, seen, kept, refuse, onward, declaring, entering, stepped, judgedBy, keptBy, Small, Within, Limits};
 
 // What acceptance answers: the numbers of sites and of lines, or a refusal's number and line.
 pub enum Verdict {
@@ -27,10 +27,10 @@ pub struct Tally {
     pub depth: usize,
 }
 
-// What a line does: the tally behind it, or a refusal's number and line.
-pub enum Tallied {
-    Next(Tally),
-    Refused(u8, usize),
+// What a line does: the tally behind it and 0, or the tally before it and the number of the line's refusal.
+pub struct Tallied {
+    pub refusal: u8,
+    pub tally: Tally,
 }
 
 // A place as one number: 16 bits of file, 32 of line, 16 of column. Two places are the same exactly when their keys are.
@@ -71,16 +71,27 @@ fn again(keys: &mut [u64], count: usize, frame: Frame) -> bool
     }
 }
 
+// A line that is refused: the tally stays as it was.
+fn refuse(t: Tally, number: u8) -> Tallied
+    ensures { λ r. ⌜ r ≡ refuse t number ⌝ }
+{
+    Tallied {
+        refusal: number,
+        tally: t,
+    }
+}
+
 // One line more, with the sites and the open invocations behind it.
 fn onward(t: Tally, sites: usize, depth: usize) -> Tallied
     requires { ⌜ t .lines < 65536 ⌝ }
     ensures { λ r. ⌜ r ≡ onward t sites depth ⌝ }
 {
-    Tallied::Next(Tally {
+    let tally = Tally {
         lines: t.lines + 1,
         sites,
         depth,
-    })
+    };
+    Tallied { refusal: 0, tally }
 }
 
 // A site line, by its number: refusals 8, 9 and 10.
@@ -89,16 +100,16 @@ fn declare(t: Tally, site: usize, again: bool, limit: usize) -> Tallied
     ensures { λ r. ⌜ r ≡ declaring limit again site t ⌝ }
 {
     if t.sites != t.lines {
-        return Tallied::Refused(8, t.lines);
+        return refuse(t, 8);
     }
     if site != t.sites + 1 {
-        return Tallied::Refused(8, t.lines);
+        return refuse(t, 8);
     }
     if limit < site {
-        return Tallied::Refused(9, t.lines);
+        return refuse(t, 9);
     }
     if again {
-        return Tallied::Refused(10, t.lines);
+        return refuse(t, 10);
     }
     onward(t, t.sites + 1, t.depth)
 }
@@ -109,25 +120,25 @@ fn enter(t: Tally, site: usize, limit: usize) -> Tallied
     ensures { λ r. ⌜ r ≡ entering limit site t ⌝ }
 {
     if site == 0 {
-        return Tallied::Refused(11, t.lines);
+        return refuse(t, 11);
     }
     if t.sites < site {
-        return Tallied::Refused(11, t.lines);
+        return refuse(t, 11);
     }
     if limit <= t.depth {
-        return Tallied::Refused(12, t.lines);
+        return refuse(t, 12);
     }
     onward(t, t.sites, t.depth + 1)
 }
 
-// The tally behind a line, or the smallest refusal from 7 to 12 that applies to it. 13 never applies within the limits (proved), so it is
-// not looked for.
+// A line by its kind: the tally behind it, or the smallest refusal from 7 to 12 that applies. 13 never applies within the limits (proved), so
+// it is not looked for.
 fn step(t: Tally, frame: Frame, again: bool, depth: usize, sites: usize) -> Tallied
-    requires { ⌜ (t .lines < 65536) × ((t .sites ≤ t .lines) × (depth ≤ 64)) ⌝ }
+    requires { ⌜ Small depth t ⌝ }
     ensures { λ r. ⌜ r ≡ stepped depth sites again t frame ⌝ }
 {
     if t.depth == 0 {
-        return Tallied::Refused(7, t.lines);
+        return refuse(t, 7);
     }
     match frame {
         Frame::Site(site, _) => declare(t, site as usize, again, sites),
@@ -139,6 +150,27 @@ fn step(t: Tally, frame: Frame, again: bool, depth: usize, sites: usize) -> Tall
     }
 }
 
+// "A tally of lines, sites and open depth is kept up to date at each line": the same step on a tally that is lent. The answer is 0 or the
+// refusal.
+fn update(tally: &mut Tally, frame: Frame, again: bool, depth: usize, sites: usize) -> u8
+    requires { ⌜ Small depth (now tally) ⌝ }
+    ensures { λ r. ⌜ (r ≡ stepped depth sites again (now (tally .entry)) frame .refusal) × (now (tally .exit) ≡ stepped depth sites again (now (tally .entry)) frame .tally) ⌝ }
+{
+    let next = step(*tally, frame, again, depth, sites);
+    *tally = next.tally;
+    next.refusal
+}
+
+// The same step from value to value: it lends a tally of its own, so that no caller has to.
+fn updated(t: Tally, frame: Frame, again: bool, depth: usize, sites: usize) -> Tallied
+    requires { ⌜ Small depth t ⌝ }
+    ensures { λ r. ⌜ r ≡ stepped depth sites again t frame ⌝ }
+{
+    let mut tally = t;
+    let refusal = update(&mut tally, frame, again, depth, sites);
+    Tallied { refusal, tally }
+}
+
 // A line of the trace, judged with the lines before it: their tally, and the keys of their places.
 fn judge(trace: &[u8], keys: &mut [u64], t: Tally, depth: usize, sites: usize) -> Tallied
     requires { ⌜ Within depth (now keys) t ⌝ }
@@ -147,9 +179,9 @@ fn judge(trace: &[u8], keys: &mut [u64], t: Tally, depth: usize, sites: usize) -
     match line::read_at(trace, t.lines) {
         Read::Line(_, frame) => {
             let found = again(keys, t.sites, frame);
-            step(t, frame, found, depth, sites)
+            updated(t, frame, found, depth, sites)
         }
-        Read::Refused(number, line) => Tallied::Refused(number, line),
+        Read::Refused(number, _) => refuse(t, number),
     }
 }
 
@@ -166,14 +198,11 @@ fn lines(trace: &[u8], depth: usize, sites: usize) -> Verdict
         depth: 1,
     };
     while tally.lines < count {
-        match judge(trace, &mut keys, tally, depth, sites) {
-            Tallied::Next(next) => {
-                tally = next;
-            }
-            Tallied::Refused(number, line) => {
-                return Verdict::Refused(number, line);
-            }
+        let next = judge(trace, &mut keys, tally, depth, sites);
+        if next.refusal != 0 {
+            return Verdict::Refused(next.refusal, tally.lines);
         }
+        tally = next.tally;
     }
     if tally.depth == 0 {
         return Verdict::Accepted(tally.sites, tally.lines);

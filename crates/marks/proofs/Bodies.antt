@@ -49,9 +49,6 @@ module _ (s : List ℕ) (deep : ℕ) where
     more : (kind ≡ 5 → ⊥) → (l : Lent s deep z t m rows) → More (l .ready .body)
     more k5 l = is-more s (z .own .at) kind says (l .ready .body) (l .ready .stands) k5
 
-    item-asks : Lent s deep z t m rows → (kind ≡ 5 → ⊥) → ItemAsks s deep z t m rows
-    item-asks l k5 = record { lent = l; more = more k5 l }
-
     module _ (l : Lent s deep z t m rows) (k5 : kind ≡ 5 → ⊥) (r : Zones) (m′ rows′ : List ℕ) (lm : length m′ ≡ length m) (lr : length rows′ ≡ length rows) (done : ItemLeaves s z m rows r m′ rows′) where
       left : ItemLeft (l .n) (l .ready .body) (l .k) z m rows r m′ rows′
       left = done (l .ready .body) (l .n) (l .k) (more k5 l) (l .ready .stands) (l .weighs) (l .shows)
@@ -103,9 +100,9 @@ module _ (s : List ℕ) (deep : ℕ) where
           kept = rw at (kept-on from (z .own .at) (z .own .at + 1) m₀ m m′ (omega arith) (u .4) (d .kept));
         })
 
--- the loop has come from the first line on to line at, the next line of z
-pub record Loop (s : List ℕ) (from row deep : ℕ) (t₀ m₀ rows₀ t m rows : List ℕ) (z : Zones) (at : ℕ) : Type 0 where
-  pub at-is : at ≡ z .own .at
+-- the loop has come from the first line on to z, whose next line is of this kind
+pub record Loop (s : List ℕ) (from row deep : ℕ) (t₀ m₀ rows₀ t m rows : List ℕ) (z : Zones) (kind : ℕ) : Type 0 where
+  pub kind-is : kind ≡ kindAt s (z .own .at)
   pub row-is : z .row ≡ row
   pub same-scratch : t ≡ t₀
   pub marks-long : length m ≡ length m₀
@@ -113,30 +110,29 @@ pub record Loop (s : List ℕ) (from row deep : ℕ) (t₀ m₀ rows₀ t m rows
   pub lent : Lent s deep z t m rows
   pub turns : Turns s deep from m₀ rows₀ z m rows
 
-pub loop-start : {s : List ℕ} {from row deep : ℕ} {t m rows : List ℕ} → BodyAsks s from row deep t m rows → (own : Open) → own ≡ numbers from 0 nothing → (z : Zones) → z ≡ allPrefix own row → Loop s from row deep t m rows t m rows z from
-loop-start {s} {from} {row} {deep} {t} {m} {rows} asks own e z q =
-    subst (λ (x : Zones). Loop s from row deep t m rows t m rows x from) (sym (q ∙ ap (λ (x : Open). allPrefix x row) e))
-    (record { at-is = refl; row-is = refl; same-scratch = refl; marks-long = refl; rows-long = refl; lent = asks; turns = turns-start s deep from row m rows })
+pub loop-start : {s : List ℕ} {from row deep : ℕ} {t m rows : List ℕ} → BodyAsks s from row deep t m rows → (own : Open) → own ≡ numbers from 0 nothing → (z : Zones) → z ≡ allPrefix own row → (kind : ℕ) → kind ≡ kindAt s from → Loop s from row deep t m rows t m rows z kind
+loop-start {s} {from} {row} {deep} {t} {m} {rows} asks own e z q kind k =
+    subst (λ (x : Zones). Loop s from row deep t m rows t m rows x kind) (sym (q ∙ ap (λ (x : Open). allPrefix x row) e))
+    (record { kind-is = k; row-is = refl; same-scratch = refl; marks-long = refl; rows-long = refl; lent = asks; turns = turns-start s deep from row m rows })
 
--- kind was read at line at
-module _ {s : List ℕ} {from row deep : ℕ} {t₀ m₀ rows₀ t m rows : List ℕ} {z : Zones} {at : ℕ} (l : Loop s from row deep t₀ m₀ rows₀ t m rows z at) (kind : ℕ) (reads : kind ≡ kindAt s at) where
+module _ {s : List ℕ} {from row deep : ℕ} {t₀ m₀ rows₀ t m rows : List ℕ} {z : Zones} {kind : ℕ} (l : Loop s from row deep t₀ m₀ rows₀ t m rows z kind) where
   says : Says kindOf s (z .own .at) kind
-  says = kind-says s at (z .own .at) kind (l .at-is) reads
+  says = kind-says s (z .own .at) (z .own .at) kind refl (l .kind-is)
 
-  pub loop-asks : (kind ≡ 5 → ⊥) → ItemAsks s deep z t m rows
-  loop-asks k5 = item-asks s deep kind z t m rows says (l .lent) k5
+  pub loop-asks : (kind ≡ 5 → ⊥) → ItemAsks s kind deep z t m rows
+  loop-asks k5 = record { lent = l .lent; kind-is = l .kind-is; more = more s deep kind z t m rows says k5 (l .lent) }
 
   -- an item was read: r, and the room behind it
   module _ (k5 : kind ≡ 5 → ⊥) (r : Zones) (t′ m′ rows′ : List ℕ) (lm : length m′ ≡ length m) (lr : length rows′ ≡ length rows) (done : ItemLeaves s z m rows r m′ rows′) where
-    pub loop-less : 65536 - r .own .at < 65536 - at
+    pub loop-less : 65536 - r .own .at < 65536 - z .own .at
     loop-less =
         let h = goes-on s deep kind z t m rows says (l .lent) k5 r m′ rows′ lm lr done in
-        omega (arith, l .at-is, l .lent .ready .ends, size-some (l .lent .ready .body))
+        omega (arith, l .lent .ready .ends, size-some (l .lent .ready .body))
 
-    pub loop-again : t′ ≡ t → Loop s from row deep t₀ m₀ rows₀ t′ m′ rows′ r (r .own .at)
-    loop-again e =
+    pub loop-again : t′ ≡ t → (next : ℕ) → next ≡ kindAt s (r .own .at) → Loop s from row deep t₀ m₀ rows₀ t′ m′ rows′ r next
+    loop-again e next k =
         record {
-          at-is = refl;
+          kind-is = k;
           row-is = row-again s deep kind z t m rows says (l .lent) k5 r m′ rows′ lm lr done ∙ l .row-is;
           same-scratch = e ∙ l .same-scratch;
           marks-long = lm ∙ l .marks-long;

@@ -57,24 +57,24 @@ pub record OnTurn (s : List ℕ) (from row : ℕ) (m rows₀ : List ℕ) (n : �
   pub same-end : n + size left ≡ from + size b
   pub same-rows : (i : ℕ) → i < length rows₀ → getD rows i 0 + onGain m n row left i ≡ getD rows₀ i 0 + onGain m from row b i
 
-pub record OnLoop (s : List ℕ) (from row deep : ℕ) (m rows₀ : List ℕ) (n : ℕ) (rows : List ℕ) : Type 0 where
+pub record OnLoop (s : List ℕ) (from row deep : ℕ) (m rows₀ : List ℕ) (n kind : ℕ) (rows : List ℕ) : Type 0 where
+  pub kind-is : kind ≡ kindAt s n
   pub rows-long : length rows ≡ length rows₀
   pub lent : OnLent s n row deep m rows
   pub turns : (b : Body) → Stands s from (linesOf b) → OnTurn s from row m rows₀ n rows b
 
-pub loop-start : {s : List ℕ} {from row deep : ℕ} {m rows : List ℕ} → OnLent s from row deep m rows → OnLoop s from row deep m rows from rows
-loop-start l = record { rows-long = refl; lent = l; turns = λ b h. record { left = b; stands = h; same-end = refl; same-rows = λ i q. refl } }
+pub loop-start : {s : List ℕ} {from row deep : ℕ} {m rows : List ℕ} → OnLent s from row deep m rows → (kind : ℕ) → kind ≡ kindAt s from → OnLoop s from row deep m rows from kind rows
+loop-start l kind k = record { kind-is = k; rows-long = refl; lent = l; turns = λ b h. record { left = b; stands = h; same-end = refl; same-rows = λ i q. refl } }
 
--- kind was read at line n
-module _ {s : List ℕ} {from row deep : ℕ} {m rows₀ : List ℕ} {n : ℕ} {rows : List ℕ} (x : OnLoop s from row deep m rows₀ n rows) (kind : ℕ) (reads : kind ≡ kindAt s n) where
+module _ {s : List ℕ} {from row deep : ℕ} {m rows₀ : List ℕ} {n kind : ℕ} {rows : List ℕ} (x : OnLoop s from row deep m rows₀ n kind rows) where
   abbrev l : OnLent s n row deep m rows
   l = x .lent
 
   says : Says kindOf s n kind
-  says = kind-says s n n kind refl reads
+  says = kind-says s n n kind refl (x .kind-is)
 
-  pub loop-asks : (kind ≡ 5 → ⊥) → OnItemAsks s n row deep m rows
-  loop-asks k5 = record { lent = l; more = is-more s n kind says (l .body) (l .stands) k5 }
+  pub loop-asks : (kind ≡ 5 → ⊥) → OnItemAsks s kind n row deep m rows
+  loop-asks k5 = record { lent = l; kind-is = x .kind-is; more = is-more s n kind says (l .body) (l .stands) k5 }
 
   -- an item was read: the next line is r
   module _ (k5 : kind ≡ 5 → ⊥) (r : ℕ) (rows′ : List ℕ) (len : length rows′ ≡ length rows) (done : OnItemLeaves s n row m rows r rows′) where
@@ -87,10 +87,11 @@ module _ {s : List ℕ} {from row deep : ℕ} {m rows₀ : List ℕ} {n : ℕ} {
     pub loop-less : 65536 - r < 65536 - n
     loop-less = omega (arith, left .0, item-some (l .body) more, l .ends, size-some (l .body))
 
-    pub loop-again : OnLoop s from row deep m rows₀ r rows′
-    loop-again =
+    pub loop-again : (next : ℕ) → next ≡ kindAt s r → OnLoop s from row deep m rows₀ r next rows′
+    loop-again next k =
         let b = l .body in
         record {
+          kind-is = k;
           rows-long = len ∙ x .rows-long;
           lent =
               subst (λ (j : ℕ). OnLent s j row deep m rows′) (sym (left .0))
@@ -131,7 +132,7 @@ module _ {s : List ℕ} {from row deep : ℕ} {m rows₀ : List ℕ} {n : ℕ} {
       let e = is-done s n kind says (u .left) (u .stands) k5 in
       (omega (arith, u .same-end, ap size e), λ i q. omega (arith, u .same-rows i q, ap (λ (y : Body). onGain m n row y i) e))
 
--- the item reader, where kind was read
+-- the item reader
 module _ {s : List ℕ} {row deep : ℕ} {m : List ℕ} {n : ℕ} {rows : List ℕ} (l : OnLent s n row deep m rows) where
   pub line-fits : n + 1 < 2 ^ 64
   line-fits = omega (arith, l .ends, size-some (l .body))
@@ -139,81 +140,81 @@ module _ {s : List ℕ} {row deep : ℕ} {m : List ℕ} {n : ℕ} {rows : List �
   pub mark-in : n < length m
   mark-in = omega (arith, l .lines, lines-in s (l .body) n (l .stands), size-some (l .body))
 
-  module _ (kind : ℕ) (reads : kind ≡ kindAt s n) where
-    says-so : Says kindOf s n kind
-    says-so = kind-says s n n kind refl reads
-
-    pub sync-leaves : kind ≡ 4 → OnItemLeaves s n row m rows (n + 1) rows
-    sync-leaves k4 b more h =
-        let q = is-sync s n kind says-so b h k4 in
-        subst (λ (x : Body). (n + 1 ≡ n + itemSize x) × ((i : ℕ) → i < length rows → getD rows i 0 ≡ getD rows i 0 + onItem m n row x i)) (sym (q .1)) (refl, λ i l. omega arith)
-
-    -- a cost of v
-    module _ (k6 : kind ≡ 6) (v : ℕ) (value : v ≡ valueAt s n) where
-      spend-is : (b : Body) → Stands s n (linesOf b) → (r : Body) × (b ≡ spend v r)
-      spend-is = cost-is s n kind says-so v (value-says s n n v refl value) k6
-
-      pub add-asks : (columns * row + 4 < length rows) × (getD rows (columns * row + 4) 0 + marked (getD m n 0) v < 2 ^ 64)
-      add-asks =
-          let q = spend-is (l .body) (l .stands) in
-          (omega (arith, l .row-in, l .rows-long), omega (arith, l .fits row (l .row-in), ap (λ (x : Body). onGain m n row x (columns * row + 4)) (q .1), one-same (columns * row + 4) (marked (getD m n 0) v)))
-
-      pub cost-leaves : (rows′ : List ℕ) → Grown rows (one (columns * row + 4) (marked (getD m n 0) v)) rows′ → OnItemLeaves s n row m rows (n + 1) rows′
-      cost-leaves rows′ grown b more h =
-          let q = spend-is b h in
-          subst (λ (x : Body). (n + 1 ≡ n + itemSize x) × ((i : ℕ) → i < length rows → getD rows′ i 0 ≡ getD rows i 0 + onItem m n row x i)) (sym (q .1)) (refl, grown)
-
--- a call or a spawn of site
-module _ {s : List ℕ} {row deep : ℕ} {m : List ℕ} {n : ℕ} {rows : List ℕ} (a : OnItemAsks s n row deep m rows) (kind site : ℕ) (reads : kind ≡ kindAt s n) (sited : site ≡ siteAt s n) (k6 : kind ≡ 6 → ⊥) (k4 : kind ≡ 4 → ⊥) where
+module _ {s : List ℕ} {kind row deep : ℕ} {m : List ℕ} {n : ℕ} {rows : List ℕ} (a : OnItemAsks s kind n row deep m rows) where
   abbrev y : OnLent s n row deep m rows
   y = a .lent
 
-  child-of : (b : Body) → Stands s n (linesOf b) → More b → Child s n site b
-  child-of = child-is s n kind site (kind-says s n n kind refl reads) (site-says s n n site refl sited) k6 k4
+  kind-so : Says kindOf s n kind
+  kind-so = kind-says s n n kind refl (a .kind-is)
 
-  abbrev child : Child s n site (y .body)
-  child = child-of (y .body) (y .stands) (a .more)
+  pub sync-leaves : kind ≡ 4 → OnItemLeaves s n row m rows (n + 1) rows
+  sync-leaves k4 b more h =
+      let q = is-sync s n kind kind-so b h k4 in
+      subst (λ (x : Body). (n + 1 ≡ n + itemSize x) × ((i : ℕ) → i < length rows → getD rows i 0 ≡ getD rows i 0 + onItem m n row x i)) (sym (q .1)) (refl, λ i l. omega arith)
 
-  in-it : (site ≤ y .sites) × (suc (y .d) ≤ y .D) × Within (y .sites) (y .D) (suc (y .d)) (child .g) × (1 + size (child .g) ≤ size (y .body))
-  in-it = within-child s n site (y .sites) (y .D) (y .d) (y .body) child (y .within)
+  -- a cost of v
+  module _ (k6 : kind ≡ 6) (v : ℕ) (value : v ≡ valueAt s n) where
+    spend-is : (b : Body) → Stands s n (linesOf b) → (r : Body) × (b ≡ spend v r)
+    spend-is = cost-is s n kind kind-so v (value-says s n n v refl value) k6
 
-  gains : (i : ℕ) → onGain m (n + 1) site (child .g) i ≤ onGain m n row (y .body) i
-  gains i = go (child .is)
-    where
-      go : ((y .body ≡ call site (child .g) (child .r)) ⊎ (y .body ≡ spawn site (child .g) (child .r))) → onGain m (n + 1) site (child .g) i ≤ onGain m n row (y .body) i
-      go (inl e) = omega (arith, ap (λ (x : Body). onGain m n row x i) e)
-      go (inr e) = omega (arith, ap (λ (x : Body). onGain m n row x i) e)
+    pub add-asks : (columns * row + 4 < length rows) × (getD rows (columns * row + 4) 0 + marked (getD m n 0) v < 2 ^ 64)
+    add-asks =
+        let q = spend-is (y .body) (y .stands) in
+        (omega (arith, y .row-in, y .rows-long), omega (arith, y .fits row (y .row-in), ap (λ (x : Body). onGain m n row x (columns * row + 4)) (q .1), one-same (columns * row + 4) (marked (getD m n 0) v)))
 
-  pub deeper : 1 ≤ deep
-  deeper = omega (arith, in-it .1, y .depth)
+    pub cost-leaves : (rows′ : List ℕ) → Grown rows (one (columns * row + 4) (marked (getD m n 0) v)) rows′ → OnItemLeaves s n row m rows (n + 1) rows′
+    cost-leaves rows′ grown b more h =
+        let q = spend-is b h in
+        subst (λ (x : Body). (n + 1 ≡ n + itemSize x) × ((i : ℕ) → i < length rows → getD rows′ i 0 ≡ getD rows i 0 + onItem m n row x i)) (sym (q .1)) (refl, grown)
 
-  pub body-asks : OnLent s (n + 1) site (deep - 1) m rows
-  body-asks =
-      record {
-        sites = y .sites;
-        body = child .g;
-        stands = child .stands;
-        D = y .D;
-        d = suc (y .d);
-        within = in-it .2;
-        depth = omega (arith, y .depth, deeper);
-        row-in = in-it .0;
-        rows-long = y .rows-long;
-        lines = y .lines;
-        ends = omega (arith, y .ends, in-it .3);
-        fits = λ j q. omega (arith, y .fits j q, gains (columns * j + 4));
-      }
+  -- a call or a spawn of site
+  module _ (site : ℕ) (sited : site ≡ siteAt s n) (k6 : kind ≡ 6 → ⊥) (k4 : kind ≡ 4 → ⊥) where
+    child-of : (b : Body) → Stands s n (linesOf b) → More b → Child s n site b
+    child-of = child-is s n kind site kind-so (site-says s n n site refl sited) k6 k4
 
-  pub child-leaves : (r : ℕ) (rows′ : List ℕ) → OnBodyLeaves s (n + 1) site m rows r rows′ → OnItemLeaves s n row m rows r rows′
-  child-leaves r rows′ left b more h = go (c .is)
-    where
-      c : Child s n site b
-      c = child-of b h more
+    abbrev child : Child s n site (y .body)
+    child = child-of (y .body) (y .stands) (a .more)
 
-      go : ((b ≡ call site (c .g) (c .r)) ⊎ (b ≡ spawn site (c .g) (c .r))) → (r ≡ n + itemSize b) × ((i : ℕ) → i < length rows → getD rows′ i 0 ≡ getD rows i 0 + onItem m n row b i)
-      go (inl e) =
-          let d = left (c .g) (c .stands) in
-          (omega (arith, d .0, ap itemSize e), λ i q. omega (arith, d .1 i q, ap (λ (x : Body). onItem m n row x i) e))
-      go (inr e) =
-          let d = left (c .g) (c .stands) in
-          (omega (arith, d .0, ap itemSize e), λ i q. omega (arith, d .1 i q, ap (λ (x : Body). onItem m n row x i) e))
+    in-it : (site ≤ y .sites) × (suc (y .d) ≤ y .D) × Within (y .sites) (y .D) (suc (y .d)) (child .g) × (1 + size (child .g) ≤ size (y .body))
+    in-it = within-child s n site (y .sites) (y .D) (y .d) (y .body) child (y .within)
+
+    gains : (i : ℕ) → onGain m (n + 1) site (child .g) i ≤ onGain m n row (y .body) i
+    gains i = go (child .is)
+      where
+        go : ((y .body ≡ call site (child .g) (child .r)) ⊎ (y .body ≡ spawn site (child .g) (child .r))) → onGain m (n + 1) site (child .g) i ≤ onGain m n row (y .body) i
+        go (inl e) = omega (arith, ap (λ (x : Body). onGain m n row x i) e)
+        go (inr e) = omega (arith, ap (λ (x : Body). onGain m n row x i) e)
+
+    pub deeper : 1 ≤ deep
+    deeper = omega (arith, in-it .1, y .depth)
+
+    pub body-asks : OnLent s (n + 1) site (deep - 1) m rows
+    body-asks =
+        record {
+          sites = y .sites;
+          body = child .g;
+          stands = child .stands;
+          D = y .D;
+          d = suc (y .d);
+          within = in-it .2;
+          depth = omega (arith, y .depth, deeper);
+          row-in = in-it .0;
+          rows-long = y .rows-long;
+          lines = y .lines;
+          ends = omega (arith, y .ends, in-it .3);
+          fits = λ j q. omega (arith, y .fits j q, gains (columns * j + 4));
+        }
+
+    pub child-leaves : (r : ℕ) (rows′ : List ℕ) → OnBodyLeaves s (n + 1) site m rows r rows′ → OnItemLeaves s n row m rows r rows′
+    child-leaves r rows′ left b more h = go (c .is)
+      where
+        c : Child s n site b
+        c = child-of b h more
+
+        go : ((b ≡ call site (c .g) (c .r)) ⊎ (b ≡ spawn site (c .g) (c .r))) → (r ≡ n + itemSize b) × ((i : ℕ) → i < length rows → getD rows′ i 0 ≡ getD rows i 0 + onItem m n row b i)
+        go (inl e) =
+            let d = left (c .g) (c .stands) in
+            (omega (arith, d .0, ap itemSize e), λ i q. omega (arith, d .1 i q, ap (λ (x : Body). onItem m n row x i) e))
+        go (inr e) =
+            let d = left (c .g) (c .stands) in
+            (omega (arith, d .0, ap itemSize e), λ i q. omega (arith, d .1 i q, ap (λ (x : Body). onItem m n row x i) e))

@@ -70,26 +70,25 @@ module _ {s : List ℕ} {deep : ℕ} {z : Zones} {t m rows : List ℕ} (l : Lent
 
 -- the item is a cost of v
 pub record Costs (s : List ℕ) (deep : ℕ) (z : Zones) (t m rows : List ℕ) (kind v : ℕ) : Type 0 where
-  pub lent : Lent s deep z t m rows
-  pub kind-is : kind ≡ kindAt s (z .own .at)
+  pub asks : ItemAsks s kind deep z t m rows
   pub value-is : v ≡ valueAt s (z .own .at)
   pub cost : kind ≡ 6
 
 module _ {s : List ℕ} {deep : ℕ} {z : Zones} {t m rows : List ℕ} {kind v : ℕ} (h : Costs s deep z t m rows kind v) where
   spend-is : (b : Body) → Stands s (z .own .at) (linesOf b) → (r : Body) × (b ≡ spend v r)
-  spend-is = cost-is s (z .own .at) kind (kind-says s (z .own .at) (z .own .at) kind refl (h .kind-is)) v (value-says s (z .own .at) (z .own .at) v refl (h .value-is)) (h .cost)
+  spend-is = cost-is s (z .own .at) kind (kind-says s (z .own .at) (z .own .at) kind refl (h .asks .kind-is)) v (value-says s (z .own .at) (z .own .at) v refl (h .value-is)) (h .cost)
 
   fit : ((columns * z .row + 3 < length rows) × (getD rows (columns * z .row + 3) 0 + v < 2 ^ 64)) × ((z .own .work + v < 2 ^ 64) × (z .own .prefix + (z .own .longest + z .own .since) + v < 2 ^ 64))
   fit =
-      let y = h .lent .ready in
+      let y = h .asks .lent .ready in
       let q = spend-is (y .body) (y .stands) in
-      cost-fits s (z .row) (h .lent .sites) deep (z .own) rows y v (q .0) (q .1)
+      cost-fits s (z .row) (h .asks .lent .sites) deep (z .own) rows y v (q .0) (q .1)
 
   pub rows-asks : (columns * z .row + 3 < length rows) × (getD rows (columns * z .row + 3) 0 + v < 2 ^ 64)
   rows-asks = fit .0
 
   pub spend-asks : Fits m z v × (z .own .work + v < 2 ^ 64)
-  spend-asks = (step-asks (h .lent) v m refl (fit .1 .1), fit .1 .0)
+  spend-asks = (step-asks (h .asks .lent) v m refl (fit .1 .1), fit .1 .0)
 
   pub cost-leaves : (r : Zones) (m′ rows′ : List ℕ) → Grown rows (one (columns * z .row + 3) v) rows′ → Spent v m z r m′ → ItemLeaves s z m rows r m′ rows′
   cost-leaves r m′ rows′ grown sp b n k more st e sh =
@@ -100,8 +99,7 @@ module _ {s : List ℕ} {deep : ℕ} {z : Zones} {t m rows : List ℕ} {kind v :
 
 -- the item is a call or a spawn of site
 pub record Calls (s : List ℕ) (deep : ℕ) (z : Zones) (t m rows : List ℕ) (kind site : ℕ) : Type 0 where
-  pub asks : ItemAsks s deep z t m rows
-  pub kind-is : kind ≡ kindAt s (z .own .at)
+  pub asks : ItemAsks s kind deep z t m rows
   pub site-is : site ≡ siteAt s (z .own .at)
   pub no-cost : kind ≡ 6 → ⊥
   pub no-sync : kind ≡ 4 → ⊥
@@ -111,7 +109,7 @@ module _ {s : List ℕ} {deep : ℕ} {z : Zones} {t m rows : List ℕ} {kind sit
   l = h .asks .lent
 
   says : Says kindOf s (z .own .at) kind
-  says = kind-says s (z .own .at) (z .own .at) kind refl (h .kind-is)
+  says = kind-says s (z .own .at) (z .own .at) kind refl (h .asks .kind-is)
 
   sited : Says siteOf s (z .own .at) site
   sited = site-says s (z .own .at) (z .own .at) site refl (h .site-is)

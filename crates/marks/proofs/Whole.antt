@@ -12,17 +12,18 @@ use Rattle.trace.specs.declared.Answer.the-variants.{Accepted, Refused}
 use Rattle.trace.specs.Shape.{has, sites}
 use Rattle.trace.specs.Rows.{columns}
 use Rattle.trace.specs.Refusals.{accepted, refused, verdict}
-use Rattle.trace.specs.Promise.{marks, Lent, enough, Profile, Promise}
+use Rattle.trace.specs.Promise.{marks, Lent, enough, scratchRoom, rowsRoom, marksRoom, Profile, Promise}
 use Rattle.trace.specs.ByTree.{cell, ProfileBy}
-use Rattle.trace.specs.Tree.{Body, size, Within, Parts, workOf, spanOf}
+use Rattle.trace.specs.Tree.{Body, linesOf, size, Within, Parts, workOf, spanOf}
 use Rattle.trace.specs.Fold.{nothing, chainOf, onRow, linesIn}
 use Rattle.trace.proofs.Basics.{clash}
-use Rattle.trace.proofs.Scan.{accepted-is}
+use Rattle.trace.proofs.Scan.{Fine, accepted-is}
 use Rattle.trace.proofs.Outcome.{tree-profile, work-small}
 use Rattle.admit.specs.declared.Verdict.the-variants as Verdict
 use Rattle.admit.specs.Answer.{admission}
 use Rattle.admit.proofs.Admitted.{refused-only, accepted-only}
 use Rattle.walk.specs.declared.Open.{Open}
+use Rattle.walk.specs.Stands.{Stands}
 use Rattle.walk.specs.Gain.{counted, Grown}
 use Rattle.walk.proofs.Root.{tree, first-line, last-line}
 use Rattle.walk.proofs.Room.{lines-in}
@@ -49,6 +50,15 @@ module _ {s : List ℕ} {D M : ℕ} {x : Lent} {count lines : ℕ} (a : Admitted
   abbrev rows₀ : List ℕ
   rows₀ = cleared marks s D M x t (a .is) count (a .count-is)
 
+  abbrev good : Fine D M t
+  good = fine marks s D M x t (a .is) count (a .count-is)
+
+  here : Stands s count (linesOf b)
+  here = stands marks s D M x t (a .is) count (a .count-is)
+
+  long : (scratchRoom marks D M ≤ length (x .scratch)) × (rowsRoom M ≤ length (x .rows)) × (marksRoom marks s ≤ length (x .marks))
+  long = rooms marks s D M x t (a .is) count (a .count-is)
+
   pub bounds : (1 ≤ D) × (D ≤ 64) × (M ≤ 255) × (count ≤ M)
   bounds = limits marks s D M x t (a .is) count (a .count-is)
 
@@ -56,17 +66,17 @@ module _ {s : List ℕ} {D M : ℕ} {x : Lent} {count lines : ℕ} (a : Admitted
   rows-in = rows-room marks s D M x t (a .is) count (a .count-is)
 
   lines-are : lines ≡ count + size b
-  lines-are = omega (arith, a .lines-is, last-line D M t (fine marks s D M x t (a .is) count (a .count-is)), a .count-is)
+  lines-are = omega (arith, a .lines-is, last-line D M t good, a .count-is)
 
   -- each line of the text has a mark
   text-in : length s ≤ 23 * length (x .marks)
   text-in =
-      let r = rooms marks s D M x t (a .is) count (a .count-is) .2 in
+      let r = long .2 in
       let w = accepted-is s D M (enough marks s D M x) t (a .is) .1 .whole-lines in
       omega arith
 
   pub marks-in : count ≤ length (x .marks)
-  marks-in = omega (arith, text-in, lines-in s b count (stands marks s D M x t (a .is) count (a .count-is)))
+  marks-in = omega (arith, text-in, lines-in s b count here)
 
   -- the first reading, on a cleared scratch and cleared rows
   pub body-asks : (t₁ m₁ r₁ : List ℕ) → t₁ ≡ replicate (length (x .scratch)) 0 → length m₁ ≡ length (x .marks) → r₁ ≡ rows₀ → ((i : ℕ) → getD (x .rows) i 0 < 2 ^ 64) → BodyAsks s count 0 (D - 1) t₁ m₁ r₁
@@ -77,7 +87,7 @@ module _ {s : List ℕ} {D M : ℕ} {x : Lent} {count lines : ℕ} (a : Admitted
         ready = ready marks s D M x t (a .is) count (a .count-is) fits;
         lines = omega (arith, text-in, em);
         zero = λ j. ap (λ (y : List ℕ). getD y j 0) et ∙ zeros-at (length (x .scratch)) j;
-        room = omega (arith, rooms marks s D M x t (a .is) count (a .count-is) .0, bounds .0, ap length et, length-replicate {A = ℕ} (length (x .scratch)) 0);
+        room = omega (arith, long .0, bounds .0, ap length et, length-replicate {A = ℕ} (length (x .scratch)) 0);
         n = count;
         k = nothing;
         weighs = refl;
@@ -88,7 +98,7 @@ module _ {s : List ℕ} {D M : ℕ} {x : Lent} {count lines : ℕ} (a : Admitted
   module _ (m₁ : List ℕ) (sites-off : Wiped 0 count (x .marks) m₁) (r₁ : List ℕ) (er : r₁ ≡ rows₀) (c : Open) (m₂ rows₁ : List ℕ) (lm : length m₂ ≡ length (x .marks)) (lr : length rows₁ ≡ length (x .rows))
       (leaves : BodyLeaves s count 0 m₁ r₁ c m₂ rows₁) where
     left : BodyLeft count 0 b m₁ rows₀ c m₂ rows₁
-    left = subst (λ (y : List ℕ). BodyLeft count 0 b m₁ y c m₂ rows₁) er (leaves b (stands marks s D M x t (a .is) count (a .count-is)))
+    left = subst (λ (y : List ℕ). BodyLeft count 0 b m₁ y c m₂ rows₁) er (leaves b here)
 
     at-is : c .at ≡ count + size b
     at-is = ap (λ (y : Open). y .at) (left .done .numbers-are)
@@ -99,10 +109,10 @@ module _ {s : List ℕ} {D M : ℕ} {x : Lent} {count lines : ℕ} (a : Admitted
     -- the root was counted
     module _ (rows₂ : List ℕ) (lr₂ : length rows₂ ≡ length (x .rows)) (counts : Grown rows₁ (counted 0 (c .work) (c .prefix)) rows₂) where
       abbrev p : Parts D t
-      p = tree D M t (fine marks s D M x t (a .is) count (a .count-is))
+      p = tree D M t good
 
       heads : length (p .heads) ≡ count
-      heads = first-line D M t (fine marks s D M x t (a .is) count (a .count-is)) ∙ a .count-is
+      heads = first-line D M t good ∙ a .count-is
 
       within : Within count D 1 b
       within = subst (λ (k : ℕ). Within k D 1 b) heads (p .within)
@@ -112,7 +122,7 @@ module _ {s : List ℕ} {D M : ℕ} {x : Lent} {count lines : ℕ} (a : Admitted
           record {
             sites = count;
             body = b;
-            stands = stands marks s D M x t (a .is) count (a .count-is);
+            stands = here;
             D = D;
             d = 1;
             within = within;
@@ -120,13 +130,13 @@ module _ {s : List ℕ} {D M : ℕ} {x : Lent} {count lines : ℕ} (a : Admitted
             row-in = omega arith;
             rows-long = omega (arith, lr₂, rows-in);
             lines = omega (arith, text-in, lm);
-            ends = omega (arith, lines-are, a .lines-is, fine marks s D M x t (a .is) count (a .count-is) .lines-most);
+            ends = omega (arith, lines-are, a .lines-is, good .lines-most);
             fits = λ j l.
                 omega (
                   arith,
                   none-on marks s D M x t (a .is) count (a .count-is) c rows₁ lr (left .done) rows₂ counts j l,
                   on-le m₂ (columns * j + 4) b count 0,
-                  work-small D t p M (fine marks s D M x t (a .is) count (a .count-is)),
+                  work-small D t p M good,
                 );
           }
 
@@ -136,7 +146,7 @@ module _ {s : List ℕ} {D M : ℕ} {x : Lent} {count lines : ℕ} (a : Admitted
         answer = Accepted (c .work) (c .prefix) count lines
 
         grown : (i : ℕ) → i < length (x .rows) → getD rows₃ i 0 ≡ getD rows₂ i 0 + onGain m₂ count 0 b i
-        grown i l = on b (stands marks s D M x t (a .is) count (a .count-is)) .1 i (omega (arith, lr₂))
+        grown i l = on b here .1 i (omega (arith, lr₂))
 
         shown : (i : ℕ) → count ≤ i → i < count + size b → getD m₂ i 0 ≡ cond (has i (linesIn (chainOf count 0 b))) 1 0
         shown i l r = left .zone .marks-are i l (omega (arith, at-is))

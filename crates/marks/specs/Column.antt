@@ -5,6 +5,7 @@ use mathlib.Core.Bool.{cond}
 use mathlib.Core.List.{List}
 use lib.Dec.{eqb}
 use lib.ListN.{length, getD}
+use Rattle.line.specs.At.{kindAt}
 use Rattle.trace.specs.Rows.{columns}
 use Rattle.trace.specs.Tree.{Body, done, spend, sync, call, spawn, linesOf, size, Within}
 use Rattle.walk.specs.Stands.{Stands}
@@ -47,9 +48,10 @@ pub record OnLent (s : List ℕ) (n row deep : ℕ) (m rows : List ℕ) : Type 0
   pub ends : n + size body ≤ 65536
   pub fits : (j : ℕ) → j ≤ sites → getD rows (columns * j + 4) 0 + onGain m n row body (columns * j + 4) < 2 ^ 64
 
--- the item reader: there is an item
-pub record OnItemAsks (s : List ℕ) (n row deep : ℕ) (m rows : List ℕ) : Type 0 where
+-- the item reader: there is an item, whose first line is of this kind
+pub record OnItemAsks (s : List ℕ) (kind n row deep : ℕ) (m rows : List ℕ) : Type 0 where
   pub lent : OnLent s n row deep m rows
+  pub kind-is : kind ≡ kindAt s n
   pub more : More (lent .body)
 
 -- the next line, and the rows, whatever body stands here

@@ -3,6 +3,7 @@ use Prim.Native.Nat.{ℕ, _+_, _*_, _≤_}
 use mathlib.Core.Path.{_≡_}
 use mathlib.Core.List.{List}
 use lib.ListN.{length}
+use Rattle.line.specs.At.{kindAt}
 use Rattle.trace.specs.Tree.{Body, linesOf}
 use Rattle.trace.specs.Fold.{Chains, nothing, run}
 use Rattle.walk.specs.declared.Open.{Open}
@@ -26,9 +27,10 @@ pub record Lent (s : List ℕ) (deep : ℕ) (z : Zones) (t m rows : List ℕ) : 
   pub weighs : z .own ≡ numbers (z .own .at) (z .own .work) k
   pub shows : Shows n m z k
 
--- the item reader: there is an item
-pub record ItemAsks (s : List ℕ) (deep : ℕ) (z : Zones) (t m rows : List ℕ) : Type 0 where
+-- the item reader: there is an item, whose first line is of this kind
+pub record ItemAsks (s : List ℕ) (kind deep : ℕ) (z : Zones) (t m rows : List ℕ) : Type 0 where
   pub lent : Lent s deep z t m rows
+  pub kind-is : kind ≡ kindAt s (z .own .at)
   pub more : More (lent .ready .body)
 
 -- behind the first item of b, of an invocation that began at line n and has come to the chains k

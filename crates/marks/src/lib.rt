@@ -14,11 +14,11 @@ ghost use Rattle.marks.specs.Column.{marked, OnLent, OnItemAsks, OnItemL
 ghost use Rattle.marks.specs.Root.{lent, Admitted};
 
 // An open invocation: its numbers, its row, and the lines at which the zones of its longest child and of its continuation begin.
-pub struct Zones {
-    pub own: walk::Open,
-    pub row: usize,
-    pub child: usize,
-    pub after: usize,
+struct Zones {
+    own: walk::Open,
+    row: usize,
+    child: usize,
+    after: usize,
 }
 
 impl Zones {
@@ -197,30 +197,30 @@ fn body(
     ensures { λ _. ⌜ now (t .exit) ≡ now (t .entry) ⌝ }
 {
     let mut z = Zones::prefix(walk::Open::new(from), row);
-    let mut at = from;
-    while line::kind_at(trace, at) != 5 {
-        z = item(trace, z, deep, t, marks, rows);
-        at = z.own.at;
+    let mut kind = line::kind_at(trace, from);
+    while kind != 5 {
+        z = item(trace, kind, z, deep, t, marks, rows);
+        kind = line::kind_at(trace, z.own.at);
     }
     let end = join(marks, z);
     end.own
 }
 
-// Reads one item, with the whole body of a call or a spawn.
+// Reads one item, whose first line is of this kind, with the whole body of a call or a spawn.
 fn item(
     trace: &[u8],
+    kind: u8,
     z: Zones,
     deep: usize,
     t: &mut [u64],
     marks: &mut [u8],
     rows: &mut [u64],
 ) -> Zones
-    requires { ⌜ ItemAsks (now trace) deep z (now t) (now marks) (now rows) ⌝ }
+    requires { ⌜ ItemAsks (now trace) kind deep z (now t) (now marks) (now rows) ⌝ }
     ensures { λ r. ⌜ ItemLeaves (now (trace .entry)) z (now (marks .entry)) (now (rows .entry)) r (now (marks .exit)) (now (rows .exit)) ⌝ }
     ensures { λ _. ⌜ now (t .exit) ≡ now (t .entry) ⌝ }
 {
     let at = z.own.at;
-    let kind = line::kind_at(trace, at);
     if kind == 6 {
         let v = line::value_at(trace, at) as u64;
         walk::spend(rows, z.row, v);
@@ -264,25 +264,27 @@ fn on_body(
     ensures { λ r. ⌜ OnBodyLeaves (now (trace .entry)) from row (now (marks .entry)) (now (rows .entry)) r (now (rows .exit)) ⌝ }
 {
     let mut at = from;
-    while line::kind_at(trace, at) != 5 {
-        at = on_item(trace, at, row, deep, marks, rows);
+    let mut kind = line::kind_at(trace, from);
+    while kind != 5 {
+        at = on_item(trace, kind, at, row, deep, marks, rows);
+        kind = line::kind_at(trace, at);
     }
     at + 1
 }
 
-// Reads one item once more, with the whole body of a call or a spawn.
+// Reads one item once more, whose first line is of this kind, with the whole body of a call or a spawn.
 fn on_item(
     trace: &[u8],
+    kind: u8,
     at: usize,
     row: usize,
     deep: usize,
     marks: &[u8],
     rows: &mut [u64],
 ) -> usize
-    requires { ⌜ OnItemAsks (now trace) at row deep (now marks) (now rows) ⌝ }
+    requires { ⌜ OnItemAsks (now trace) kind at row deep (now marks) (now rows) ⌝ }
     ensures { λ r. ⌜ OnItemLeaves (now (trace .entry)) at row (now (marks .entry)) (now (rows .entry)) r (now (rows .exit)) ⌝ }
 {
-    let kind = line::kind_at(trace, at);
     if kind == 6 {
         add_marked(rows, row, line::value_at(trace, at) as u64, marks[at]);
         return at + 1;

@@ -11,24 +11,11 @@ use borrow.Author.Tests.{lt-ltb, le-ltb, eqb-true, eqb-false}
 use Rattle.chain.specs.Plan.{CostLine, weight, choose}
 use Rattle.chain.proofs.Choose.{choose-left, choose-right}
 use Rattle.trace.specs.Fold.{costAt, Chains, spent, joined, called, spawned, onRow}
+use Rattle.trace.proofs.OnChain.{row-append, row-le}
 use Rattle.walk.specs.declared.Open.{Open}
 use Rattle.walk.specs.Numbers.{numbers, spentN, joinedN, calledN, spawnedN, load}
 use Rattle.walk.proofs.Numbers.{spent-numbers, joined-numbers, called-numbers, spawned-numbers}
 use Rattle.tables.specs.Blocks.{Out, Added, Cleared, Table, Shows, Asks, Spent, Joined, Called, Spawned}
-
-cond-le : (b : Bool) (v : ℕ) → cond b v 0 ≤ v
-cond-le true v = omega arith
-cond-le false v = omega arith
-
--- no number of a table is above the chain's weight
-pub row-le : (i : ℕ) (c : List CostLine) → onRow i c ≤ weight c
-row-le i [] = omega arith
-row-le i (x ∷ c) = omega (arith, cond-le (eqb (x .row) i) (x .value), row-le i c)
-
--- the table of two chains, one behind the other, is the sum of their tables
-pub row-append : (i : ℕ) (a b : List CostLine) → onRow i (a ++ b) ≡ onRow i a + onRow i b
-row-append i [] b = omega arith
-row-append i (x ∷ a) b = omega (arith, row-append i a b)
 
 -- a table elsewhere is kept
 kept : (t t′ : List ℕ) (a w : ℕ) (c : List CostLine) → ((i : ℕ) → i < w → getD t′ (a + i) 0 ≡ getD t (a + i) 0) → Table t a w c → Table t′ a w c

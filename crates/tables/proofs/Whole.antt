@@ -1,45 +1,37 @@
 -- From acceptance to the promise: the root's room, and what its reading comes to.
 use mathlib.Core.Path.{_≡_, refl, ap, _∙_, sym, subst}
-use mathlib.Core.Bool.{Bool, true, false, _&&_}
-use mathlib.Core.List.{List, [], _∷_, _++_, append-nil}
-use Prim.Native.Nat.{ℕ, zero, suc, _+_, _*_, _-_, _^_, _≤_, _<_}
+use mathlib.Core.List.{List, [], _++_}
+use Prim.Native.Nat.{ℕ, suc, _+_, _*_, _-_, _^_, _≤_, _<_}
 use native.Mathlib.Nat.{suc-mul, mul-comm, mul-assoc}
 use native.Mathlib.Decide.{decLt}
 use native.Mathlib.Omega.{arith}
-use lib.Dec.{leb}
-use lib.ListN.{length, getD, drop, replicate, length-append, length-drop, length-replicate, getD-replicate, List·getD-eq-default, List·getD-append}
-use lib.Seq.{ext-getD, getD-append-add, getD-drop, drop-length}
-use borrow.Author.Tests.{leb-true}
+use lib.ListN.{length, getD, drop, replicate, length-replicate, List·getD-eq-default}
+use lib.Seq.{ext-getD}
 use Rattle.line.specs.declared.Frame.{Frame}
-use Rattle.chain.specs.Plan.{CostLine, weight}
 use Rattle.trace.specs.declared.Answer.{Answer}
 use Rattle.trace.specs.declared.Answer.the-variants.{Accepted, Refused}
-use Rattle.trace.specs.Shape.{root, sites}
-use Rattle.trace.specs.Series.{Span, Chosen}
-use Rattle.trace.specs.Rows.{columns, total, onSpan}
+use Rattle.trace.specs.Shape.{sites}
+use Rattle.trace.specs.Rows.{columns}
 use Rattle.trace.specs.Refusals.{accepted, refused, verdict}
-use Rattle.trace.specs.Promise.{Engine, tables, Lent, enough, scratchRoom, rowsRoom, marksRoom, acceptance, Row, Rows, Profile, Promise}
+use Rattle.trace.specs.Promise.{tables, enough, Profile, Promise}
 use Rattle.trace.specs.ByTree.{cell, ProfileBy}
-use Rattle.trace.specs.Tree.{Body, linesOf, size, Parts, workOf, spanOf}
-use Rattle.trace.specs.Fold.{Chains, nothing, run, chainOf, onRow, linesIn}
-use Rattle.trace.proofs.Basics.{clash, both}
-use Rattle.trace.proofs.Scan.{Fine, accepted-is, accepted-fine}
-use Rattle.trace.proofs.Recurrence.{weight-chain}
+use Rattle.trace.specs.Tree.{Body, size, workOf, spanOf}
+use Rattle.trace.specs.Fold.{nothing, run}
+use Rattle.trace.proofs.Basics.{clash}
 use Rattle.trace.proofs.Outcome.{tree-profile}
 use Rattle.admit.specs.declared.Verdict.the-variants as Verdict
 use Rattle.admit.specs.Answer.{admission}
-use Rattle.admit.proofs.Admitted.{refused-only, accepted-only, accepted-sites}
+use Rattle.admit.proofs.Admitted.{refused-only, accepted-only}
 use Rattle.walk.specs.declared.Open.{Open}
-use Rattle.walk.specs.Stands.{Stands}
-use Rattle.walk.specs.Numbers.{numbers}
-use Rattle.walk.specs.Gain.{counted, made, gain, Grown}
-use Rattle.walk.specs.Reader.{Ready, alone, BodyDone}
-use Rattle.walk.proofs.Root.{tree, first-line, last-line, whole-small, root-stands, root-ready, cells-are, behind}
-use Rattle.walk.proofs.Zeros.{zeros-at, cleared-length, cleared-front, cleared-back, cleared-all}
-use Rattle.tables.specs.Blocks.{Out, Shows}
+use Rattle.walk.specs.Gain.{counted, Grown}
+use Rattle.walk.specs.Reader.{alone, BodyDone}
+use Rattle.walk.proofs.Zeros.{zeros-at}
+use Rattle.walk.proofs.Root.{tree, first-line, last-line}
+use Rattle.walk.proofs.Accepted as root
+use Rattle.tables.specs.Blocks.{Shows}
 use Rattle.tables.specs.Reader.{BodyAsks, BodyLeaves}
-use Rattle.tables.proofs.Parts.{own-only}
 use Rattle.tables.specs.Root.{lent, Admitted, Settled}
+use Rattle.tables.proofs.Parts.{own-only}
 
 zeros-show : (n w l : ℕ) → Shows n w (replicate l 0) nothing []
 zeros-show n w l = record { P = λ i h. zeros-at l (0 + i); L = λ i h. zeros-at l (n + i); C = λ i h. zeros-at l (2 * n + i); G = λ i h. zeros-at l (4 * n + i); zero = λ j a b c d. zeros-at l j }
@@ -55,29 +47,14 @@ room-is D n l =
 
 -- what acceptance says of the limits and of the room
 module _ (s : List ℕ) (D M : ℕ) (scratch rows : List ℕ) (count lines : ℕ) (a : Admitted s D M scratch rows count lines) where
-  abbrev pub room : Bool
-  room = enough tables s D M (lent scratch rows)
-
-  pub fine : Fine D M (a .t)
-  fine = accepted-fine s D M room (a .t) (a .is)
-
-  enough-room : room ≡ true
-  enough-room = accepted-is s D M room (a .t) (a .is) .0
-
-  pub limits : (1 ≤ D) × (D ≤ 64) × (M ≤ 255)
-  limits = (fine .least, fine .most, fine .sites-most)
-
-  pub count-most : count ≤ M
-  count-most = omega (arith, accepted-sites s D M room (a .t) (a .is), a .count-is)
-
-  scratch-long : 4 * D * (M + 3) ≤ length scratch
-  scratch-long = leb-true (4 * D * (M + 3)) (length scratch) (both (leb (scratchRoom tables D M) (length scratch)) (leb (rowsRoom M) (length rows)) (both (leb (scratchRoom tables D M) (length scratch) && leb (rowsRoom M) (length rows)) true enough-room .0) .0)
-
-  rows-long : columns * (M + 1) ≤ length rows
-  rows-long = leb-true (columns * (M + 1)) (length rows) (both (leb (scratchRoom tables D M) (length scratch)) (leb (rowsRoom M) (length rows)) (both (leb (scratchRoom tables D M) (length scratch) && leb (rowsRoom M) (length rows)) true enough-room .0) .1)
+  pub limits : (1 ≤ D) × (D ≤ 64) × (M ≤ 255) × (count ≤ M)
+  limits = root.limits tables s D M (lent scratch rows) (a .t) (a .is) count (a .count-is)
 
   pub rows-room : columns * (count + 1) ≤ length rows
-  rows-room = omega (arith, rows-long, count-most)
+  rows-room = root.rows-room tables s D M (lent scratch rows) (a .t) (a .is) count (a .count-is)
+
+  scratch-long : 4 * D * (M + 3) ≤ length scratch
+  scratch-long = root.rooms tables s D M (lent scratch rows) (a .t) (a .is) count (a .count-is) .0
 
   pub table-room : 4 * (M + 3) ≤ length scratch
   table-room = omega (arith, scratch-long, room-is D (M + 3) (limits .0))
@@ -85,106 +62,59 @@ module _ (s : List ℕ) (D M : ℕ) (scratch rows : List ℕ) (count lines : ℕ
   abbrev rows₁ : List ℕ
   rows₁ = replicate (columns * (count + 1)) 0 ++ drop (columns * (count + 1)) rows
 
-  zero-there : (i : ℕ) → i < columns * (sites (a .t) + 1) → getD rows₁ i 0 ≡ 0
-  zero-there i l = cleared-front rows (columns * (count + 1)) rows-room i (omega (arith, a .count-is))
-
-  root-asks : ((i : ℕ) → getD rows i 0 < 2 ^ 64) → BodyAsks s count 0 (D - 1) (replicate (length scratch) 0) rows₁ (M + 3) (count + 1)
-  root-asks fits =
-      record {
+  -- the root's room, where it goes by these names
+  pub root-asks : (t₁ r₁ : List ℕ) → t₁ ≡ replicate (length scratch) 0 → r₁ ≡ rows₁ → ((i : ℕ) → getD rows i 0 < 2 ^ 64) → BodyAsks s count 0 (D - 1) t₁ r₁ (M + 3) (count + 1)
+  root-asks t₁ r₁ et er fits =
+      subst (λ (x : List ℕ). BodyAsks s count 0 (D - 1) x r₁ (M + 3) (count + 1)) (sym et)
+      (subst (λ (y : List ℕ). BodyAsks s count 0 (D - 1) (replicate (length scratch) 0) y (M + 3) (count + 1)) (sym er)
+      (record {
         m = sites (a .t);
-        ready =
-            subst (λ (k : ℕ). Ready s 0 (sites (a .t)) (D - 1) (numbers k 0 nothing) rows₁) (a .count-is)
-            (root-ready D M (a .t) fine s room (a .is) rows₁ (omega (arith, cleared-length rows (columns * (count + 1)) rows-room, rows-room, a .count-is)) zero-there small);
-        blocks = omega (arith, count-most);
+        ready = root.ready tables s D M (lent scratch rows) (a .t) (a .is) count (a .count-is) fits;
+        blocks = omega (arith, limits .3);
         wide = omega (arith, a .count-is);
         room = omega (arith, scratch-long, room-is D (M + 3) (limits .0), length-replicate {A = ℕ} (length scratch) 0);
         k = nothing;
         weighs = refl;
         shows = zeros-show (M + 3) (count + 1) (length scratch);
-      }
-    where
-      small : (i : ℕ) → getD rows₁ i 0 < 2 ^ 64
-      small i = go (decLt i (columns * (count + 1)))
-        where
-          go : Dec (i < columns * (count + 1)) → getD rows₁ i 0 < 2 ^ 64
-          go (yes l) = omega (arith, cleared-front rows (columns * (count + 1)) rows-room i l)
-          go (no l) = omega (arith, cleared-back rows (columns * (count + 1)) rows-room i (omega arith), fits i)
-
-  -- the same where the cleared room goes by other names
-  pub asks-so : (t₁ r₁ : List ℕ) → t₁ ≡ replicate (length scratch) 0 → r₁ ≡ rows₁ → ((i : ℕ) → getD rows i 0 < 2 ^ 64) → BodyAsks s count 0 (D - 1) t₁ r₁ (M + 3) (count + 1)
-  asks-so t₁ r₁ et er fits =
-      subst (λ (x : List ℕ). BodyAsks s count 0 (D - 1) x r₁ (M + 3) (count + 1)) (sym et) (subst (λ (y : List ℕ). BodyAsks s count 0 (D - 1) (replicate (length scratch) 0) y (M + 3) (count + 1)) (sym er) (root-asks fits))
-
-  pub leaves-so : (t₁ r₁ : List ℕ) → t₁ ≡ replicate (length scratch) 0 → r₁ ≡ rows₁ → (c : Open) (t₂ r₂ : List ℕ) → BodyLeaves s count 0 t₁ r₁ (M + 3) (count + 1) c t₂ r₂
-      → BodyLeaves s count 0 (replicate (length scratch) 0) rows₁ (M + 3) (count + 1) c t₂ r₂
-  leaves-so t₁ r₁ et er c t₂ r₂ h =
-      subst (λ (x : List ℕ). BodyLeaves s count 0 x rows₁ (M + 3) (count + 1) c t₂ r₂) et (subst (λ (y : List ℕ). BodyLeaves s count 0 t₁ y (M + 3) (count + 1) c t₂ r₂) er h)
+      }))
 
   -- what the root's reading comes to
-  module _ (c : Open) (t₂ rows₂ : List ℕ) (lt : length t₂ ≡ length scratch) (lr : length rows₂ ≡ length rows)
-      (done : BodyLeaves s count 0 (replicate (length scratch) 0) rows₁ (M + 3) (count + 1) c t₂ rows₂) where
-    abbrev p : Parts D (a .t)
-    p = tree D M (a .t) fine
-
+  module _ (t₁ r₁ : List ℕ) (et : t₁ ≡ replicate (length scratch) 0) (er : r₁ ≡ rows₁) (c : Open) (t₂ rows₂ : List ℕ) (lr : length rows₂ ≡ length rows)
+      (done : BodyLeaves s count 0 t₁ r₁ (M + 3) (count + 1) c t₂ rows₂) where
     abbrev b : Body
-    b = p .body
+    b = root.body tables s D M (lent scratch rows) (a .t) (a .is) count (a .count-is)
 
     left : BodyDone count 0 rows₁ b c rows₂ × Shows (M + 3) (count + 1) t₂ (alone (run count 0 nothing b)) []
-    left = done b (subst (λ (k : ℕ). Stands s k (linesOf b)) (a .count-is) (root-stands D M (a .t) fine s room (a .is))) (zeros-show (M + 3) (count + 1) (length scratch))
+    left =
+        let h = done b (root.stands tables s D M (lent scratch rows) (a .t) (a .is) count (a .count-is)) (subst (λ (x : List ℕ). Shows (M + 3) (count + 1) x nothing []) (sym et) (zeros-show (M + 3) (count + 1) (length scratch))) in
+        (subst (λ (y : List ℕ). BodyDone count 0 y b c rows₂) er (h .0), h .1)
 
-    pub work-is : c .work ≡ workOf b
-    work-is = ap (λ (x : Open). x .work) (left .0 .numbers-are)
-
-    pub span-is : c .prefix ≡ spanOf b
-    span-is = ap (λ (x : Open). x .prefix) (left .0 .numbers-are) ∙ weight-chain b count 0
-
-    pub root-count : (getD rows₂ (columns * 0) 0 + 1 < 2 ^ 64) × ((getD rows₂ (columns * 0 + 1) 0 + c .work < 2 ^ 64) × (getD rows₂ (columns * 0 + 2) 0 + c .prefix < 2 ^ 64))
-    root-count = (at 0 1 (omega arith) (omega arith), (at 1 (c .work) (omega arith) (omega (arith, work-is)), at 2 (c .prefix) (omega arith) (omega (arith, span-is))))
-      where
-        at : (i v : ℕ) → i < 3 → v ≤ made 0 b i → getD rows₂ i 0 + v < 2 ^ 64
-        at i v l h =
-            omega (
-              arith,
-              left .0 .rows-are i (omega (arith, cleared-length rows (columns * (count + 1)) rows-room, rows-room)),
-              zero-there i (omega arith),
-              whole-small D M (a .t) fine i,
-            )
+    pub root-counts : (columns * 0 + 2 < length rows₂) × ((getD rows₂ (columns * 0) 0 + 1 < 2 ^ 64) × ((getD rows₂ (columns * 0 + 1) 0 + c .work < 2 ^ 64) × (getD rows₂ (columns * 0 + 2) 0 + c .prefix < 2 ^ 64)))
+    root-counts = root.count-fits tables s D M (lent scratch rows) (a .t) (a .is) count (a .count-is) c rows₂ lr (left .0)
 
     -- the root itself, and its table
     module _ (rows₃ t₃ rows₄ : List ℕ) (l₃ : length t₃ ≡ length scratch) (l₄ : length rows₄ ≡ length rows) (counts : Grown rows₂ (counted 0 (c .work) (c .prefix)) rows₃) (settled : Settled (count + 1) t₂ rows₃ t₃ rows₄) where
       abbrev answer : Answer
       answer = Accepted (c .work) (c .prefix) count lines
 
-      itself : Grown rows₂ (made 0 b) rows₃
-      itself i l = counts i l ∙ ap (λ (x : ℕ). getD rows₂ i 0 + counted 0 x (c .prefix) i) work-is ∙ ap (λ (x : ℕ). getD rows₂ i 0 + counted 0 (workOf b) x i) span-is
-
-      long : columns * (sites (a .t) + 1) ≤ length rows₁
-      long = omega (arith, cleared-length rows (columns * (count + 1)) rows-room, rows-room, a .count-is)
-
-      same : length rows₂ ≡ length rows₁
-      same = omega (arith, lr, cleared-length rows (columns * (count + 1)) rows-room)
-
-      cells : (s j : ℕ) → s ≤ count → j < columns → getD rows₄ (columns * s + j) 0 ≡ cell count b s j
-      cells s j h l = go (decLt j 4)
+      cells : (k j : ℕ) → k ≤ count → j < columns → getD rows₄ (columns * k + j) 0 ≡ cell count b k j
+      cells k j h l = go (decLt j 4)
         where
-          go : Dec (j < 4) → getD rows₄ (columns * s + j) 0 ≡ cell count b s j
+          go : Dec (j < 4) → getD rows₄ (columns * k + j) 0 ≡ cell count b k j
           go (yes q) =
-              settled .others (columns * s + j) (λ x y e. omega arith)
-              ∙ cells-are D M (a .t) fine rows₁ rows₂ rows₃ long same zero-there (left .0 .rows-are) itself s j (omega (arith, a .count-is)) q
-              ∙ ap (λ (m : ℕ). cell m b s j) (a .count-is)
+              settled .others (columns * k + j) (λ x y e. omega arith)
+              ∙ root.cells tables s D M (lent scratch rows) (a .t) (a .is) count (a .count-is) c rows₂ lr (left .0) rows₃ counts k j h q
           go (no q) =
               let e : j ≡ 4 = omega arith in
-              let z : s ≡ 0 + s = omega arith in
-              rw e (settled .on-span s (omega arith) ∙ ap (λ (x : ℕ). getD t₂ x 0) z ∙ left .1 .P s (omega arith))
+              let z : k ≡ 0 + k = omega arith in
+              rw e (settled .on-span k (omega arith) ∙ ap (λ (x : ℕ). getD t₂ x 0) z ∙ left .1 .P k (omega arith))
 
       rest : (i : ℕ) → columns * (count + 1) ≤ i → getD rows₄ i 0 ≡ getD rows i 0
       rest i h = go (decLt i (length rows))
         where
           go : Dec (i < length rows) → getD rows₄ i 0 ≡ getD rows i 0
           go (yes q) =
-              settled .others i (λ x y e. omega arith)
-              ∙ behind D M (a .t) fine rows₁ rows₂ rows₃ long same zero-there (left .0 .rows-are) itself i (omega (arith, a .count-is)) (omega (arith, cleared-length rows (columns * (count + 1)) rows-room))
-              ∙ cleared-back rows (columns * (count + 1)) rows-room i h
+              settled .others i (λ x y e. omega arith) ∙ root.rest tables s D M (lent scratch rows) (a .t) (a .is) count (a .count-is) c rows₂ lr (left .0) rows₃ counts i h q
           go (no q) = List·getD-eq-default rows₄ 0 {n = i} (omega arith) ∙ sym (List·getD-eq-default rows 0 {n = i} (omega arith))
 
       scratch-zero : t₃ ≡ replicate (length scratch) 0
@@ -196,8 +126,14 @@ module _ (s : List ℕ) (D M : ℕ) (scratch rows : List ℕ) (count lines : ℕ
 
       by-tree : ProfileBy tables count b (lent scratch rows) answer (lent t₃ rows₄)
       by-tree =
+          let fine = root.fine tables s D M (lent scratch rows) (a .t) (a .is) count (a .count-is) in
+          let work-is = root.work-is tables s D M (lent scratch rows) (a .t) (a .is) count (a .count-is) c rows₂ lr (left .0) in
+          let span-is = root.span-is tables s D M (lent scratch rows) (a .t) (a .is) count (a .count-is) c rows₂ lr (left .0) in
           record {
-            answer = ap (λ (x : ℕ). Accepted x (c .prefix) count lines) work-is ∙ ap (λ (x : ℕ). Accepted (workOf b) x count lines) span-is ∙ ap (λ (x : ℕ). Accepted (workOf b) (spanOf b) count x) (sym (a .lines-is) ∙ last-line D M (a .t) fine ∙ ap (λ (m : ℕ). m + size b) (a .count-is));
+            answer =
+                ap (λ (x : ℕ). Accepted x (c .prefix) count lines) work-is
+                ∙ ap (λ (x : ℕ). Accepted (workOf b) x count lines) span-is
+                ∙ ap (λ (x : ℕ). Accepted (workOf b) (spanOf b) count x) (sym (a .lines-is) ∙ last-line D M (a .t) fine ∙ ap (λ (m : ℕ). m + size b) (a .count-is));
             rows = record { same-length = l₄; cells = cells; rest = rest };
             scratch = scratch-zero;
             marked = refl;
@@ -205,6 +141,8 @@ module _ (s : List ℕ) (D M : ℕ) (scratch rows : List ℕ) (count lines : ℕ
 
       pub promised : Promise tables s D M (lent scratch rows) answer (lent t₃ rows₄)
       promised =
+          let fine = root.fine tables s D M (lent scratch rows) (a .t) (a .is) count (a .count-is) in
+          let p = tree D M (a .t) fine in
           let m : count ≡ length (p .heads) = sym (first-line D M (a .t) fine ∙ a .count-is) in
           let h = tree-profile D (a .t) p tables (lent scratch rows) answer (lent t₃ rows₄) (subst (λ (m : ℕ). ProfileBy tables m b (lent scratch rows) answer (lent t₃ rows₄)) m by-tree) in
           record {

@@ -17,11 +17,14 @@ enum-known-frame c = search needs
 again-requires : tie.Need-again-requires
 again-requires c κs = search needs
 
-step-requires : tie.Need-step-requires
-step-requires c κs = search needs
+updated-requires : tie.Need-updated-requires
+updated-requires c κs = search needs
 
 enum-known-number : tie.Need-enum-known-number
 enum-known-number c = search needs
+
+refuse-requires : tie.Need-refuse-requires
+refuse-requires c κs = search needs
 
 same-length : tie.Need-same-length
 same-length c = search needs
@@ -31,13 +34,13 @@ returns c =
     let a = c .before .before .before .before .before .before .before .before .before .before .before .args in
     let g = c .before .before .before .before .before .before .frame .given in
     let e : readAt (a .trace .now) (a .t .lines) ≡ Line (g .0 .0) (g .0 .1 .0) = sym (c .before .before .before .before .before .before .before .before .read-at .ensures) ∙ g .1 in
-    rw e (c .step .ensures ∙ ap (λ (b : Bool). stepped (a .depth) (a .sites) b (a .t) (g .0 .1 .0)) (c .before .before .before .again .ensures .0), c .before .before .before .again .ensures .1)
+    rw e (c .updated .ensures ∙ ap (λ (b : Bool). stepped (a .depth) (a .sites) b (a .t) (g .0 .1 .0)) (c .before .before .before .again .ensures .0), c .before .before .before .again .ensures .1)
 
 returns-2 : tie.Need-returns-2
 returns-2 c =
-    let a = c .before .before .before .before .before .before .args in
-    let e : readAt (a .trace .now) (a .t .lines) ≡ Refused _ _ = sym (c .before .before .before .read-at .ensures) ∙ c .before .number .given .1 in
-    rw e (refl, refl)
+    let a = c .before .before .before .before .before .before .before .args in
+    let e : readAt (a .trace .now) (a .t .lines) ≡ Refused _ _ = sym (c .before .before .before .before .read-at .ensures) ∙ c .before .before .number .given .1 in
+    rw e (c .refuse .ensures, refl)
 
 pub judge-spec : {M : Type 1} → statement M
 judge-spec =
@@ -46,8 +49,9 @@ judge-spec =
     read-at-requires
     enum-known-frame
     again-requires
-    step-requires
+    updated-requires
     enum-known-number
+    refuse-requires
     same-length
     returns
     returns-2)

@@ -4,8 +4,11 @@ use borrow.Author.Tests.{eq-eqb, ne-eqb}
 use Rattle.admit.proofs.step.Statement.{statement}
 use Rattle.admit.proofs.step.Tie as tie
 
+refuse-requires : tie.Need-refuse-requires
+refuse-requires c κs = search needs
+
 returns : tie.Need-returns
-returns c = simp (eq-eqb _ _ (c .if1 .taken))
+returns c = simp (eq-eqb _ _ (c .before .if1 .taken)) (c .refuse .ensures)
 
 enum-known-frame : tie.Need-enum-known-frame
 enum-known-frame c = search needs
@@ -77,6 +80,7 @@ pub step-spec : {M : Type 1} → statement M
 step-spec =
     tie.close
     (tie.spec
+    refuse-requires
     returns
     enum-known-frame
     cast-declare

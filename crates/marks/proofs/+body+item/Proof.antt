@@ -37,7 +37,7 @@ abbrev μ-body : Measures 4 body-kinds.ps ℕ
 μ-body κs a = 2 * (a .1 .1 .1 .0) + 1
 
 abbrev μ-item : Measures 4 item-kinds.ps ℕ
-μ-item κs a = 2 * (a .1 .1 .0)
+μ-item κs a = 2 * (a .1 .1 .1 .0)
 
 abbrev body-at : ℕ → In 4 body-kinds.ps
 body-at t = and 4 body-kinds.ps (is 4 body-kinds.ps μ-body t) body.Pre
@@ -55,13 +55,13 @@ abbrev body-calls : ℕ → body-lts.Claims
 body-calls t = (new-reads.Asked, new-reads.Learnt, prefix-reads.Asked, prefix-reads.Learnt, kind-at-reads.Asked, kind-at-reads.Learnt, item-below t, item.Post, join-reads.Asked, join-reads.Learnt)
 
 abbrev item-calls : ℕ → item-lts.Claims
-item-calls t = (kind-at-reads.Asked, kind-at-reads.Learnt, value-at-reads.Asked, value-at-reads.Learnt, spend-reads′.Asked, spend-reads′.Learnt, spend-reads.Asked, spend-reads.Learnt, join-reads.Asked, join-reads.Learnt, site-at-reads.Asked, site-at-reads.Learnt, store-reads.Asked, store-reads.Learnt, body-below t, body.Post, load-reads.Asked, load-reads.Learnt, count-reads.Asked, count-reads.Learnt, called-reads.Asked, called-reads.Learnt, spawned-reads.Asked, spawned-reads.Learnt)
+item-calls t = (value-at-reads.Asked, value-at-reads.Learnt, spend-reads′.Asked, spend-reads′.Learnt, spend-reads.Asked, spend-reads.Learnt, join-reads.Asked, join-reads.Learnt, site-at-reads.Asked, site-at-reads.Learnt, store-reads.Asked, store-reads.Learnt, body-below t, body.Post, load-reads.Asked, load-reads.Learnt, count-reads.Asked, count-reads.Learnt, called-reads.Asked, called-reads.Learnt, spawned-reads.Asked, spawned-reads.Learnt)
 
 abbrev body-Inv-loop : body-lts.InvT-loop
-body-Inv-loop trace from row deep t₀ marks₀ rows₀ z₀ at₀ t marks rows z at = Loop trace from row deep t₀ marks₀ rows₀ t marks rows z at
+body-Inv-loop trace from row deep t₀ marks₀ rows₀ z₀ kind₀ t marks rows z kind = Loop trace from row deep t₀ marks₀ rows₀ t marks rows z kind
 
 abbrev body-μ-loop : body-lts.MeasureT-loop
-body-μ-loop trace from row deep t₀ marks₀ rows₀ z₀ at₀ t marks rows z at = 65536 - at
+body-μ-loop trace from row deep t₀ marks₀ rows₀ z₀ kind₀ t marks rows z kind = 65536 - z .own .at
 
 body-new-requires : (t : ℕ) → body-lts.Need-new-requires (body-calls t) (body-at t) body.Post body-Inv-loop body-μ-loop
 body-new-requires t c κs = search needs
@@ -69,44 +69,44 @@ body-new-requires t c κs = search needs
 body-prefix-requires : (t : ℕ) → body-lts.Need-prefix-requires (body-calls t) (body-at t) body.Post body-Inv-loop body-μ-loop
 body-prefix-requires t c κs = search needs
 
-body-loop-holds : (t : ℕ) → body-lts.Need-loop-holds (body-calls t) (body-at t) body.Post body-Inv-loop body-μ-loop
-body-loop-holds t c = loop-start (c .before .before .before .before .before .before .pre .1) (c .before .new .result) (c .before .new .ensures) (c .prefix .result) (c .prefix .ensures)
-
 body-kind-at-requires : (t : ℕ) → body-lts.Need-kind-at-requires (body-calls t) (body-at t) body.Post body-Inv-loop body-μ-loop
 body-kind-at-requires t c κs = search needs
 
+body-loop-holds : (t : ℕ) → body-lts.Need-loop-holds (body-calls t) (body-at t) body.Post body-Inv-loop body-μ-loop
+body-loop-holds t c = loop-start (c .before .before .before .before .before .before .before .pre .1) (c .before .before .new .result) (c .before .before .new .ensures) (c .before .prefix .result) (c .before .prefix .ensures) (c .kind-at .result) (c .kind-at .ensures)
+
 body-item-requires : (t : ℕ) → body-lts.Need-item-requires (body-calls t) (body-at t) body.Post body-Inv-loop body-μ-loop
-body-item-requires t c κs = (omega (arith, c .before .before .before .before .before .before .before .before .before .before .before .before .pre .0), loop-asks (c .before .before .before .before .before .loop .inv) (c .before .before .before .before .kind-at .result) (c .before .before .before .before .kind-at .ensures) (c .before .before .before .if1 .taken))
+body-item-requires t c κs = (omega (arith, c .before .before .before .before .before .before .before .before .before .before .before .before .pre .0), loop-asks (c .before .before .before .before .loop .inv) (c .before .before .before .loop-test .taken))
+
+body-kind-at-requires-2 : (t : ℕ) → body-lts.Need-kind-at-requires-2 (body-calls t) (body-at t) body.Post body-Inv-loop body-μ-loop
+body-kind-at-requires-2 t c κs = search needs
 
 body-loop-less : (t : ℕ) → body-lts.Need-loop-less (body-calls t) (body-at t) body.Post body-Inv-loop body-μ-loop
 body-loop-less t c =
-    let i = c .before .before .before .before .before .before .item in
-    loop-less (c .before .before .before .before .before .before .before .before .before .before .before .before .loop .inv) (c .before .before .before .before .before .before .before .before .before .before .before .kind-at .result) (c .before .before .before .before .before .before .before .before .before .before .before .kind-at .ensures) (c .before .before .before .before .before .before .before .before .before .before .if1 .taken) (i .result) (i .last .1 .1 .1 .0) (i .last .1 .1 .1 .1 .0) (i .last .1 .1 .1 .1 .1 .0) (i .kept .1 .1 .1 .1 .0) (i .kept .1 .1 .1 .1 .1 .0) (i .ensures .0)
+    let i = c .before .before .before .before .before .before .before .item in
+    loop-less (c .before .before .before .before .before .before .before .before .before .before .before .before .loop .inv) (c .before .before .before .before .before .before .before .before .before .before .before .loop-test .taken) (i .result) (i .last .1 .1 .1 .1 .0) (i .last .1 .1 .1 .1 .1 .0) (i .last .1 .1 .1 .1 .1 .1 .0) (i .kept .1 .1 .1 .1 .1 .0) (i .kept .1 .1 .1 .1 .1 .1 .0) (i .ensures .0)
 
 body-loop-again : (t : ℕ) → body-lts.Need-loop-again (body-calls t) (body-at t) body.Post body-Inv-loop body-μ-loop
 body-loop-again t c =
-    let i = c .before .before .before .before .before .before .item in
-    loop-again (c .before .before .before .before .before .before .before .before .before .before .before .before .loop .inv) (c .before .before .before .before .before .before .before .before .before .before .before .kind-at .result) (c .before .before .before .before .before .before .before .before .before .before .before .kind-at .ensures) (c .before .before .before .before .before .before .before .before .before .before .if1 .taken) (i .result) (i .last .1 .1 .1 .0) (i .last .1 .1 .1 .1 .0) (i .last .1 .1 .1 .1 .1 .0) (i .kept .1 .1 .1 .1 .0) (i .kept .1 .1 .1 .1 .1 .0) (i .ensures .0) (i .ensures .1)
+    let i = c .before .before .before .before .before .before .before .item in
+    loop-again (c .before .before .before .before .before .before .before .before .before .before .before .before .loop .inv) (c .before .before .before .before .before .before .before .before .before .before .before .loop-test .taken) (i .result) (i .last .1 .1 .1 .1 .0) (i .last .1 .1 .1 .1 .1 .0) (i .last .1 .1 .1 .1 .1 .1 .0) (i .kept .1 .1 .1 .1 .1 .0) (i .kept .1 .1 .1 .1 .1 .1 .0) (i .ensures .0) (i .ensures .1) (c .kind-at2 .result) (c .kind-at2 .ensures)
 
 body-join-requires : (t : ℕ) → body-lts.Need-join-requires (body-calls t) (body-at t) body.Post body-Inv-loop body-μ-loop
-body-join-requires t c κs = join-asks (c .before .before .before .loop .inv .lent)
+body-join-requires t c κs = join-asks (c .before .before .loop .inv .lent)
 
 body-same-length : (t : ℕ) → body-lts.Need-same-length (body-calls t) (body-at t) body.Post body-Inv-loop body-μ-loop
-body-same-length t c = ap length (c .before .before .before .before .before .before .before .loop .inv .same-scratch)
+body-same-length t c = ap length (c .before .before .before .before .before .before .loop .inv .same-scratch)
 
 body-same-length-2 : (t : ℕ) → body-lts.Need-same-length-2 (body-calls t) (body-at t) body.Post body-Inv-loop body-μ-loop
-body-same-length-2 t c = c .before .before .before .join .kept .0 ∙ c .before .before .before .before .before .before .before .loop .inv .marks-long
+body-same-length-2 t c = c .before .before .before .join .kept .0 ∙ c .before .before .before .before .before .before .loop .inv .marks-long
 
 body-same-length-3 : (t : ℕ) → body-lts.Need-same-length-3 (body-calls t) (body-at t) body.Post body-Inv-loop body-μ-loop
-body-same-length-3 t c = c .before .before .before .before .before .before .before .loop .inv .rows-long
+body-same-length-3 t c = c .before .before .before .before .before .before .loop .inv .rows-long
 
 body-returns : (t : ℕ) → body-lts.Need-returns (body-calls t) (body-at t) body.Post body-Inv-loop body-μ-loop
 body-returns t c =
     let j = c .before .before .before .join in
-    loop-done (c .before .before .before .before .before .before .before .loop .inv) (c .before .before .before .before .before .before .kind-at .result) (c .before .before .before .before .before .before .kind-at .ensures) (c .before .before .before .before .before .if1 .left) (j .result) (j .last .0) (j .ensures)
-
-item-kind-at-requires : (t : ℕ) → item-lts.Need-kind-at-requires (item-calls t) (item-at t) item.Post
-item-kind-at-requires t c κs = search needs
+    loop-done (c .before .before .before .before .before .before .loop .inv) (c .before .before .before .before .before .loop-test .left) (j .result) (j .last .0) (j .ensures)
 
 item-value-at-requires : (t : ℕ) → item-lts.Need-value-at-requires (item-calls t) (item-at t) item.Post
 item-value-at-requires t c κs = search needs
@@ -116,16 +116,16 @@ item-cast-v t c = search needs
 
 item-spend-requires : (t : ℕ) → item-lts.Need-spend-requires (item-calls t) (item-at t) item.Post
 item-spend-requires t c κs =
-    let a = c .before .before .before .before .before .before .before .before in
-    let h : Costs (a .args .trace .now) (a .args .deep) (a .args .z) (a .args .t .now) (a .args .marks .now) (a .args .rows .now) (c .before .before .before .kind-at .result) (c .before .value-at .result) =
-    record { lent = a .pre .1 .lent; kind-is = c .before .before .before .kind-at .ensures; value-is = c .before .value-at .ensures; cost = c .before .before .if1 .taken } in
+    let a = c .before .before .before .before .before .before .before in
+    let h : Costs (a .args .trace .now) (a .args .deep) (a .args .z) (a .args .t .now) (a .args .marks .now) (a .args .rows .now) (a .args .kind) (c .before .value-at .result) =
+    record { asks = a .pre .1; value-is = c .before .value-at .ensures; cost = c .before .before .if1 .taken } in
     rows-asks h
 
 item-spend-requires-2 : (t : ℕ) → item-lts.Need-spend-requires-2 (item-calls t) (item-at t) item.Post
 item-spend-requires-2 t c κs =
-    let a = c .before .before .before .before .before .before .before .before .before .before .before .before in
-    let h : Costs (a .args .trace .now) (a .args .deep) (a .args .z) (a .args .t .now) (a .args .marks .now) (a .args .rows .now) (c .before .before .before .before .before .before .before .kind-at .result) (c .before .before .before .before .before .value-at .result) =
-    record { lent = a .pre .1 .lent; kind-is = c .before .before .before .before .before .before .before .kind-at .ensures; value-is = c .before .before .before .before .before .value-at .ensures; cost = c .before .before .before .before .before .before .if1 .taken } in
+    let a = c .before .before .before .before .before .before .before .before .before .before .before in
+    let h : Costs (a .args .trace .now) (a .args .deep) (a .args .z) (a .args .t .now) (a .args .marks .now) (a .args .rows .now) (a .args .kind) (c .before .before .before .before .before .value-at .result) =
+    record { asks = a .pre .1; value-is = c .before .before .before .before .before .value-at .ensures; cost = c .before .before .before .before .before .before .if1 .taken } in
     spend-asks h
 
 item-same-length : (t : ℕ) → item-lts.Need-same-length (item-calls t) (item-at t) item.Post
@@ -136,13 +136,13 @@ item-same-length-2 t c = search needs
 
 item-returns : (t : ℕ) → item-lts.Need-returns (item-calls t) (item-at t) item.Post
 item-returns t c =
-    let a = c .before .before .before .before .before .before .before .before .before .before .before .before .before .before .before in
-    let h : Costs (a .args .trace .now) (a .args .deep) (a .args .z) (a .args .t .now) (a .args .marks .now) (a .args .rows .now) (c .before .before .before .before .before .before .before .before .before .before .kind-at .result) (c .before .before .before .before .before .before .before .before .value-at .result) =
-    record { lent = a .pre .1 .lent; kind-is = c .before .before .before .before .before .before .before .before .before .before .kind-at .ensures; value-is = c .before .before .before .before .before .before .before .before .value-at .ensures; cost = c .before .before .before .before .before .before .before .before .before .if1 .taken } in
+    let a = c .before .before .before .before .before .before .before .before .before .before .before .before .before .before in
+    let h : Costs (a .args .trace .now) (a .args .deep) (a .args .z) (a .args .t .now) (a .args .marks .now) (a .args .rows .now) (a .args .kind) (c .before .before .before .before .before .before .before .before .value-at .result) =
+    record { asks = a .pre .1; value-is = c .before .before .before .before .before .before .before .before .value-at .ensures; cost = c .before .before .before .before .before .before .before .before .before .if1 .taken } in
     (cost-leaves h (c .before .before .spend2 .result) (c .before .before .spend2 .last .0) (c .before .before .before .before .before .before .spend .last .0) (c .before .before .before .before .before .before .spend .ensures) (c .before .before .spend2 .ensures), refl)
 
 item-join-requires : (t : ℕ) → item-lts.Need-join-requires (item-calls t) (item-at t) item.Post
-item-join-requires t c κs = join-asks (c .before .before .before .before .before .before .before .before .pre .1 .lent)
+item-join-requires t c κs = join-asks (c .before .before .before .before .before .before .before .pre .1 .lent)
 
 item-same-length-3 : (t : ℕ) → item-lts.Need-same-length-3 (item-calls t) (item-at t) item.Post
 item-same-length-3 t c = search needs
@@ -150,7 +150,7 @@ item-same-length-3 t c = search needs
 item-returns-2 : (t : ℕ) → item-lts.Need-returns-2 (item-calls t) (item-at t) item.Post
 item-returns-2 t c =
     let j = c .before .before .join in
-    (sync-leaves (c .before .before .before .before .before .before .before .before .before .before .before .pre .1 .lent) (c .before .before .before .before .before .before .kind-at .result) (c .before .before .before .before .before .before .kind-at .ensures) (c .before .before .before .before .if2 .taken) (j .result) (j .last .0) (j .ensures), refl)
+    (sync-leaves (c .before .before .before .before .before .before .before .before .before .before .pre .1 .lent) (c .before .before .before .before .before .before .before .before .before .before .args .kind) (c .before .before .before .before .before .before .before .before .before .before .pre .1 .kind-is) (c .before .before .before .before .if2 .taken) (j .result) (j .last .0) (j .ensures), refl)
 
 item-site-at-requires : (t : ℕ) → item-lts.Need-site-at-requires (item-calls t) (item-at t) item.Post
 item-site-at-requires t c κs = search needs
@@ -160,43 +160,43 @@ item-cast-site t c = search needs
 
 item-store-requires : (t : ℕ) → item-lts.Need-store-requires (item-calls t) (item-at t) item.Post
 item-store-requires t c κs =
-    let a = c .before .before .before .before .before .before .before .before .before in
+    let a = c .before .before .before .before .before .before .before .before in
     let z = a .args .z in
     let t = a .args .t .now in
-    let h : Calls (a .args .trace .now) (a .args .deep) z t (a .args .marks .now) (a .args .rows .now) (c .before .before .before .before .kind-at .result) (c .before .site-at .result) =
-    record { asks = a .pre .1; kind-is = c .before .before .before .before .kind-at .ensures; site-is = c .before .site-at .ensures; no-cost = c .before .before .before .if1 .left; no-sync = c .before .before .if2 .left } in
+    let h : Calls (a .args .trace .now) (a .args .deep) z t (a .args .marks .now) (a .args .rows .now) (a .args .kind) (c .before .site-at .result) =
+    record { asks = a .pre .1; site-is = c .before .site-at .ensures; no-cost = c .before .before .before .if1 .left; no-sync = c .before .before .if2 .left } in
     room h
 
 item-add-body : (t : ℕ) → item-lts.Need-add-body (item-calls t) (item-at t) item.Post
-item-add-body t c = record { fits = line-fits (c .before .before .before .before .before .before .before .before .before .before .before .before .pre .1 .lent) }
+item-add-body t c = record { fits = line-fits (c .before .before .before .before .before .before .before .before .before .before .before .pre .1 .lent) }
 
 item-sub-body : (t : ℕ) → item-lts.Need-sub-body (item-calls t) (item-at t) item.Post
 item-sub-body t c =
-    let a = c .before .before .before .before .before .before .before .before .before .before .before .before in
+    let a = c .before .before .before .before .before .before .before .before .before .before .before in
     let z = a .args .z in
     let t = a .args .t .now in
-    let h : Calls (a .args .trace .now) (a .args .deep) z t (a .args .marks .now) (a .args .rows .now) (c .before .before .before .before .before .before .before .kind-at .result) (c .before .before .before .before .site-at .result) =
-    record { asks = a .pre .1; kind-is = c .before .before .before .before .before .before .before .kind-at .ensures; site-is = c .before .before .before .before .site-at .ensures; no-cost = c .before .before .before .before .before .before .if1 .left; no-sync = c .before .before .before .before .before .if2 .left } in
+    let h : Calls (a .args .trace .now) (a .args .deep) z t (a .args .marks .now) (a .args .rows .now) (a .args .kind) (c .before .before .before .before .site-at .result) =
+    record { asks = a .pre .1; site-is = c .before .before .before .before .site-at .ensures; no-cost = c .before .before .before .before .before .before .if1 .left; no-sync = c .before .before .before .before .before .if2 .left } in
     deeper h
 
 item-sub-body-2 : (t : ℕ) → item-lts.Need-sub-body-2 (item-calls t) (item-at t) item.Post
 item-sub-body-2 t c =
-    let a = c .before .before .before .before .before .before .before .before .before .before .before .before in
+    let a = c .before .before .before .before .before .before .before .before .before .before .before in
     let z = a .args .z in
     let t = a .args .t .now in
-    let h : Calls (a .args .trace .now) (a .args .deep) z t (a .args .marks .now) (a .args .rows .now) (c .before .before .before .before .before .before .before .kind-at .result) (c .before .before .before .before .site-at .result) =
-    record { asks = a .pre .1; kind-is = c .before .before .before .before .before .before .before .kind-at .ensures; site-is = c .before .before .before .before .site-at .ensures; no-cost = c .before .before .before .before .before .before .if1 .left; no-sync = c .before .before .before .before .before .if2 .left } in
+    let h : Calls (a .args .trace .now) (a .args .deep) z t (a .args .marks .now) (a .args .rows .now) (a .args .kind) (c .before .before .before .before .site-at .result) =
+    record { asks = a .pre .1; site-is = c .before .before .before .before .site-at .ensures; no-cost = c .before .before .before .before .before .before .if1 .left; no-sync = c .before .before .before .before .before .if2 .left } in
     let o = a .pre .1 .lent .zero in
     let q = c .before .before .store in
     stored-room z t (room h) o (q .last .0) (q .ensures)
 
 item-part-body-start : (t : ℕ) → item-lts.Need-part-body-start (item-calls t) (item-at t) item.Post
 item-part-body-start t c =
-    let a = c .before .before .before .before .before .before .before .before .before .before .before .before in
+    let a = c .before .before .before .before .before .before .before .before .before .before .before in
     let z = a .args .z in
     let t = a .args .t .now in
-    let h : Calls (a .args .trace .now) (a .args .deep) z t (a .args .marks .now) (a .args .rows .now) (c .before .before .before .before .before .before .before .kind-at .result) (c .before .before .before .before .site-at .result) =
-    record { asks = a .pre .1; kind-is = c .before .before .before .before .before .before .before .kind-at .ensures; site-is = c .before .before .before .before .site-at .ensures; no-cost = c .before .before .before .before .before .before .if1 .left; no-sync = c .before .before .before .before .before .if2 .left } in
+    let h : Calls (a .args .trace .now) (a .args .deep) z t (a .args .marks .now) (a .args .rows .now) (a .args .kind) (c .before .before .before .before .site-at .result) =
+    record { asks = a .pre .1; site-is = c .before .before .before .before .site-at .ensures; no-cost = c .before .before .before .before .before .before .if1 .left; no-sync = c .before .before .before .before .before .if2 .left } in
     let o = a .pre .1 .lent .zero in
     let q = c .before .before .store in
     let w = stored-room z t (room h) o (q .last .0) (q .ensures) in
@@ -204,11 +204,11 @@ item-part-body-start t c =
 
 item-part-body-end : (t : ℕ) → item-lts.Need-part-body-end (item-calls t) (item-at t) item.Post
 item-part-body-end t c =
-    let a = c .before .before .before .before .before .before .before .before .before .before .before .before in
+    let a = c .before .before .before .before .before .before .before .before .before .before .before in
     let z = a .args .z in
     let t = a .args .t .now in
-    let h : Calls (a .args .trace .now) (a .args .deep) z t (a .args .marks .now) (a .args .rows .now) (c .before .before .before .before .before .before .before .kind-at .result) (c .before .before .before .before .site-at .result) =
-    record { asks = a .pre .1; kind-is = c .before .before .before .before .before .before .before .kind-at .ensures; site-is = c .before .before .before .before .site-at .ensures; no-cost = c .before .before .before .before .before .before .if1 .left; no-sync = c .before .before .before .before .before .if2 .left } in
+    let h : Calls (a .args .trace .now) (a .args .deep) z t (a .args .marks .now) (a .args .rows .now) (a .args .kind) (c .before .before .before .before .site-at .result) =
+    record { asks = a .pre .1; site-is = c .before .before .before .before .site-at .ensures; no-cost = c .before .before .before .before .before .before .if1 .left; no-sync = c .before .before .before .before .before .if2 .left } in
     let o = a .pre .1 .lent .zero in
     let q = c .before .before .store in
     let w = stored-room z t (room h) o (q .last .0) (q .ensures) in
@@ -216,11 +216,11 @@ item-part-body-end t c =
 
 item-body-requires : (t : ℕ) → item-lts.Need-body-requires (item-calls t) (item-at t) item.Post
 item-body-requires t c κs =
-    let a = c .before .before .before .before .before .before .before .before .before .before .before .before .before .before .before in
+    let a = c .before .before .before .before .before .before .before .before .before .before .before .before .before .before in
     let z = a .args .z in
     let t = a .args .t .now in
-    let h : Calls (a .args .trace .now) (a .args .deep) z t (a .args .marks .now) (a .args .rows .now) (c .before .before .before .before .before .before .before .before .before .before .kind-at .result) (c .before .before .before .before .before .before .before .site-at .result) =
-    record { asks = a .pre .1; kind-is = c .before .before .before .before .before .before .before .before .before .before .kind-at .ensures; site-is = c .before .before .before .before .before .before .before .site-at .ensures; no-cost = c .before .before .before .before .before .before .before .before .before .if1 .left; no-sync = c .before .before .before .before .before .before .before .before .if2 .left } in
+    let h : Calls (a .args .trace .now) (a .args .deep) z t (a .args .marks .now) (a .args .rows .now) (a .args .kind) (c .before .before .before .before .before .before .before .site-at .result) =
+    record { asks = a .pre .1; site-is = c .before .before .before .before .before .before .before .site-at .ensures; no-cost = c .before .before .before .before .before .before .before .before .before .if1 .left; no-sync = c .before .before .before .before .before .before .before .before .if2 .left } in
     let o = a .pre .1 .lent .zero in
     let q = c .before .before .before .before .before .store in (
       omega (arith, a .pre .0, deeper h),
@@ -229,11 +229,11 @@ item-body-requires t c κs =
 
 item-load-requires : (t : ℕ) → item-lts.Need-load-requires (item-calls t) (item-at t) item.Post
 item-load-requires t c κs =
-    let a = c .before .before .before .before .before .before .before .before .before .before .before .before .before .before .before .before .before .before .before .before .before .before .before in
+    let a = c .before .before .before .before .before .before .before .before .before .before .before .before .before .before .before .before .before .before .before .before .before .before in
     let z = a .args .z in
     let t = a .args .t .now in
-    let h : Calls (a .args .trace .now) (a .args .deep) z t (a .args .marks .now) (a .args .rows .now) (c .before .before .before .before .before .before .before .before .before .before .before .before .before .before .before .before .before .before .kind-at .result) (c .before .before .before .before .before .before .before .before .before .before .before .before .before .before .before .site-at .result) =
-    record { asks = a .pre .1; kind-is = c .before .before .before .before .before .before .before .before .before .before .before .before .before .before .before .before .before .before .kind-at .ensures; site-is = c .before .before .before .before .before .before .before .before .before .before .before .before .before .before .before .site-at .ensures; no-cost = c .before .before .before .before .before .before .before .before .before .before .before .before .before .before .before .before .before .if1 .left; no-sync = c .before .before .before .before .before .before .before .before .before .before .before .before .before .before .before .before .if2 .left } in
+    let h : Calls (a .args .trace .now) (a .args .deep) z t (a .args .marks .now) (a .args .rows .now) (a .args .kind) (c .before .before .before .before .before .before .before .before .before .before .before .before .before .before .before .site-at .result) =
+    record { asks = a .pre .1; site-is = c .before .before .before .before .before .before .before .before .before .before .before .before .before .before .before .site-at .ensures; no-cost = c .before .before .before .before .before .before .before .before .before .before .before .before .before .before .before .before .before .if1 .left; no-sync = c .before .before .before .before .before .before .before .before .before .before .before .before .before .before .before .before .if2 .left } in
     let o = a .pre .1 .lent .zero in
     let q = c .before .before .before .before .before .before .before .before .before .before .before .before .before .store in
     let g = c .before .before .before .before .before .before .before .body in
@@ -241,11 +241,11 @@ item-load-requires t c κs =
 
 item-count-requires : (t : ℕ) → item-lts.Need-count-requires (item-calls t) (item-at t) item.Post
 item-count-requires t c κs =
-    let a = c .before .before .before .before .before .before .before .before .before .before .before .before .before .before .before .before .before .before .before .before .before .before .before .before .before .before .before in
+    let a = c .before .before .before .before .before .before .before .before .before .before .before .before .before .before .before .before .before .before .before .before .before .before .before .before .before .before in
     let z = a .args .z in
     let t = a .args .t .now in
-    let h : Calls (a .args .trace .now) (a .args .deep) z t (a .args .marks .now) (a .args .rows .now) (c .before .before .before .before .before .before .before .before .before .before .before .before .before .before .before .before .before .before .before .before .before .before .kind-at .result) (c .before .before .before .before .before .before .before .before .before .before .before .before .before .before .before .before .before .before .before .site-at .result) =
-    record { asks = a .pre .1; kind-is = c .before .before .before .before .before .before .before .before .before .before .before .before .before .before .before .before .before .before .before .before .before .before .kind-at .ensures; site-is = c .before .before .before .before .before .before .before .before .before .before .before .before .before .before .before .before .before .before .before .site-at .ensures; no-cost = c .before .before .before .before .before .before .before .before .before .before .before .before .before .before .before .before .before .before .before .before .before .if1 .left; no-sync = c .before .before .before .before .before .before .before .before .before .before .before .before .before .before .before .before .before .before .before .before .if2 .left } in
+    let h : Calls (a .args .trace .now) (a .args .deep) z t (a .args .marks .now) (a .args .rows .now) (a .args .kind) (c .before .before .before .before .before .before .before .before .before .before .before .before .before .before .before .before .before .before .before .site-at .result) =
+    record { asks = a .pre .1; site-is = c .before .before .before .before .before .before .before .before .before .before .before .before .before .before .before .before .before .before .before .site-at .ensures; no-cost = c .before .before .before .before .before .before .before .before .before .before .before .before .before .before .before .before .before .before .before .before .before .if1 .left; no-sync = c .before .before .before .before .before .before .before .before .before .before .before .before .before .before .before .before .before .before .before .before .if2 .left } in
     let g = c .before .before .before .before .before .before .before .before .before .before .before .body in
     let m = g .last .1 .1 .1 .1 .1 .0 in
     let rows = g .last .1 .1 .1 .1 .1 .1 .0 in
@@ -255,11 +255,11 @@ item-count-requires t c κs =
 
 item-called-requires : (t : ℕ) → item-lts.Need-called-requires (item-calls t) (item-at t) item.Post
 item-called-requires t c κs =
-    let a = c .before .before .before .before .before .before .before .before .before .before .before .before .before .before .before .before .before .before .before .before .before .before .before .before .before .before .before .before .before .before .before .before in
+    let a = c .before .before .before .before .before .before .before .before .before .before .before .before .before .before .before .before .before .before .before .before .before .before .before .before .before .before .before .before .before .before .before in
     let z = a .args .z in
     let t = a .args .t .now in
-    let h : Calls (a .args .trace .now) (a .args .deep) z t (a .args .marks .now) (a .args .rows .now) (c .before .before .before .before .before .before .before .before .before .before .before .before .before .before .before .before .before .before .before .before .before .before .before .before .before .before .before .kind-at .result) (c .before .before .before .before .before .before .before .before .before .before .before .before .before .before .before .before .before .before .before .before .before .before .before .before .site-at .result) =
-    record { asks = a .pre .1; kind-is = c .before .before .before .before .before .before .before .before .before .before .before .before .before .before .before .before .before .before .before .before .before .before .before .before .before .before .before .kind-at .ensures; site-is = c .before .before .before .before .before .before .before .before .before .before .before .before .before .before .before .before .before .before .before .before .before .before .before .before .site-at .ensures; no-cost = c .before .before .before .before .before .before .before .before .before .before .before .before .before .before .before .before .before .before .before .before .before .before .before .before .before .before .if1 .left; no-sync = c .before .before .before .before .before .before .before .before .before .before .before .before .before .before .before .before .before .before .before .before .before .before .before .before .before .if2 .left } in
+    let h : Calls (a .args .trace .now) (a .args .deep) z t (a .args .marks .now) (a .args .rows .now) (a .args .kind) (c .before .before .before .before .before .before .before .before .before .before .before .before .before .before .before .before .before .before .before .before .before .before .before .before .site-at .result) =
+    record { asks = a .pre .1; site-is = c .before .before .before .before .before .before .before .before .before .before .before .before .before .before .before .before .before .before .before .before .before .before .before .before .site-at .ensures; no-cost = c .before .before .before .before .before .before .before .before .before .before .before .before .before .before .before .before .before .before .before .before .before .before .before .before .before .before .if1 .left; no-sync = c .before .before .before .before .before .before .before .before .before .before .before .before .before .before .before .before .before .before .before .before .before .before .before .before .before .if2 .left } in
     let o = a .pre .1 .lent .zero in
     let q = c .before .before .before .before .before .before .before .before .before .before .before .before .before .before .before .before .before .before .before .before .before .before .store in
     let g = c .before .before .before .before .before .before .before .before .before .before .before .before .before .before .before .before .body in
@@ -272,11 +272,11 @@ item-called-requires t c κs =
 
 item-same-length-4 : (t : ℕ) → item-lts.Need-same-length-4 (item-calls t) (item-at t) item.Post
 item-same-length-4 t c =
-    let a = c .before .before .before .before .before .before .before .before .before .before .before .before .before .before .before .before .before .before .before .before .before .before .before .before .before .before .before .before .before .before .before .before .before .before .before in
+    let a = c .before .before .before .before .before .before .before .before .before .before .before .before .before .before .before .before .before .before .before .before .before .before .before .before .before .before .before .before .before .before .before .before .before .before in
     let z = a .args .z in
     let t = a .args .t .now in
-    let h : Calls (a .args .trace .now) (a .args .deep) z t (a .args .marks .now) (a .args .rows .now) (c .before .before .before .before .before .before .before .before .before .before .before .before .before .before .before .before .before .before .before .before .before .before .before .before .before .before .before .before .before .before .kind-at .result) (c .before .before .before .before .before .before .before .before .before .before .before .before .before .before .before .before .before .before .before .before .before .before .before .before .before .before .before .site-at .result) =
-    record { asks = a .pre .1; kind-is = c .before .before .before .before .before .before .before .before .before .before .before .before .before .before .before .before .before .before .before .before .before .before .before .before .before .before .before .before .before .before .kind-at .ensures; site-is = c .before .before .before .before .before .before .before .before .before .before .before .before .before .before .before .before .before .before .before .before .before .before .before .before .before .before .before .site-at .ensures; no-cost = c .before .before .before .before .before .before .before .before .before .before .before .before .before .before .before .before .before .before .before .before .before .before .before .before .before .before .before .before .before .if1 .left; no-sync = c .before .before .before .before .before .before .before .before .before .before .before .before .before .before .before .before .before .before .before .before .before .before .before .before .before .before .before .before .if2 .left } in
+    let h : Calls (a .args .trace .now) (a .args .deep) z t (a .args .marks .now) (a .args .rows .now) (a .args .kind) (c .before .before .before .before .before .before .before .before .before .before .before .before .before .before .before .before .before .before .before .before .before .before .before .before .before .before .before .site-at .result) =
+    record { asks = a .pre .1; site-is = c .before .before .before .before .before .before .before .before .before .before .before .before .before .before .before .before .before .before .before .before .before .before .before .before .before .before .before .site-at .ensures; no-cost = c .before .before .before .before .before .before .before .before .before .before .before .before .before .before .before .before .before .before .before .before .before .before .before .before .before .before .before .before .before .if1 .left; no-sync = c .before .before .before .before .before .before .before .before .before .before .before .before .before .before .before .before .before .before .before .before .before .before .before .before .before .before .before .before .if2 .left } in
     let o = a .pre .1 .lent .zero in
     let q = c .before .before .before .before .before .before .before .before .before .before .before .before .before .before .before .before .before .before .before .before .before .before .before .before .before .store in
     let g = c .before .before .before .before .before .before .before .before .before .before .before .before .before .before .before .before .before .before .before .body in
@@ -290,11 +290,11 @@ item-same-length-6 t c = c .before .before .before .before .before .before .befo
 
 item-returns-3 : (t : ℕ) → item-lts.Need-returns-3 (item-calls t) (item-at t) item.Post
 item-returns-3 t c =
-    let a = c .before .before .before .before .before .before .before .before .before .before .before .before .before .before .before .before .before .before .before .before .before .before .before .before .before .before .before .before .before .before .before .before .before .before .before in
+    let a = c .before .before .before .before .before .before .before .before .before .before .before .before .before .before .before .before .before .before .before .before .before .before .before .before .before .before .before .before .before .before .before .before .before .before in
     let z = a .args .z in
     let t = a .args .t .now in
-    let h : Calls (a .args .trace .now) (a .args .deep) z t (a .args .marks .now) (a .args .rows .now) (c .before .before .before .before .before .before .before .before .before .before .before .before .before .before .before .before .before .before .before .before .before .before .before .before .before .before .before .before .before .before .kind-at .result) (c .before .before .before .before .before .before .before .before .before .before .before .before .before .before .before .before .before .before .before .before .before .before .before .before .before .before .before .site-at .result) =
-    record { asks = a .pre .1; kind-is = c .before .before .before .before .before .before .before .before .before .before .before .before .before .before .before .before .before .before .before .before .before .before .before .before .before .before .before .before .before .before .kind-at .ensures; site-is = c .before .before .before .before .before .before .before .before .before .before .before .before .before .before .before .before .before .before .before .before .before .before .before .before .before .before .before .site-at .ensures; no-cost = c .before .before .before .before .before .before .before .before .before .before .before .before .before .before .before .before .before .before .before .before .before .before .before .before .before .before .before .before .before .if1 .left; no-sync = c .before .before .before .before .before .before .before .before .before .before .before .before .before .before .before .before .before .before .before .before .before .before .before .before .before .before .before .before .if2 .left } in
+    let h : Calls (a .args .trace .now) (a .args .deep) z t (a .args .marks .now) (a .args .rows .now) (a .args .kind) (c .before .before .before .before .before .before .before .before .before .before .before .before .before .before .before .before .before .before .before .before .before .before .before .before .before .before .before .site-at .result) =
+    record { asks = a .pre .1; site-is = c .before .before .before .before .before .before .before .before .before .before .before .before .before .before .before .before .before .before .before .before .before .before .before .before .before .before .before .site-at .ensures; no-cost = c .before .before .before .before .before .before .before .before .before .before .before .before .before .before .before .before .before .before .before .before .before .before .before .before .before .before .before .before .before .if1 .left; no-sync = c .before .before .before .before .before .before .before .before .before .before .before .before .before .before .before .before .before .before .before .before .before .before .before .before .before .before .before .before .if2 .left } in
     let o = a .pre .1 .lent .zero in
     let q = c .before .before .before .before .before .before .before .before .before .before .before .before .before .before .before .before .before .before .before .before .before .before .before .before .before .store in
     let g = c .before .before .before .before .before .before .before .before .before .before .before .before .before .before .before .before .before .before .before .body in
@@ -310,11 +310,11 @@ item-returns-3 t c =
 
 item-spawned-requires : (t : ℕ) → item-lts.Need-spawned-requires (item-calls t) (item-at t) item.Post
 item-spawned-requires t c κs =
-    let a = c .before .before .before .before .before .before .before .before .before .before .before .before .before .before .before .before .before .before .before .before .before .before .before .before .before .before .before .before .before .before .before .before in
+    let a = c .before .before .before .before .before .before .before .before .before .before .before .before .before .before .before .before .before .before .before .before .before .before .before .before .before .before .before .before .before .before .before in
     let z = a .args .z in
     let t = a .args .t .now in
-    let h : Calls (a .args .trace .now) (a .args .deep) z t (a .args .marks .now) (a .args .rows .now) (c .before .before .before .before .before .before .before .before .before .before .before .before .before .before .before .before .before .before .before .before .before .before .before .before .before .before .before .kind-at .result) (c .before .before .before .before .before .before .before .before .before .before .before .before .before .before .before .before .before .before .before .before .before .before .before .before .site-at .result) =
-    record { asks = a .pre .1; kind-is = c .before .before .before .before .before .before .before .before .before .before .before .before .before .before .before .before .before .before .before .before .before .before .before .before .before .before .before .kind-at .ensures; site-is = c .before .before .before .before .before .before .before .before .before .before .before .before .before .before .before .before .before .before .before .before .before .before .before .before .site-at .ensures; no-cost = c .before .before .before .before .before .before .before .before .before .before .before .before .before .before .before .before .before .before .before .before .before .before .before .before .before .before .if1 .left; no-sync = c .before .before .before .before .before .before .before .before .before .before .before .before .before .before .before .before .before .before .before .before .before .before .before .before .before .if2 .left } in
+    let h : Calls (a .args .trace .now) (a .args .deep) z t (a .args .marks .now) (a .args .rows .now) (a .args .kind) (c .before .before .before .before .before .before .before .before .before .before .before .before .before .before .before .before .before .before .before .before .before .before .before .before .site-at .result) =
+    record { asks = a .pre .1; site-is = c .before .before .before .before .before .before .before .before .before .before .before .before .before .before .before .before .before .before .before .before .before .before .before .before .site-at .ensures; no-cost = c .before .before .before .before .before .before .before .before .before .before .before .before .before .before .before .before .before .before .before .before .before .before .before .before .before .before .if1 .left; no-sync = c .before .before .before .before .before .before .before .before .before .before .before .before .before .before .before .before .before .before .before .before .before .before .before .before .before .if2 .left } in
     let o = a .pre .1 .lent .zero in
     let q = c .before .before .before .before .before .before .before .before .before .before .before .before .before .before .before .before .before .before .before .before .before .before .store in
     let g = c .before .before .before .before .before .before .before .before .before .before .before .before .before .before .before .before .body in
@@ -327,11 +327,11 @@ item-spawned-requires t c κs =
 
 item-same-length-7 : (t : ℕ) → item-lts.Need-same-length-7 (item-calls t) (item-at t) item.Post
 item-same-length-7 t c =
-    let a = c .before .before .before .before .before .before .before .before .before .before .before .before .before .before .before .before .before .before .before .before .before .before .before .before .before .before .before .before .before .before .before .before .before .before .before in
+    let a = c .before .before .before .before .before .before .before .before .before .before .before .before .before .before .before .before .before .before .before .before .before .before .before .before .before .before .before .before .before .before .before .before .before .before in
     let z = a .args .z in
     let t = a .args .t .now in
-    let h : Calls (a .args .trace .now) (a .args .deep) z t (a .args .marks .now) (a .args .rows .now) (c .before .before .before .before .before .before .before .before .before .before .before .before .before .before .before .before .before .before .before .before .before .before .before .before .before .before .before .before .before .before .kind-at .result) (c .before .before .before .before .before .before .before .before .before .before .before .before .before .before .before .before .before .before .before .before .before .before .before .before .before .before .before .site-at .result) =
-    record { asks = a .pre .1; kind-is = c .before .before .before .before .before .before .before .before .before .before .before .before .before .before .before .before .before .before .before .before .before .before .before .before .before .before .before .before .before .before .kind-at .ensures; site-is = c .before .before .before .before .before .before .before .before .before .before .before .before .before .before .before .before .before .before .before .before .before .before .before .before .before .before .before .site-at .ensures; no-cost = c .before .before .before .before .before .before .before .before .before .before .before .before .before .before .before .before .before .before .before .before .before .before .before .before .before .before .before .before .before .if1 .left; no-sync = c .before .before .before .before .before .before .before .before .before .before .before .before .before .before .before .before .before .before .before .before .before .before .before .before .before .before .before .before .if2 .left } in
+    let h : Calls (a .args .trace .now) (a .args .deep) z t (a .args .marks .now) (a .args .rows .now) (a .args .kind) (c .before .before .before .before .before .before .before .before .before .before .before .before .before .before .before .before .before .before .before .before .before .before .before .before .before .before .before .site-at .result) =
+    record { asks = a .pre .1; site-is = c .before .before .before .before .before .before .before .before .before .before .before .before .before .before .before .before .before .before .before .before .before .before .before .before .before .before .before .site-at .ensures; no-cost = c .before .before .before .before .before .before .before .before .before .before .before .before .before .before .before .before .before .before .before .before .before .before .before .before .before .before .before .before .before .if1 .left; no-sync = c .before .before .before .before .before .before .before .before .before .before .before .before .before .before .before .before .before .before .before .before .before .before .before .before .before .before .before .before .if2 .left } in
     let o = a .pre .1 .lent .zero in
     let q = c .before .before .before .before .before .before .before .before .before .before .before .before .before .before .before .before .before .before .before .before .before .before .before .before .before .store in
     let g = c .before .before .before .before .before .before .before .before .before .before .before .before .before .before .before .before .before .before .before .body in
@@ -345,11 +345,11 @@ item-same-length-9 t c = c .before .before .before .before .before .before .befo
 
 item-returns-4 : (t : ℕ) → item-lts.Need-returns-4 (item-calls t) (item-at t) item.Post
 item-returns-4 t c =
-    let a = c .before .before .before .before .before .before .before .before .before .before .before .before .before .before .before .before .before .before .before .before .before .before .before .before .before .before .before .before .before .before .before .before .before .before .before in
+    let a = c .before .before .before .before .before .before .before .before .before .before .before .before .before .before .before .before .before .before .before .before .before .before .before .before .before .before .before .before .before .before .before .before .before .before in
     let z = a .args .z in
     let t = a .args .t .now in
-    let h : Calls (a .args .trace .now) (a .args .deep) z t (a .args .marks .now) (a .args .rows .now) (c .before .before .before .before .before .before .before .before .before .before .before .before .before .before .before .before .before .before .before .before .before .before .before .before .before .before .before .before .before .before .kind-at .result) (c .before .before .before .before .before .before .before .before .before .before .before .before .before .before .before .before .before .before .before .before .before .before .before .before .before .before .before .site-at .result) =
-    record { asks = a .pre .1; kind-is = c .before .before .before .before .before .before .before .before .before .before .before .before .before .before .before .before .before .before .before .before .before .before .before .before .before .before .before .before .before .before .kind-at .ensures; site-is = c .before .before .before .before .before .before .before .before .before .before .before .before .before .before .before .before .before .before .before .before .before .before .before .before .before .before .before .site-at .ensures; no-cost = c .before .before .before .before .before .before .before .before .before .before .before .before .before .before .before .before .before .before .before .before .before .before .before .before .before .before .before .before .before .if1 .left; no-sync = c .before .before .before .before .before .before .before .before .before .before .before .before .before .before .before .before .before .before .before .before .before .before .before .before .before .before .before .before .if2 .left } in
+    let h : Calls (a .args .trace .now) (a .args .deep) z t (a .args .marks .now) (a .args .rows .now) (a .args .kind) (c .before .before .before .before .before .before .before .before .before .before .before .before .before .before .before .before .before .before .before .before .before .before .before .before .before .before .before .site-at .result) =
+    record { asks = a .pre .1; site-is = c .before .before .before .before .before .before .before .before .before .before .before .before .before .before .before .before .before .before .before .before .before .before .before .before .before .before .before .site-at .ensures; no-cost = c .before .before .before .before .before .before .before .before .before .before .before .before .before .before .before .before .before .before .before .before .before .before .before .before .before .before .before .before .before .if1 .left; no-sync = c .before .before .before .before .before .before .before .before .before .before .before .before .before .before .before .before .before .before .before .before .before .before .before .before .before .before .before .before .if2 .left } in
     let o = a .pre .1 .lent .zero in
     let q = c .before .before .before .before .before .before .before .before .before .before .before .before .before .before .before .before .before .before .before .before .before .before .before .before .before .store in
     let g = c .before .before .before .before .before .before .before .before .before .before .before .before .before .before .before .before .before .before .before .body in
@@ -371,9 +371,10 @@ pub +body+item-spec : {M : Type 1} → statement M
     body-μ-loop
     (body-new-requires t)
     (body-prefix-requires t)
-    (body-loop-holds t)
     (body-kind-at-requires t)
+    (body-loop-holds t)
     (body-item-requires t)
+    (body-kind-at-requires-2 t)
     (body-loop-less t)
     (body-loop-again t)
     (body-join-requires t)
@@ -384,7 +385,6 @@ pub +body+item-spec : {M : Type 1} → statement M
     λ t. item-lts.spec (item-calls t)
     (item-at t)
     item.Post
-    (item-kind-at-requires t)
     (item-value-at-requires t)
     (item-cast-v t)
     (item-spend-requires t)

@@ -5,10 +5,6 @@ use mathlib.Core.Path.{_∙_}
 use borrow.Author.Needs.{needs}
 use Rattle.marks.proofs.spawned.Statement.{statement}
 use Rattle.marks.proofs.spawned.Tie as tie
-use Rattle.marks.proofs.spawned.Reads as reads
-use Rattle.marks.proofs.spawned.Lts as lts
-use Rattle.marks.proofs.wipe_lines.Reads as wipe-lines-reads
-use Rattle.walk.proofs.Open.spawned.Reads as spawned-reads
 
 add-if1 : tie.Need-add-if1
 add-if1 c = search needs

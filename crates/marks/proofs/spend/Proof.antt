@@ -2,9 +2,6 @@ use Rattle.marks.proofs.Steps.{spent-done}
 use borrow.Author.Needs.{needs}
 use Rattle.marks.proofs.spend.Statement.{statement}
 use Rattle.marks.proofs.spend.Tie as tie
-use Rattle.marks.proofs.spend.Reads as reads
-use Rattle.marks.proofs.spend.Lts as lts
-use Rattle.walk.proofs.Open.spent.Reads as spent-reads
 
 slice-write-marks : tie.Need-slice-write-marks
 slice-write-marks c = search needs

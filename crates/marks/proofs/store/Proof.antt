@@ -3,8 +3,6 @@ use lib.ListN.{length-set}
 use borrow.Author.Needs.{needs}
 use Rattle.marks.proofs.store.Statement.{statement}
 use Rattle.marks.proofs.store.Tie as tie
-use Rattle.marks.proofs.store.Reads as reads
-use Rattle.marks.proofs.store.Lts as lts
 
 slice-write-t : tie.Need-slice-write-t
 slice-write-t c = search needs

@@ -1,15 +1,11 @@
-use mathlib.Core.Path.{_≡_, ap, _∙_}
-use Prim.Native.Nat.{ℕ, _-_}
-use native.Mathlib.Omega.{arith}
-use lib.ListN.{length, take, drop, replicate}
+use mathlib.Core.Path.{ap, _∙_}
+use Prim.Native.Nat.{ℕ}
+use lib.ListN.{replicate}
 use borrow.Rule.Slice.PartMut.{mid-len}
 use borrow.Author.Needs.{needs}
 use Rattle.marks.proofs.Shown.{wiped}
 use Rattle.marks.proofs.wipe_lines.Statement.{statement}
 use Rattle.marks.proofs.wipe_lines.Tie as tie
-use Rattle.marks.proofs.wipe_lines.Reads as reads
-use Rattle.marks.proofs.wipe_lines.Lts as lts
-use Rattle.marks.proofs.wipe.Reads as wipe-reads
 
 sub-wipe : tie.Need-sub-wipe
 sub-wipe c = search needs

@@ -8,7 +8,7 @@ use borrow.Author.Needs.{needs}
 use Rattle.walk.proofs.Items.{size-some}
 use Rattle.tables.specs.Reader.{Lent}
 use Rattle.tables.proofs.Bodies.{Turns, turns-start, item-asks, goes-on, lent-again, turns-again, join-asks, turns-done}
-use Rattle.tables.proofs.Items.{line-fits, cost-asks, spend-asks, cost-leaves, sync-leaves, deeper, room-here, body-asks, count-room, count-fits, child-asks, child-room, call-leaves, spawn-leaves}
+use Rattle.tables.proofs.Items.{line-fits, cost-asks, spend-asks, cost-leaves, sync-leaves, deeper, room-here, body-asks, child-counts, child-asks, child-room, call-leaves, spawn-leaves}
 use Rattle.tables.proofs.Parts.{back-length, part-length}
 use borrow.Fn.Kinds.{In}
 use borrow.Fn.PlainCycle.{Measures, is, falls, and}
@@ -330,7 +330,7 @@ item-count-requires t c κs =
     let l = a .pre .1 .lent in
     let says = kind-says s (f .at) (f .at) (c .before .before .before .before .before .before .before .before .before .before .before .kind-at .result) refl (c .before .before .before .before .before .before .before .before .before .before .before .kind-at .ensures) in
     let sited = site-says s (f .at) (f .at) (c .before .before .before .before .before .before .before .before .site-at .result) refl (c .before .before .before .before .before .before .before .before .site-at .ensures) in
-    (count-room s (a .args .row) (a .args .deep) (a .args .n) (a .args .w) f t rows (c .before .before .before .before .before .before .before .before .before .before .before .kind-at .result) (c .before .before .before .before .before .before .before .before .site-at .result) says sited (c .before .before .before .before .before .before .before .before .before .before .if1 .left) (c .before .before .before .before .before .before .before .before .before .if2 .left) (a .pre .1) (c .before .before .before .before .before .body .result) (c .before .before .before .before .before .body .last .1 .1 .1 .1 .0) (c .before .before .before .before .before .body .last .1 .1 .1 .1 .1 .0) (c .before .before .before .before .before .body .kept .1 .1 .1 .1 .0) (c .before .before .before .before .before .body .kept .1 .1 .1 .1 .1 .0) (c .before .before .before .before .before .body .ensures), count-fits s (a .args .row) (a .args .deep) (a .args .n) (a .args .w) f t rows (c .before .before .before .before .before .before .before .before .before .before .before .kind-at .result) (c .before .before .before .before .before .before .before .before .site-at .result) says sited (c .before .before .before .before .before .before .before .before .before .before .if1 .left) (c .before .before .before .before .before .before .before .before .before .if2 .left) (a .pre .1) (c .before .before .before .before .before .body .result) (c .before .before .before .before .before .body .last .1 .1 .1 .1 .0) (c .before .before .before .before .before .body .last .1 .1 .1 .1 .1 .0) (c .before .before .before .before .before .body .kept .1 .1 .1 .1 .0) (c .before .before .before .before .before .body .kept .1 .1 .1 .1 .1 .0) (c .before .before .before .before .before .body .ensures))
+    child-counts s (a .args .row) (a .args .deep) (a .args .n) (a .args .w) f t rows (c .before .before .before .before .before .before .before .before .before .before .before .kind-at .result) (c .before .before .before .before .before .before .before .before .site-at .result) says sited (c .before .before .before .before .before .before .before .before .before .before .if1 .left) (c .before .before .before .before .before .before .before .before .before .if2 .left) (a .pre .1) (c .before .before .before .before .before .body .result) (c .before .before .before .before .before .body .last .1 .1 .1 .1 .0) (c .before .before .before .before .before .body .last .1 .1 .1 .1 .1 .0) (c .before .before .before .before .before .body .kept .1 .1 .1 .1 .0) (c .before .before .before .before .before .body .kept .1 .1 .1 .1 .1 .0) (c .before .before .before .before .before .body .ensures)
 
 item-called-requires : (t : ℕ) → item-lts.Need-called-requires (item-calls t) (item-at t) item.Post
 item-called-requires t c κs =

@@ -1,5 +1,6 @@
+use Rattle.trace.proofs.OnChain.{row-le}
 use Rattle.walk.specs.declared.Open.{Open}
-use Rattle.tables.proofs.Steps.{row-le, spent-done}
+use Rattle.tables.proofs.Steps.{spent-done}
 use mathlib.Core.Path.{_≡_, _∙_, ap}
 use native.Mathlib.Omega.{arith}
 use borrow.Author.Needs.{needs}
