@@ -1,71 +1,25 @@
 -- The engines' promises carried to the interface, with and without room for the answer; and that they leave one outcome. Assumes nothing.
-use Prim.Native.Nat.{ℕ, zero, suc, _+_, _≤_, _<_}
-use mathlib.Core.Bool.{Bool, true, false, not, cond, _&&_}
-use mathlib.Core.List.{List, [], _∷_, _++_}
+use Prim.Native.Nat.{ℕ, _+_, _≤_, _<_}
+use mathlib.Core.Bool.{Bool, true, false, cond, _&&_}
+use mathlib.Core.List.{List, _∷_, _++_}
 use mathlib.Core.Path.{_≡_, refl, ap, _∙_, sym, subst}
 use native.Mathlib.Omega.{arith}
-use borrow.Author.Tests.{lt-leb, le-leb, le-ltb, ltb-false}
-use lib.Dec.{eqb, leb, ltb}
-use lib.ListN.{length, length-append}
+use borrow.Author.Tests.{lt-leb, le-leb}
+use lib.Dec.{eqb, leb}
+use lib.ListN.{length}
 use Rattle.line.specs.declared.Frame.{Frame}
-use Rattle.line.specs.declared.Read.{Read}
-use Rattle.line.specs.declared.Read.the-variants.{Line}
-use Rattle.line.specs.declared.Read.the-variants.{Refused as Unread}
-use Rattle.line.specs.Read.{readAt, lineAt}
-use Rattle.line.proofs.Cases.{Case, long, wrongs, unlisted, listed, line-case, frames}
 use Rattle.trace.specs.declared.Answer.{Answer}
-use Rattle.trace.specs.declared.Answer.the-variants.{Refused}
-use Rattle.trace.specs.Refusals.{Verdict, accepted, refused, verdict, outOfRange, broken, tooMany, lineCount, afterRoot, fault, judged, scan, reads, readsFrom}
+use Rattle.trace.specs.Refusals.{Verdict, accepted, refused, verdict, outOfRange, broken, tooMany}
 use Rattle.trace.specs.Promise.{Engine, Lent, enough, Profile, Promise}
 use Rattle.trace.proofs.Basics.{clash}
 use Rattle.trace.proofs.Scan.{accepted-is}
 use Rattle.trace.proofs.Outcome.{promise-unique}
 use Rattle.digits.proofs.Laws.{and-left}
-use Rattle.report.specs.Room.{Decision, leave}
-use Rattle.nyolifuwe.specs.Code.{coded, code, Gives}
+use Rattle.report.specs.Room.{leave}
+use Rattle.admit.proofs.Refused.{refused-line}
+use Rattle.nyolifuwe.specs.Code.{code, Gives}
 use Rattle.nyolifuwe.specs.Engines.{roomy, numbered, Profiles}
 use Rattle.nyolifuwe.specs.Inside.{lineIn, unroomy}
-
--- a refused line is one of the lines, or their number
-module _ (D M : ℕ) (s : List ℕ) where
-  read-line : (n number line : ℕ) → readAt s n ≡ Unread number line → line ≤ n
-  read-line n number line e = go (line-case (lineAt s n) n)
-    where
-      go : Case (lineAt s n) n (readAt s n) → line ≤ n
-      go (long h r) = let z : line ≡ 0 = cc in omega arith
-      go (wrongs h w r) = let z : line ≡ n = cc in omega arith
-      go (unlisted h w t r) = let z : line ≡ n = cc in omega arith
-      go (listed h w f t r) = clash (cc)
-
-  -- what comes of the lines behind a line that has no fault
-  scan-pick : (count n k number line : ℕ) (before : List Frame) (f : Frame) (b : Bool) → k ≡ n
-      → (scan D M (before ++ f ∷ []) (readsFrom s (suc n) count) ≡ refused number line → line ≤ suc n + count)
-      → cond b (scan D M (before ++ f ∷ []) (readsFrom s (suc n) count)) (refused (fault D M before f) k) ≡ refused number line → line ≤ n + suc count
-  scan-pick count n k number line before f true h on i = omega (arith, on i)
-  scan-pick count n k number line before f false h on i = let z : line ≡ k = cc in omega arith
-
-  scan-line : (count n : ℕ) (before : List Frame) (number line : ℕ) → length before ≡ n → scan D M before (readsFrom s n count) ≡ refused number line → line ≤ n + count
-  scan-line zero n before number line l e = go (afterRoot before) e
-    where
-      go : (b : Bool) → cond b (accepted before) (refused 14 (length before)) ≡ refused number line → line ≤ n + 0
-      go true h = clash (cc)
-      go false h = let z : line ≡ length before = cc in omega arith
-  scan-line (suc count) n before number line l e = go (λ f. scan-line count (suc n) (before ++ f ∷ []) number line (length-append before (f ∷ []) ∙ omega arith)) (readAt s n) refl e
-    where
-      go : ((f : Frame) → scan D M (before ++ f ∷ []) (readsFrom s (suc n) count) ≡ refused number line → line ≤ suc n + count)
-          → (r : Read) → readAt s n ≡ r → judged D M before r (λ f. scan D M (before ++ f ∷ []) (readsFrom s (suc n) count)) ≡ refused number line → line ≤ n + suc count
-      go on (Unread m k) h j = let z : line ≡ k = cc in omega (arith, read-line n m k h)
-      go on (Line k f) h j = scan-pick count n k number line before f (eqb (fault D M before f) 0) (frames (lineAt s n) n k f h .0) (on f) j
-
-pub verdict-line : (s : List ℕ) (D M : ℕ) (b : Bool) (number line : ℕ) → verdict s D M b ≡ refused number line → line ≤ 65536
-verdict-line s D M b number line e = go (outOfRange D M) (broken s) (tooMany s) (not b) refl e
-  where
-    go : (w x y z : Bool) → tooMany s ≡ y → cond w (refused 1 0) (cond x (refused 2 0) (cond y (refused 3 0) (cond z (refused 4 0) (scan D M [] (reads s))))) ≡ refused number line → line ≤ 65536
-    go true x y z h i = let k : line ≡ 0 = cc in omega arith
-    go false true y z h i = let k : line ≡ 0 = cc in omega arith
-    go false false true z h i = let k : line ≡ 0 = cc in omega arith
-    go false false false true h i = let k : line ≡ 0 = cc in omega arith
-    go false false false false h i = omega (arith, scan-line D M s (lineCount s) 0 [] number line refl i, ltb-false 65536 (lineCount s) h)
 
 -- the line in an engine's answer
 pub answer-line : (e : Engine) (s : List ℕ) (D M : ℕ) (before after : Lent) (r : Answer) → Promise e s D M before r after → lineIn r ≤ 65536
@@ -73,7 +27,7 @@ answer-line e s D M before after r p = go (verdict s D M (enough e s D M before)
   where
     go : (v : Verdict) → verdict s D M (enough e s D M before) ≡ v → lineIn r ≤ 65536
     go (accepted t) h = omega (arith, ap lineIn (p .when-accepted t h .answer))
-    go (refused number line) h = omega (arith, ap lineIn (p .when-refused number line h .0), verdict-line s D M (enough e s D M before) number line h)
+    go (refused number line) h = omega (arith, ap lineIn (p .when-refused number line h .0), refused-line s D M (enough e s D M before) number line h)
 
 -- without room for the answer
 roomless : (s : List ℕ) (D M : ℕ) → verdict s D M false ≡ refused (unroomy (length s) D M) 0
