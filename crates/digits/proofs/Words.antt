@@ -14,8 +14,8 @@ abbrev pub Bytes : List ℕ → Type 0
 Bytes s = (i : ℕ) → i < length s → getD s i 0 < 256
 
 -- those of a part are
-pub bytes-part : {s : List ℕ} → Bytes s → (a k : ℕ) → Bytes (take k (drop a s))
-bytes-part b a k = ?
+pub bytes-part : (s : List ℕ) → Bytes s → (a k : ℕ) → Bytes (take k (drop a s))
+bytes-part s b a k = ?
 
 -- a digit taken for one is worth what it is
 pub plain-number : (s : List ℕ) → allDigits s ≡ true → plainly s ≡ number s
