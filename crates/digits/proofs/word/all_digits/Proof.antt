@@ -1,32 +1,27 @@
+-- `digits::word::all_digits` meets its contract. Assumes nothing.
+use mathlib.Core.Path.{sym}
+use native.Mathlib.Omega.{arith}
+use Rattle.digits.proofs.Tested.{wrong-top, room, all-tested}
 use Rattle.digits.proofs.word.all_digits.Statement.{statement}
 use Rattle.digits.proofs.word.all_digits.Tie as tie
-use Rattle.digits.proofs.word.all_digits.Reads as reads
-use Rattle.digits.proofs.word.all_digits.Lts as lts
 
--- src/word.rt:45:9
 returns : tie.Need-returns
-returns c = ?
+returns c = sym (wrong-top (c .before .args .w) (c .before .fits .w .fits) (c .if1 .taken))
 
--- src/word.rt:47:19
 add-figure : tie.Need-add-figure
-add-figure c = ?
+add-figure c = omega (arith, room (c .before .args .w) (c .before .fits .w .fits) (c .if1 .left))
 
--- src/word.rt:47:49
 add-figure-2 : tie.Need-add-figure-2
-add-figure-2 c = ?
+add-figure-2 c = omega (arith, room (c .before .args .w) (c .before .fits .w .fits) (c .if1 .left))
 
--- src/word.rt:48:19
 add-letter : tie.Need-add-letter
-add-letter c = ?
+add-letter c = omega (arith, room (c .before .args .w) (c .before .fits .w .fits) (c .if1 .left))
 
--- src/word.rt:48:49
 add-letter-2 : tie.Need-add-letter-2
-add-letter-2 c = ?
+add-letter-2 c = omega (arith, room (c .before .args .w) (c .before .fits .w .fits) (c .if1 .left))
 
--- src/word.rt:41:1
 returns-2 : tie.Need-returns-2
-returns-2 c = ?
+returns-2 c = all-tested (c .before .args .w) (c .before .fits .w .fits) (c .if1 .left)
 
 pub all-digits-spec : {M : Type 1} → statement M
-all-digits-spec =
-    tie.close (tie.spec returns add-figure add-figure-2 add-letter add-letter-2 returns-2)
+all-digits-spec = tie.close (tie.spec returns add-figure add-figure-2 add-letter add-letter-2 returns-2)
