@@ -1,5 +1,7 @@
+pub mod Joined
 pub mod Lanes
 pub mod Laws
+pub mod Packing
 pub mod Reading
 pub mod Tested
 pub mod Words

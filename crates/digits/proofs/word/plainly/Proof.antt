@@ -1,47 +1,39 @@
+-- `digits::word::plainly` meets its contract. Each mask bounds what it keeps, so nothing overflows. Assumes nothing.
+use native.Mathlib.Omega.{arith}
+use lib.Bits.{and-le-r}
+use Rattle.digits.proofs.Joined.{ones-room, twos-room, fours-room, eights-room, word-plainly}
 use Rattle.digits.proofs.word.plainly.Statement.{statement}
 use Rattle.digits.proofs.word.plainly.Tie as tie
-use Rattle.digits.proofs.word.plainly.Reads as reads
-use Rattle.digits.proofs.word.plainly.Lts as lts
 
--- src/word.rt:56:46
 mul-one : tie.Need-mul-one
-mul-one c = ?
+mul-one c = omega (arith, and-le-r (c .args .w) 0xc0c0_c0c0_c0c0_c0c0)
 
--- src/word.rt:56:16
 add-one : tie.Need-add-one
-add-one c = ?
+add-one c = omega (arith, and-le-r (c .args .w) 0x0f0f_0f0f_0f0f_0f0f, and-le-r (c .args .w) 0xc0c0_c0c0_c0c0_c0c0)
 
--- src/word.rt:58:16
 mul-two : tie.Need-mul-two
-mul-two c = ?
+mul-two c = omega (arith, ones-room (c .args .w))
 
--- src/word.rt:58:16
 add-two : tie.Need-add-two
-add-two c = ?
+add-two c = omega (arith, ones-room (c .args .w))
 
--- src/word.rt:59:17
 mul-four : tie.Need-mul-four
-mul-four c = ?
+mul-four c = omega (arith, twos-room (c .args .w))
 
--- src/word.rt:59:17
 add-four : tie.Need-add-four
-add-four c = ?
+add-four c = omega (arith, twos-room (c .args .w))
 
--- src/word.rt:60:7
 mul-result : tie.Need-mul-result
-mul-result c = ?
+mul-result c = omega (arith, fours-room (c .args .w))
 
--- src/word.rt:60:7
 add-result : tie.Need-add-result
-add-result c = ?
+add-result c = omega (arith, fours-room (c .args .w))
 
--- src/word.rt:60:5
 cast-result : tie.Need-cast-result
-cast-result c = ?
+cast-result c = omega (arith, eights-room (c .args .w))
 
--- src/word.rt:53:1
 returns : tie.Need-returns
-returns c = ?
+returns c = word-plainly (c .args .w) (c .fits .w .fits)
 
 pub plainly-spec : {M : Type 1} → statement M
 plainly-spec =
