@@ -46,21 +46,35 @@ module _ (s : List ℕ) where
   from : (i : ℕ) → i < length s → packed (drop i s) ≡ getD s i 0 + 256 * packed (drop (suc i) s)
   from i h = ap packed (drop-cons s i 0 h)
 
-  end : (n : ℕ) → length s ≡ n → packed (drop n s) ≡ 0
-  end n e = ap packed (drop-of-length-le s (omega arith))
+  end : (n : ℕ) → length s ≤ n → packed (drop n s) ≡ 0
+  end n h = ap packed (drop-of-length-le s h)
 
-  -- eight characters, and any other number of them
-  module _ (byte : (i : ℕ) → getD s i 0 < 256) where
-    at : ℕ → ℕ
-    at i = getD s i 0
-
-    pub eight-are : length s ≡ 8
-        → bitOr (bitOr (bitOr (bitOr (bitOr (bitOr (bitOr (at 0) (at 1 * 2 ^ 8 % 2 ^ 64)) (at 2 * 2 ^ 16 % 2 ^ 64)) (at 3 * 2 ^ 24 % 2 ^ 64)) (at 4 * 2 ^ 32 % 2 ^ 64)) (at 5 * 2 ^ 40 % 2 ^ 64)) (at 6 * 2 ^ 48 % 2 ^ 64)) (at 7 * 2 ^ 56 % 2 ^ 64)
-        ≡ eightOf s
-    eight-are e =
-        filled (at 0) (at 1) (at 2) (at 3) (at 4) (at 5) (at 6) (at 7) (byte 0) (byte 1) (byte 2) (byte 3) (byte 4) (byte 5) (byte 6) (byte 7)
-        ∙ omega (arith, from 0 (omega arith), from 1 (omega arith), from 2 (omega arith), from 3 (omega arith), from 4 (omega arith), from 5 (omega arith), from 6 (omega arith), from 7 (omega arith), end 8 e)
-        ∙ ap (λ (t : Bool). cond t (packed s) 0) (sym (eq-eqb (length s) 8 e))
-
+  -- any other number of characters
   pub eight-not : (length s ≡ 8 → ⊥) → 0 ≡ eightOf s
   eight-not f = ap (λ (t : Bool). cond t (packed s) 0) (sym (ne-eqb (length s) 8 f))
+
+  pub four-not : (length s ≡ 4 → ⊥) → 0 ≡ fourOf s
+  four-not f = ap (λ (t : Bool). cond t (packed (48 ∷ 48 ∷ 48 ∷ 48 ∷ s)) 0) (sym (ne-eqb (length s) 4 f))
+
+  module _ (byte : (i : ℕ) → getD s i 0 < 256) where
+    -- a character read
+    read : (i a : ℕ) → a ≡ getD s i 0 → a < 256
+    read i a e = omega (arith, byte i)
+
+    -- the eight characters read, as the program puts them together
+    pub eight-are : length s ≡ 8 → (a b c d e f g h : ℕ) → a ≡ getD s 0 0 → b ≡ getD s 1 0 → c ≡ getD s 2 0 → d ≡ getD s 3 0
+        → e ≡ getD s 4 0 → f ≡ getD s 5 0 → g ≡ getD s 6 0 → h ≡ getD s 7 0
+        → bitOr (bitOr (bitOr (bitOr (bitOr (bitOr (bitOr a (b * 2 ^ 8 % 2 ^ 64)) (c * 2 ^ 16 % 2 ^ 64)) (d * 2 ^ 24 % 2 ^ 64)) (e * 2 ^ 32 % 2 ^ 64)) (f * 2 ^ 40 % 2 ^ 64)) (g * 2 ^ 48 % 2 ^ 64)) (h * 2 ^ 56 % 2 ^ 64)
+        ≡ eightOf s
+    eight-are l a b c d e f g h pa pb pc pd pe pf pg ph =
+        filled a b c d e f g h (read 0 a pa) (read 1 b pb) (read 2 c pc) (read 3 d pd) (read 4 e pe) (read 5 f pf) (read 6 g pg) (read 7 h ph)
+        ∙ omega (arith, from 0 (omega arith), from 1 (omega arith), from 2 (omega arith), from 3 (omega arith), from 4 (omega arith), from 5 (omega arith), from 6 (omega arith), from 7 (omega arith), end 8 (omega arith))
+        ∙ ap (λ (t : Bool). cond t (packed s) 0) (sym (eq-eqb (length s) 8 l))
+
+    -- the four characters read
+    pub four-are : length s ≡ 4 → (a b c d : ℕ) → a ≡ getD s 0 0 → b ≡ getD s 1 0 → c ≡ getD s 2 0 → d ≡ getD s 3 0
+        → bitOr (bitOr (bitOr (bitOr 0x3030_3030 (a * 2 ^ 32 % 2 ^ 64)) (b * 2 ^ 40 % 2 ^ 64)) (c * 2 ^ 48 % 2 ^ 64)) (d * 2 ^ 56 % 2 ^ 64) ≡ fourOf s
+    four-are l a b c d pa pb pc pd =
+        filled-four a b c d (read 0 a pa) (read 1 b pb) (read 2 c pc) (read 3 d pd)
+        ∙ omega (arith, from 0 (omega arith), from 1 (omega arith), from 2 (omega arith), from 3 (omega arith), end 4 (omega arith))
+        ∙ ap (λ (t : Bool). cond t (packed (48 ∷ 48 ∷ 48 ∷ 48 ∷ s)) 0) (sym (eq-eqb (length s) 4 l))
