@@ -1,17 +1,16 @@
 -- Eight characters taken for digits at once, and the digits joined by two, by four and by eight.
 -- Assumes nothing.
 use Prim.Native.Nat.{ℕ, _+_, _-_, _*_, _/_, _%_, _^_, _≤_, _<_}
-use mathlib.Core.List.{List, [], _∷_}
 use mathlib.Core.Path.{_≡_, refl, ap, ap₂, _∙_, sym}
 use native.Mathlib.Nat.{mod-lt, lt-of-lt-of-le, le-add-right}
 use native.Mathlib.Omega.{arith}
 use borrow.Author.Tests.{eqb-true}
-use lib.Bits.{bitAnd, and-block, and-mask, and-le-r, and-zero-r}
+use lib.Bits.{bitAnd, and-block, and-mask, and-le-r}
 use lib.Dec.{eqb}
 use lib.ListN.{getD}
 use lib.Pow.{pow-pos, pow-mono, split, mod-mod-pow, ones-lt, low as low-part}
 use Rattle.digits.specs.Word.{plain, plainly, chars}
-use Rattle.digits.proofs.Lanes.{of-each, Below, bytes-below, each, each-bytes, each-same, each-add, each-times, each-and}
+use Rattle.digits.proofs.Lanes.{of-each, bytes-below, each, each-bytes, each-same, each-add, each-times, each-and}
 
 -- the four low bits, and the two high bits, of each of eight bytes
 abbrev lows : ℕ

@@ -1,9 +1,8 @@
 -- A word's bytes as lanes: operations on whole words are operations on each byte apart, as long as no byte outgrows its lane.
 -- Assumes nothing.
-use Prim.Native.Nat.{ℕ, zero, suc, _+_, _*_, _/_, _%_, _^_, _≤_, _<_}
-use mathlib.Core.Bool.{Bool, true, false, cond, _&&_}
+use Prim.Native.Nat.{ℕ, zero, suc, _+_, _*_, _/_, _^_, _<_}
+use mathlib.Core.Bool.{Bool, true, _&&_}
 use mathlib.Core.List.{List, [], _∷_}
-use mathlib.Core.Logic.{_⊎_, inl, inr}
 use mathlib.Core.Path.{_≡_, refl, ap, ap₂, _∙_, sym}
 use native.Mathlib.Nat.{mod-lt, pow-suc, mul-add, mul-left-comm, mul-zero}
 use native.Mathlib.Decide.{decLt}

@@ -24,7 +24,7 @@ pub fn worth(c: u8) -> u8
 }
 
 // A byte as a number of 64 bits.
-fn wide(x: u8) -> u64
+pub(crate) fn wide(x: u8) -> u64
     ensures { λ r. ⌜ r ≡ x ⌝ }
 {
     x as u64

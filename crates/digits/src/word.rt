@@ -1,14 +1,8 @@
 // Eight characters at once, as one number in which the first is the lowest byte.
+use crate::read::wide;
 ghost use mathlib.Core.Path.{_≡_};
 ghost use Rattle.digits.specs.Digits.{allDigits};
 ghost use Rattle.digits.specs.Word.{plainly, chars, eightOf, fourOf};
-
-// A byte as a number of 64 bits.
-fn wide(x: u8) -> u64
-    ensures { λ r. ⌜ r ≡ x ⌝ }
-{
-    x as u64
-}
 
 // The eight characters lent, as one number; 0 where there are not eight.
 pub fn eight(s: &[u8]) -> u64
