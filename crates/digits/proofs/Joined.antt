@@ -54,16 +54,18 @@ low c = and-mask c 4
 high : (c : ℕ) → c < 256 → bitAnd c 192 ≡ 64 * (c / 64)
 high c h = eqb-true (bitAnd c 192) (64 * (c / 64)) (of-each 256 (λ x. eqb (bitAnd x 192) (64 * (x / 64))) refl c h)
 
--- each character taken for a digit
 module _ (w : ℕ) (h : w < 2 ^ 64) where
+  -- a word is its own eight characters
   whole : each (λ c. c) (chars w) ≡ w
   whole = each-bytes 8 w h
 
+  -- the same mask on each character
   masked : (m : ℕ) → m < 256 → bitAnd w (each (λ c. m) (chars w)) ≡ each (λ c. bitAnd c m) (chars w)
   masked m l =
       ap (λ (x : ℕ). bitAnd x (each (λ c. m) (chars w))) (sym whole)
       ∙ each-and 256 (λ c. c) (λ c. m) (λ c b. b) (λ c b. l) (chars w) (bytes-below 8 w)
 
+  -- the two high bits of each character, shifted down
   quarters : bitAnd w highs / 64 ≡ each (λ c. c / 64) (chars w)
   quarters =
       ap (λ (x : ℕ). x / 64) (masked 192 (omega arith) ∙ each-same 256 (λ c. bitAnd c 192) (λ c. 64 * (c / 64)) high (chars w) (bytes-below 8 w) ∙ sym (each-times 64 (λ c. c / 64) (chars w)))
@@ -72,6 +74,7 @@ module _ (w : ℕ) (h : w < 2 ^ 64) where
       back : (x : ℕ) → 64 * x / 64 ≡ x
       back x = omega arith
 
+  -- each character taken for a digit, in its lane
   pub each-plain : ones w ≡ each plain (chars w)
   each-plain =
       ap₂ (λ (x y : ℕ). bitAnd (x + 9 * y) lows) (masked 15 (omega arith)) quarters

@@ -46,6 +46,7 @@ module _ (s : List ℕ) where
   from : (i : ℕ) → i < length s → packed (drop i s) ≡ getD s i 0 + 256 * packed (drop (suc i) s)
   from i h = ap packed (drop-cons s i 0 h)
 
+  -- past the last there is none
   end : (n : ℕ) → length s ≤ n → packed (drop n s) ≡ 0
   end n h = ap packed (drop-of-length-le s h)
 

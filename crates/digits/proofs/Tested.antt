@@ -29,6 +29,7 @@ figureTest c = bitXor (c + 80) (c + 70)
 abbrev letterTest : ℕ → ℕ
 letterTest c = bitXor (c + 31) (c + 25)
 
+-- the two tests together say whether it is a digit
 told : (c : ℕ) → c < 128 → bitAnd (bitOr (figureTest c) (letterTest c)) 128 ≡ cond (isDigit c) 128 0
 told c h =
     eqb-true (bitAnd (bitOr (figureTest c) (letterTest c)) 128) (cond (isDigit c) 128 0)
@@ -66,9 +67,11 @@ all-told (c ∷ s) = go (isDigit c) ∙ ap (λ (b : Bool). isDigit c && b) (all-
     go false = ne-eqb (0 + 256 * each (λ x. cond (isDigit x) 128 0) s) (128 + 256 * each (λ x. 128) s) (λ f. omega arith)
 
 module _ (w : ℕ) (h : w < 2 ^ 64) where
+  -- a word is its own eight characters
   whole : each (λ c. c) (chars w) ≡ w
   whole = each-bytes 8 w h
 
+  -- the top bit of each character
   top-bits : bitAnd w tops ≡ each (λ c. c / 128 * 128) (chars w)
   top-bits =
       ap (λ (x : ℕ). bitAnd x tops) (sym whole)
@@ -84,6 +87,7 @@ module _ (w : ℕ) (h : w < 2 ^ 64) where
       go false e = refl
 
   module _ (z : bitAnd w tops ≡ 0) where
+    -- no character has one
     lows : Below 128 (chars w)
     lows = low (chars w) (sym top-bits ∙ z)
 
@@ -91,6 +95,7 @@ module _ (w : ℕ) (h : w < 2 ^ 64) where
     pub room : w ≤ 0x7f7f_7f7f_7f7f_7f7f
     room = omega (arith, whole, at-most (chars w) lows)
 
+    -- one number more in each lane, and two such words against each other
     plus : (k : ℕ) → w + each (λ c. k) (chars w) ≡ each (λ c. c + k) (chars w)
     plus k = ap (λ (x : ℕ). x + each (λ c. k) (chars w)) (sym whole) ∙ each-add (λ c. c) (λ c. k) (chars w)
 

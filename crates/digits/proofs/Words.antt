@@ -40,6 +40,7 @@ plain-worth c e = go (digit-cases c e)
     go (inl (a, b)) = lane (c - 48) 0 (c - 48) (omega arith) (omega arith) (omega arith) (omega arith) ∙ sym (figure c a b .1)
     go (inr (a, b)) = lane (c - 96) 1 (c - 87) (omega arith) (omega arith) (omega arith) (omega arith) ∙ sym (letter c a b .1)
 
+-- digits, each taken for one, are the number that they are
 plain-behind : (n : ℕ) (s : List ℕ) → allDigits s ≡ true → plainBehind n s ≡ behind n s
 plain-behind n [] e = refl
 plain-behind n (c ∷ s) e =
