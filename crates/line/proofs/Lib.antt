@@ -7,4 +7,6 @@ pub mod RoundTrip
 pub mod Items
 mod Examples
 pub mod Zero
+pub mod Packs
 pub mod Short
+pub mod Seeing

@@ -16,7 +16,7 @@ use Rattle.digits.proofs.Laws.{all-append, and-left, and-right}
 use Rattle.digits.proofs.Reading.{reading-tells, reading-value, reading-below}
 use Rattle.line.specs.declared.Read.the-variants.{Refused}
 use Rattle.line.specs.Table.{Fields, table}
-use Rattle.line.specs.Read.{field, fields, wrong, tabled, readLine, lineAt}
+use Rattle.line.specs.Read.{part, field, fields, wrong, tabled, readLine, lineAt}
 
 -- readLine by cases
 module _ (s : List ℕ) (n : ℕ) where
@@ -31,10 +31,6 @@ module _ (s : List ℕ) (n : ℕ) where
 
   pub read-tabled : length s ≡ 23 → wrong s ≡ false → readLine s n ≡ tabled (table (fields s)) n
   read-tabled h e = read-of true false (eq-eqb (length s) 23 h) e
-
--- a part of a list
-abbrev pub part : List ℕ → ℕ → ℕ → List ℕ
-part s from size = take size (drop from s)
 
 pub part-length : (s : List ℕ) (from size : ℕ) → from + size ≤ length s → length (part s from size) ≡ size
 part-length s from size h = length-take-le size (drop from s) (simp length-drop (omega arith))

@@ -15,9 +15,9 @@ use Rattle.line.specs.declared.Frame.{Frame}
 use Rattle.line.specs.declared.Frame.the-variants.{Site, Call, Spawn, Sync, Return, Cost}
 use Rattle.line.specs.declared.Read.the-variants.{Line}
 use Rattle.line.specs.Table.{Fields, Entry, frame, none, only, table, fieldsOf}
-use Rattle.line.specs.Read.{field, fields, wrong, tabled, readLine}
+use Rattle.line.specs.Read.{part, field, fields, wrong, tabled, readLine}
 use Rattle.line.specs.Write.{chars, narrow, isFrame, writable, writeChars}
-use Rattle.line.proofs.Lines.{part, part-length, parts, all-parts, read-tabled}
+use Rattle.line.proofs.Lines.{part-length, parts, all-parts, read-tabled}
 use Rattle.line.proofs.Cases.{frames}
 
 -- five fields that have room in their digits

@@ -14,9 +14,9 @@ use Rattle.line.specs.declared.Frame.{Frame}
 use Rattle.line.specs.declared.Frame.the-variants.{Call, Spawn, Sync, Return, Cost}
 use Rattle.line.specs.declared.Read.the-variants.{Line}
 use Rattle.line.specs.Table.{Fields, table}
-use Rattle.line.specs.Read.{tabled, readLine}
+use Rattle.line.specs.Read.{part, tabled, readLine}
 use Rattle.line.specs.Zeros.{allZero}
-use Rattle.line.proofs.Lines.{part, part-length, part-more, Numerals, allGood, good-line, numeral-below}
+use Rattle.line.proofs.Lines.{part-length, part-more, Numerals, allGood, good-line, numeral-below}
 use Rattle.line.proofs.Zero.{nought, zero-reading, zero-append}
 
 two : (s : List ℕ) → 2 ≤ length s → take 2 s ≡ getD s 0 0 ∷ getD s 1 0 ∷ []
@@ -67,9 +67,6 @@ module _ (s : List ℕ) (n : ℕ) (long : length s ≡ 23) (c0 : getD s 0 0 ≡ 
 
     pub return-line : getD s 1 0 ≡ 53 → Line n Return ≡ readLine s n
     return-line c1 = line-is s n long 53 5 c0 c1 refl end nought nought (part-zero s n long 53 5 c0 c1 refl end 2 4 (omega arith) (omega arith) zs) (part-zero s n long 53 5 c0 c1 refl end 6 8 (omega arith) (omega arith) zv) refl refl rest
-
-  pub site-below : (site : Numeral) → site ≡ reading (part s 2 4) → site .value < 65536
-  site-below site es = numeral-below s 2 4 (omega arith) (omega arith) site es
 
 -- the tests of a short look, each by itself
 pub five : (a b c d e : Bool) → (a && b && c && d && e) ≡ true → (a ≡ true) × (b ≡ true) × (c ≡ true) × (d ≡ true) × (e ≡ true)

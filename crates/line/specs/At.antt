@@ -1,26 +1,24 @@
--- The fields of one line of a text, each by itself: what a reader of accepted lines needs, without a look at the rest of the line.
-use Prim.Native.Nat.{ℕ}
-use mathlib.Core.Bool.{Bool, true, false, cond, _&&_}
+-- For proofs, not for the reader of document 01: the kind, the site and the value of one line of a text, each by itself, without a look at the rest of the
+-- line. Each character is taken for a digit, which on an accepted line it is.
+use Prim.Native.Nat.{ℕ, _%_}
+use mathlib.Core.Bool.{cond}
 use mathlib.Core.List.{List}
-use lib.ListN.{length, take, drop}
+use lib.ListN.{length, getD}
 use lib.Dec.{eqb}
-use Rattle.digits.specs.Digits.{allDigits, number}
-use Rattle.line.specs.Read.{lineAt}
+use Rattle.digits.specs.Word.{plainly}
+use Rattle.line.specs.Read.{part, lineAt}
 
--- the characters of a field of line n
-abbrev pub charsAt : List ℕ → ℕ → ℕ → ℕ → List ℕ
-charsAt s n from size = take size (drop from (lineAt s n))
+-- x of line n; 0 where it is not whole
+abbrev pub ofWhole : List ℕ → ℕ → ℕ → ℕ
+ofWhole s n x = cond (eqb (length (lineAt s n)) 23) x 0
 
--- the number in a field of line n; 0 where line n is not whole or the field has a wrong character
-abbrev pub fieldAt : List ℕ → ℕ → ℕ → ℕ → ℕ
-fieldAt s n from size = cond (eqb (length (lineAt s n)) 23 && allDigits (charsAt s n from size)) (number (charsAt s n from size)) 0
-
--- "kind (2 digits), site (4), value (8)"
+-- the kind, by its second digit alone: no kind is above 6
 abbrev pub kindAt : List ℕ → ℕ → ℕ
-kindAt s n = fieldAt s n 0 2
+kindAt s n = ofWhole s n (getD (lineAt s n) 1 0 % 16)
 
+-- "site (4), value (8)"
 abbrev pub siteAt : List ℕ → ℕ → ℕ
-siteAt s n = fieldAt s n 2 4
+siteAt s n = ofWhole s n (plainly (part (lineAt s n) 2 4))
 
 abbrev pub valueAt : List ℕ → ℕ → ℕ
-valueAt s n = fieldAt s n 6 8
+valueAt s n = ofWhole s n (plainly (part (lineAt s n) 6 8))

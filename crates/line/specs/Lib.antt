@@ -1,5 +1,6 @@
 pub mod Table
 pub mod Read
-pub mod At
-pub mod Write
 pub mod Zeros
+pub mod At
+pub mod Seeing
+pub mod Write

@@ -9,9 +9,13 @@ use Rattle.line.specs.declared.Read.{Read}
 use Rattle.line.specs.declared.Read.the-variants.{Line, Refused}
 use Rattle.line.specs.Table.{Fields, Entry, frame, none, table}
 
--- the number in the digits of s from one place on
+-- the characters of s from one place on, as many as size says
+abbrev pub part : List ℕ → ℕ → ℕ → List ℕ
+part s from size = take size (drop from s)
+
+-- the number in the digits of a part
 abbrev pub field : List ℕ → ℕ → ℕ → ℕ
-field s from size = number (take size (drop from s))
+field s from size = number (part s from size)
 
 -- "Fields, most significant digit first: kind (2 digits), site (4), value (8), file (4), column (4)."
 abbrev pub fields : List ℕ → Fields

@@ -1,14 +1,18 @@
 // A trace line: its place, its frame, its reader and its writer.
 ghost use mathlib.Core.Path.{_≡_};
 ghost use mathlib.Core.Bool.{cond};
-ghost use Prim.Native.Nat.{_+_, _≤_};
+ghost use Prim.Native.Nat.{ℕ, _%_};
 ghost use lib.ListN.{length, getD, replicate};
+ghost use Rattle.digits.specs.Digits.{allDigits};
+ghost use Rattle.digits.specs.Word.{plainly};
 ghost use Rattle.line.specs.Table.{only, table};
 ghost use Rattle.line.specs.declared.Wrote.the-variants.{Chars, Refused};
 ghost use Rattle.line.specs.Write.{chars, writeAnswer, writeChars};
-ghost use Rattle.line.specs.Read.{tabled, readLine, readAt};
+ghost use Rattle.line.specs.Read.{part, tabled, readLine, readAt};
+ghost use Rattle.line.specs.At.{kindAt, siteAt, valueAt};
+ghost use Rattle.line.specs.declared.Sight.the-variants.{Seen, Other};
 ghost use Rattle.line.specs.Zeros.{allZero};
-ghost use Rattle.line.specs.At.{fieldAt, kindAt, siteAt, valueAt};
+ghost use Rattle.line.specs.Seeing.{glanced, around, isBare, isMade, isCost};
 
 // "A site line carries its place: file, line and column."
 pub struct Place {
@@ -124,92 +128,14 @@ fn read_whole(s: &[u8], n: usize) -> Read
     )
 }
 
-// Whether every character is the digit 0.
-fn zeros(s: &[u8]) -> bool
-    ensures { λ r. ⌜ r ≡ allZero (now (s .entry)) ⌝ }
-{
-    let mut all = true;
-    let mut i = 0;
-    while i < s.len() {
-        all = all & (s[i] == b'0');
-        i += 1;
-    }
-    all
-}
-
-// A line of kind 06. Only the digits of its value are decoded, unless it is no cost after all.
-fn read_cost(s: &[u8], n: usize) -> Read
-    requires { ⌜ (length (now s) ≡ 23) × (getD (now s) 1 0 ≡ 54) ⌝ }
-    ensures { λ r. ⌜ r ≡ readLine (now (s .entry)) n ⌝ }
-{
-    let value = digits::read::number(&s[6..14]);
-    let site = zeros(&s[2..6]);
-    let rest = zeros(&s[14..22]);
-    if (s[0] == b'0') & site & value.good & (1 <= value.value) & rest & (s[22] == b'\n') {
-        return Read::Line(n, Frame::Cost(value.value));
-    }
-    read_whole(s, n)
-}
-
-// A line of kind 02 or 03, whose second character is kind. Only the digits of its site are decoded, unless it is neither after all.
-fn read_made(s: &[u8], kind: u8, n: usize) -> Read
-    requires { ⌜ (length (now s) ≡ 23) × (getD (now s) 1 0 ≡ kind) ⌝ }
-    ensures { λ r. ⌜ r ≡ readLine (now (s .entry)) n ⌝ }
-{
-    let site = digits::read::number(&s[2..6]);
-    let value = zeros(&s[6..14]);
-    let rest = zeros(&s[14..22]);
-    if (s[0] == b'0') & site.good & value & rest & (s[22] == b'\n') {
-        if kind == b'2' {
-            return Read::Line(n, Frame::Call(site.value as u16));
-        }
-        if kind == b'3' {
-            return Read::Line(n, Frame::Spawn(site.value as u16));
-        }
-    }
-    read_whole(s, n)
-}
-
-// A line of kind 04 or 05, whose second character is kind. No digit is decoded, unless it is neither after all.
-fn read_bare(s: &[u8], kind: u8, n: usize) -> Read
-    requires { ⌜ (length (now s) ≡ 23) × (getD (now s) 1 0 ≡ kind) ⌝ }
-    ensures { λ r. ⌜ r ≡ readLine (now (s .entry)) n ⌝ }
-{
-    let site = zeros(&s[2..6]);
-    let value = zeros(&s[6..14]);
-    let rest = zeros(&s[14..22]);
-    if (s[0] == b'0') & site & value & rest & (s[22] == b'\n') {
-        if kind == b'4' {
-            return Read::Line(n, Frame::Sync);
-        }
-        if kind == b'5' {
-            return Read::Line(n, Frame::Return);
-        }
-    }
-    read_whole(s, n)
-}
-
-// What the characters s are as line n. The kind's second digit tells which fields have to be decoded.
+// What the characters s are as line n.
 fn read_as(s: &[u8], n: usize) -> Read
     ensures { λ r. ⌜ r ≡ readLine (now (s .entry)) n ⌝ }
 {
     if s.len() != 23 {
         return Read::Refused(2, 0);
     }
-    let kind = s[1];
-    if kind == b'6' {
-        return read_cost(s, n);
-    }
-    if kind == b'5' {
-        return read_bare(s, kind, n);
-    }
-    if kind == b'4' {
-        return read_bare(s, kind, n);
-    }
-    if kind == b'1' {
-        return read_whole(s, n);
-    }
-    read_made(s, kind, n)
+    read_whole(s, n)
 }
 
 // The line reader: the frame that the 23 characters lent are, or refusal 2, 5 or 6 with line 0.
@@ -230,39 +156,203 @@ pub fn read_at(text: &[u8], n: usize) -> Read
     read_as(&text[a..a + 23], n)
 }
 
-// The number in one field of line n.
-fn field_at(text: &[u8], n: usize, from: usize, size: usize) -> u32
-    requires { ⌜ (from + size ≤ 23) × (size ≤ 8) ⌝ }
-    ensures { λ r. ⌜ r ≡ fieldAt (now (text .entry)) n from size ⌝ }
+// What is seen of a line at a glance: its frame, or that it has to be read whole, as a site line and a faulty one do.
+pub enum Sight {
+    Seen(Frame),
+    Other,
+}
+
+// Eight digits 0, or four behind four, as one number.
+const ZEROS: u64 = 0x3030_3030_3030_3030;
+
+// Whether eight characters are all the digit 0.
+fn eight_zeros(s: &[u8]) -> bool
+    requires { ⌜ length (now s) ≡ 8 ⌝ }
+    ensures { λ r. ⌜ r ≡ allZero (now (s .entry)) ⌝ }
+{
+    digits::word::eight(s) == ZEROS
+}
+
+// Whether four are.
+fn four_zeros(s: &[u8]) -> bool
+    requires { ⌜ length (now s) ≡ 4 ⌝ }
+    ensures { λ r. ⌜ r ≡ allZero (now (s .entry)) ⌝ }
+{
+    digits::word::four(s) == ZEROS
+}
+
+// Whether eight characters are all digits.
+fn eight_digits(s: &[u8]) -> bool
+    requires { ⌜ length (now s) ≡ 8 ⌝ }
+    ensures { λ r. ⌜ r ≡ allDigits (now (s .entry)) ⌝ }
+{
+    digits::word::all_digits(digits::word::eight(s))
+}
+
+// Whether four are.
+fn four_digits(s: &[u8]) -> bool
+    requires { ⌜ length (now s) ≡ 4 ⌝ }
+    ensures { λ r. ⌜ r ≡ allDigits (now (s .entry)) ⌝ }
+{
+    digits::word::all_digits(digits::word::four(s))
+}
+
+// The number that eight characters are, each taken for a digit.
+fn eight_plainly(s: &[u8]) -> u32
+    requires { ⌜ length (now s) ≡ 8 ⌝ }
+    ensures { λ r. ⌜ r ≡ plainly (now (s .entry)) ⌝ }
+{
+    digits::word::plainly(digits::word::eight(s))
+}
+
+// The number that four are.
+fn four_plainly(s: &[u8]) -> u16
+    requires { ⌜ length (now s) ≡ 4 ⌝ }
+    ensures { λ r. ⌜ r ≡ plainly (now (s .entry)) ⌝ }
+{
+    digits::word::plainly(digits::word::four(s)) as u16
+}
+
+// The kind of a line, by its second digit alone.
+fn kind_of(s: &[u8]) -> u8
+    requires { ⌜ length (now s) ≡ 23 ⌝ }
+    ensures { λ r. ⌜ r ≡ getD (now (s .entry)) 1 0 % 16 ⌝ }
+{
+    s[1] % 16
+}
+
+// Its site.
+fn site_of(s: &[u8]) -> u16
+    requires { ⌜ length (now s) ≡ 23 ⌝ }
+    ensures { λ r. ⌜ r ≡ plainly (part (now (s .entry)) 2 4) ⌝ }
+{
+    four_plainly(&s[2..6])
+}
+
+// Its value.
+fn value_of(s: &[u8]) -> u32
+    requires { ⌜ length (now s) ≡ 23 ⌝ }
+    ensures { λ r. ⌜ r ≡ plainly (part (now (s .entry)) 6 8) ⌝ }
+{
+    eight_plainly(&s[6..14])
+}
+
+// Whether a line has what every kind but a site line has around its site and its value: the digit 0, no file and no column, and a line feed.
+fn around(s: &[u8]) -> bool
+    requires { ⌜ length (now s) ≡ 23 ⌝ }
+    ensures { λ r. ⌜ r ≡ around (now (s .entry)) ⌝ }
+{
+    let rest = eight_zeros(&s[14..22]);
+    (s[0] == b'0') & rest & (s[22] == b'\n')
+}
+
+// Whether a line is right for a sync or a return, but for its kind: no site and no value.
+fn bare(s: &[u8]) -> bool
+    requires { ⌜ length (now s) ≡ 23 ⌝ }
+    ensures { λ r. ⌜ r ≡ isBare (now (s .entry)) ⌝ }
+{
+    let site = four_zeros(&s[2..6]);
+    let value = eight_zeros(&s[6..14]);
+    around(s) & site & value
+}
+
+// For a call or a spawn: a site and no value.
+fn made(s: &[u8]) -> bool
+    requires { ⌜ length (now s) ≡ 23 ⌝ }
+    ensures { λ r. ⌜ r ≡ isMade (now (s .entry)) ⌝ }
+{
+    let site = four_digits(&s[2..6]);
+    let value = eight_zeros(&s[6..14]);
+    around(s) & site & value
+}
+
+// For a cost: no site, and a value of at least 1.
+fn cost(s: &[u8]) -> bool
+    requires { ⌜ length (now s) ≡ 23 ⌝ }
+    ensures { λ r. ⌜ r ≡ isCost (now (s .entry)) ⌝ }
+{
+    let site = four_zeros(&s[2..6]);
+    let none = eight_zeros(&s[6..14]);
+    let value = eight_digits(&s[6..14]);
+    around(s) & site & value & !none
+}
+
+// The frame where its characters are right.
+fn seen(right: bool, frame: Frame) -> Sight
+    ensures { λ r. ⌜ r ≡ cond right (Seen frame) Other ⌝ }
+{
+    if right {
+        return Sight::Seen(frame);
+    }
+    Sight::Other
+}
+
+// What is seen of a line's 23 characters.
+fn glance_as(s: &[u8]) -> Sight
+    requires { ⌜ length (now s) ≡ 23 ⌝ }
+    ensures { λ r. ⌜ ((n : ℕ) → r ≡ glanced (readLine (now (s .entry)) n)) ⌝ }
+{
+    let kind = s[1];
+    if kind == b'6' {
+        return seen(cost(s), Frame::Cost(value_of(s)));
+    }
+    if kind == b'5' {
+        return seen(bare(s), Frame::Return);
+    }
+    if kind == b'4' {
+        return seen(bare(s), Frame::Sync);
+    }
+    if kind == b'3' {
+        return seen(made(s), Frame::Spawn(site_of(s)));
+    }
+    if kind == b'2' {
+        return seen(made(s), Frame::Call(site_of(s)));
+    }
+    Sight::Other
+}
+
+// What is seen of line n of a text. It reads eight characters at a time, and so costs less than reading the line.
+pub fn glance(text: &[u8], n: usize) -> Sight
+    ensures { λ r. ⌜ r ≡ glanced (readAt (now (text .entry)) n) ⌝ }
+{
+    if text.len() / 23 <= n {
+        return Sight::Other;
+    }
+    let a = 23 * n;
+    glance_as(&text[a..a + 23])
+}
+
+// The kind of line n, without a look at the rest of it: for lines that are known to be accepted.
+pub fn kind_at(text: &[u8], n: usize) -> u8
+    ensures { λ r. ⌜ r ≡ kindAt (now (text .entry)) n ⌝ }
 {
     if text.len() / 23 <= n {
         return 0;
     }
-    let a = 23 * n + from;
-    let e = a + size;
-    let field = digits::read::number(&text[a..e]);
-    field.value
-}
-
-// The kind of line n, and nothing of the rest: for lines that are known to be accepted.
-pub fn kind_at(text: &[u8], n: usize) -> u8
-    ensures { λ r. ⌜ r ≡ kindAt (now (text .entry)) n ⌝ }
-{
-    field_at(text, n, 0, 2) as u8
+    let a = 23 * n;
+    kind_of(&text[a..a + 23])
 }
 
 // The site of line n.
 pub fn site_at(text: &[u8], n: usize) -> u16
     ensures { λ r. ⌜ r ≡ siteAt (now (text .entry)) n ⌝ }
 {
-    field_at(text, n, 2, 4) as u16
+    if text.len() / 23 <= n {
+        return 0;
+    }
+    let a = 23 * n;
+    site_of(&text[a..a + 23])
 }
 
 // The value of line n.
 pub fn value_at(text: &[u8], n: usize) -> u32
     ensures { λ r. ⌜ r ≡ valueAt (now (text .entry)) n ⌝ }
 {
-    field_at(text, n, 6, 8)
+    if text.len() / 23 <= n {
+        return 0;
+    }
+    let a = 23 * n;
+    value_of(&text[a..a + 23])
 }
 
 // The characters of five fields, where they are as the table has them, else refusal 6.

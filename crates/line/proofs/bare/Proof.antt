@@ -1,0 +1,53 @@
+use borrow.Author.Needs.{needs}
+use Rattle.line.proofs.bare.Statement.{statement}
+use Rattle.line.proofs.bare.Tie as tie
+use Rattle.line.proofs.bare.Reads as reads
+use Rattle.line.proofs.bare.Lts as lts
+use Rattle.line.proofs.eight_zeros.Reads as eight-zeros-reads
+use Rattle.line.proofs.four_zeros.Reads as four-zeros-reads
+use Rattle.line.proofs.around.Reads as around-reads
+
+sub-four-zeros : tie.Need-sub-four-zeros
+sub-four-zeros c = search needs
+
+part-four-zeros-start : tie.Need-part-four-zeros-start
+part-four-zeros-start c = search needs
+
+part-four-zeros-end : tie.Need-part-four-zeros-end
+part-four-zeros-end c = search needs
+
+four-zeros-requires : tie.Need-four-zeros-requires
+four-zeros-requires c κs = search needs
+
+sub-eight-zeros : tie.Need-sub-eight-zeros
+sub-eight-zeros c = search needs
+
+part-eight-zeros-start : tie.Need-part-eight-zeros-start
+part-eight-zeros-start c = search needs
+
+part-eight-zeros-end : tie.Need-part-eight-zeros-end
+part-eight-zeros-end c = search needs
+
+eight-zeros-requires : tie.Need-eight-zeros-requires
+eight-zeros-requires c κs = search needs
+
+around-requires : tie.Need-around-requires
+around-requires c κs = search needs
+
+returns : tie.Need-returns
+returns c = cc (c .around .ensures, c .before .eight-zeros .ensures, c .before .before .before .four-zeros .ensures)
+
+pub bare-spec : {M : Type 1} → statement M
+bare-spec =
+    tie.close
+    (tie.spec
+    sub-four-zeros
+    part-four-zeros-start
+    part-four-zeros-end
+    four-zeros-requires
+    sub-eight-zeros
+    part-eight-zeros-start
+    part-eight-zeros-end
+    eight-zeros-requires
+    around-requires
+    returns)

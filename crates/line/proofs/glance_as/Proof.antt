@@ -1,0 +1,122 @@
+use Prim.Native.Nat.{ℕ}
+use mathlib.Core.Bool.{cond}
+use mathlib.Core.Path.{_≡_, _∙_}
+use Rattle.line.specs.declared.Frame.the-variants.{Call, Spawn, Sync, Return, Cost}
+use Rattle.line.specs.declared.Sight.the-variants.{Seen, Other}
+use Rattle.digits.specs.Word.{plainly}
+use Rattle.line.specs.Read.{part}
+use Rattle.line.specs.Seeing.{isBare, isMade, isCost}
+use Rattle.line.proofs.Seeing.{see-cost, see-return, see-sync, see-spawn, see-call, see-other}
+use borrow.Author.Needs.{needs}
+use Rattle.line.proofs.glance_as.Statement.{statement}
+use Rattle.line.proofs.glance_as.Tie as tie
+use Rattle.line.proofs.glance_as.Reads as reads
+use Rattle.line.proofs.glance_as.Lts as lts
+use Rattle.line.proofs.bare.Reads as bare-reads
+use Rattle.line.proofs.cost.Reads as cost-reads
+use Rattle.line.proofs.made.Reads as made-reads
+use Rattle.line.proofs.seen.Reads as seen-reads
+use Rattle.line.proofs.site_of.Reads as site-of-reads
+use Rattle.line.proofs.value_of.Reads as value-of-reads
+
+shared-slice-read-kind : tie.Need-shared-slice-read-kind
+shared-slice-read-kind c = search needs
+
+cost-requires : tie.Need-cost-requires
+cost-requires c κs = search needs
+
+value-of-requires : tie.Need-value-of-requires
+value-of-requires c κs = search needs
+
+seen-requires : tie.Need-seen-requires
+seen-requires c κs = search needs
+
+returns : tie.Need-returns
+returns c n =
+    let a = c .before .before .before .before .before .before in
+    let e : c .seen .result ≡ cond (isCost (a .args .s .now)) (Seen (Cost (plainly (part (a .args .s .now) 6 8)))) Other = cc (c .seen .ensures, c .before .value-of .ensures, c .before .before .cost .ensures) in
+    e ∙ see-cost (a .args .s .now) n (a .pre) (c .before .before .before .if1 .taken)
+
+bare-requires : tie.Need-bare-requires
+bare-requires c κs = search needs
+
+seen-requires-2 : tie.Need-seen-requires-2
+seen-requires-2 c κs = search needs
+
+returns-2 : tie.Need-returns-2
+returns-2 c n =
+    let a = c .before .before .before .before .before .before in
+    let e : c .seen2 .result ≡ cond (isBare (a .args .s .now)) (Seen Return) Other = cc (c .seen2 .ensures, c .before .bare .ensures) in
+    e ∙ see-return (a .args .s .now) n (a .pre) (c .before .before .if2 .taken)
+
+bare-requires-2 : tie.Need-bare-requires-2
+bare-requires-2 c κs = search needs
+
+seen-requires-3 : tie.Need-seen-requires-3
+seen-requires-3 c κs = search needs
+
+returns-3 : tie.Need-returns-3
+returns-3 c n =
+    let a = c .before .before .before .before .before .before .before in
+    let e : c .seen3 .result ≡ cond (isBare (a .args .s .now)) (Seen Sync) Other = cc (c .seen3 .ensures, c .before .bare2 .ensures) in
+    e ∙ see-sync (a .args .s .now) n (a .pre) (c .before .before .if3 .taken)
+
+made-requires : tie.Need-made-requires
+made-requires c κs = search needs
+
+site-of-requires : tie.Need-site-of-requires
+site-of-requires c κs = search needs
+
+seen-requires-4 : tie.Need-seen-requires-4
+seen-requires-4 c κs = search needs
+
+returns-4 : tie.Need-returns-4
+returns-4 c n =
+    let a = c .before .before .before .before .before .before .before .before .before in
+    let e : c .seen4 .result ≡ cond (isMade (a .args .s .now)) (Seen (Spawn (plainly (part (a .args .s .now) 2 4)))) Other = cc (c .seen4 .ensures, c .before .site-of .ensures, c .before .before .made .ensures) in
+    e ∙ see-spawn (a .args .s .now) n (a .pre) (c .before .before .before .if4 .taken)
+
+made-requires-2 : tie.Need-made-requires-2
+made-requires-2 c κs = search needs
+
+site-of-requires-2 : tie.Need-site-of-requires-2
+site-of-requires-2 c κs = search needs
+
+seen-requires-5 : tie.Need-seen-requires-5
+seen-requires-5 c κs = search needs
+
+returns-5 : tie.Need-returns-5
+returns-5 c n =
+    let a = c .before .before .before .before .before .before .before .before .before .before in
+    let e : c .seen5 .result ≡ cond (isMade (a .args .s .now)) (Seen (Call (plainly (part (a .args .s .now) 2 4)))) Other = cc (c .seen5 .ensures, c .before .site-of2 .ensures, c .before .before .made2 .ensures) in
+    e ∙ see-call (a .args .s .now) n (a .pre) (c .before .before .before .if5 .taken)
+
+returns-6 : tie.Need-returns-6
+returns-6 c n =
+    let a = c .before .before .before .before .before .before .before in
+    see-other (a .args .s .now) n (a .pre) (c .before .before .before .before .if1 .left) (c .before .before .before .if2 .left) (c .before .before .if3 .left) (c .before .if4 .left) (c .if5 .left)
+
+pub glance-as-spec : {M : Type 1} → statement M
+glance-as-spec =
+    tie.close
+    (tie.spec
+    shared-slice-read-kind
+    cost-requires
+    value-of-requires
+    seen-requires
+    returns
+    bare-requires
+    seen-requires-2
+    returns-2
+    bare-requires-2
+    seen-requires-3
+    returns-3
+    made-requires
+    site-of-requires
+    seen-requires-4
+    returns-4
+    made-requires-2
+    site-of-requires-2
+    seen-requires-5
+    returns-5
+    returns-6)
