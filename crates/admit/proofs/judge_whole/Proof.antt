@@ -1,0 +1,57 @@
+-- `admit::judge_whole` meets its contract: a line that reads as a frame is stepped over with what the lookup found.
+use mathlib.Core.Path.{_≡_, refl, sym, ap, _∙_}
+use mathlib.Core.Bool.{Bool}
+use borrow.Author.Needs.{needs}
+use Rattle.line.specs.declared.Read.the-variants.{Line, Refused}
+use Rattle.line.specs.Read.{readAt}
+use Rattle.admit.specs.Step.{stepped}
+use Rattle.admit.proofs.judge_whole.Statement.{statement}
+use Rattle.admit.proofs.judge_whole.Tie as tie
+
+read-at-requires : tie.Need-read-at-requires
+read-at-requires c κs = search needs
+
+enum-known-frame : tie.Need-enum-known-frame
+enum-known-frame c = search needs
+
+again-requires : tie.Need-again-requires
+again-requires c κs = search needs
+
+updated-requires : tie.Need-updated-requires
+updated-requires c κs = search needs
+
+enum-known-number : tie.Need-enum-known-number
+enum-known-number c = search needs
+
+refuse-requires : tie.Need-refuse-requires
+refuse-requires c κs = search needs
+
+same-length : tie.Need-same-length
+same-length c = search needs
+
+returns : tie.Need-returns
+returns c =
+    let a = c .before .before .before .before .before .before .before .before .before .before .before .args in
+    let g = c .before .before .before .before .before .before .frame .given in
+    let e : readAt (a .trace .now) (a .t .lines) ≡ Line (g .0 .0) (g .0 .1 .0) = sym (c .before .before .before .before .before .before .before .before .read-at .ensures) ∙ g .1 in
+    rw e (c .updated .ensures ∙ ap (λ (b : Bool). stepped (a .depth) (a .sites) b (a .t) (g .0 .1 .0)) (c .before .before .before .again .ensures .0), c .before .before .before .again .ensures .1)
+
+returns-2 : tie.Need-returns-2
+returns-2 c =
+    let a = c .before .before .before .before .before .before .before .args in
+    let e : readAt (a .trace .now) (a .t .lines) ≡ Refused _ _ = sym (c .before .before .before .before .read-at .ensures) ∙ c .before .before .number .given .1 in
+    rw e (c .refuse .ensures, refl)
+
+pub judge-whole-spec : {M : Type 1} → statement M
+judge-whole-spec =
+    tie.close
+    (tie.spec
+    read-at-requires
+    enum-known-frame
+    again-requires
+    updated-requires
+    enum-known-number
+    refuse-requires
+    same-length
+    returns
+    returns-2)
