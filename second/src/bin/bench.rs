@@ -1,15 +1,17 @@
 //! `bench DIR [SAMPLES]`: times the proved engines against the plain one, the script and a pass that only sums the bytes.
 //!
 //! Writes the traces and `bench.csv` to DIR, tells its progress, and prints the table and the goals. The numbers are
-//! medians of SAMPLES samples (31 if not said; the script's, of 3) of processor time, taken in turn in one run. Every engine's answer is
-//! first held against the plain one's.
+//! medians of SAMPLES samples (101 if not said; the script's, of 3) of processor time. Each sample goes over all traces and
+//! all engines, so that a machine that is slow for a while is slow for all of them. Every engine's answer is held against
+//! the plain one's.
 
 use second::bench::table::{csv, goals, head, Measured};
-use second::bench::timing::medians;
+use second::bench::timing::{medians, Run};
 use second::bench::traces::{Shape, DEPTH, SHAPES};
-use second::check::Limits;
+use second::check::{Lent, Limits};
 use second::library::Library;
 use second::plain;
+use second::rows::Profile;
 use std::env::args;
 use std::error::Error;
 use std::fs;
@@ -20,24 +22,26 @@ use std::process::Command;
 const LINES: [usize; 3] = [1_000, 8_000, 65_536];
 const SITES: [u64; 3] = [2, 31, 255];
 
+/// Those that are timed in turn; the script is timed by itself.
+const TIMED: usize = 4;
+
 fn main() -> Result<(), Box<dyn Error>> {
     let words: Vec<String> = args().skip(1).collect();
     let (folder, samples) = match &words[..] {
-        [folder] => (Path::new(folder), 31),
+        [folder] => (Path::new(folder), 101),
         [folder, samples] => (Path::new(folder), samples.parse()?),
         _ => return Err("usage: bench DIR [SAMPLES]".into()),
     };
     let library = proved().ok_or("the proved library is not linked: run tools/native-lib.sh and build again")?;
-    let mut all = vec![];
+    let mut cases = cases();
+    let seconds = seconds(library, &mut cases, samples);
     println!("{}", head());
-    for lines in LINES {
-        for sites in SITES {
-            for shape in SHAPES {
-                let measured = measure(library, folder, samples, shape, lines, sites)?;
-                println!("{}", measured.line());
-                all.push(measured);
-            }
-        }
+    let mut all = vec![];
+    for (case, timed) in cases.iter().zip(seconds.chunks_exact(TIMED)) {
+        case.check();
+        let measured = case.measured(timed, time_script(folder, case)?);
+        println!("{}", measured.line());
+        all.push(measured);
     }
     fs::write(folder.join("bench.csv"), csv(&all))?;
     print!("{}", goals(&all));
@@ -52,49 +56,89 @@ fn proved() -> Option<&'static dyn Library> {
     None
 }
 
-/// Times everything on one trace.
-fn measure(
-    library: &dyn Library,
-    folder: &Path,
-    samples: usize,
+/// A trace, what is lent to each engine for it, and what they are to give.
+struct Case {
     shape: Shape,
-    lines: usize,
-    sites: u64,
-) -> Result<Measured, Box<dyn Error>> {
-    let limits = Limits { depth: DEPTH, sites };
-    let trace = shape.trace(lines, sites);
-    let lent = limits.for_marks(lines);
-    let right = plain::profile(&trace, limits, &lent).expect("a good trace");
+    limits: Limits,
+    trace: Vec<u8>,
+    lent: Lent,
+    right: Profile,
+    tables: Room,
+    marked: Room,
+    marks: Vec<u8>,
+}
 
-    let (mut table_scratch, mut marks_scratch) = (vec![0; limits.table_scratch()], vec![0; limits.marks_scratch()]);
-    let (mut rows, mut more_rows) = (vec![0; limits.rows()], vec![0; limits.rows()]);
-    let (mut answer, mut more_answer, mut marks) = ([0; 4], [0; 4], vec![0; lines]);
-    let mut tables = || library.tables(black_box(&trace), limits, &mut table_scratch, &mut rows, &mut answer);
-    let mut marked =
-        || library.marks(black_box(&trace), limits, &mut marks_scratch, &mut marks, &mut more_rows, &mut more_answer);
-    assert_eq!((tables(), marked()), (0, 0), "{} is accepted", shape.name);
+/// What both engines are lent.
+struct Room {
+    scratch: Vec<u64>,
+    rows: Vec<u64>,
+    answer: [u64; 4],
+}
 
-    let mut runs: [&mut dyn FnMut(); 4] = [
-        &mut || _ = black_box(black_box(&trace).iter().map(|&byte| u64::from(byte)).sum::<u64>()),
-        &mut || _ = black_box(tables()),
-        &mut || _ = black_box(marked()),
-        &mut || _ = black_box(plain::profile(black_box(&trace), limits, &lent)),
-    ];
-    let [bytes, by_tables, by_marks, by_plain] = medians(&mut runs, samples)[..] else { unreachable!("four runs") };
-    assert_eq!((&rows, answer), (&right.rows.concat(), right.answer), "the table engine on {}", shape.name);
-    assert_eq!(
-        (&more_rows, more_answer, &marks),
-        (&right.rows.concat(), right.answer, &right.marks),
-        "the marks engine on {}",
-        shape.name
-    );
-    let script = time_script(folder, &trace, &format!("{}-{lines}-{sites}.trace", shape.name), limits)?;
-    Ok(Measured { shape: shape.name, lines, sites, seconds: [bytes, by_tables, by_marks, by_plain, script] })
+/// Every number of lines with every limit and every shape.
+fn cases() -> Vec<Case> {
+    let limits = LINES.iter().flat_map(|lines| SITES.iter().map(move |sites| (*lines, *sites)));
+    limits.flat_map(|(lines, sites)| SHAPES.iter().map(move |shape| Case::new(*shape, lines, sites))).collect()
+}
+
+/// The median seconds of each engine on each trace.
+fn seconds(library: &dyn Library, cases: &mut [Case], samples: usize) -> Vec<f64> {
+    let mut runs: Vec<Run> = cases.iter_mut().flat_map(|case| case.runs(library)).collect();
+    medians(&mut runs, samples, |taken| {
+        if taken % 10 == 0 || taken == samples {
+            eprintln!("{taken} of {samples} samples");
+        }
+    })
+}
+
+impl Case {
+    fn new(shape: Shape, lines: usize, sites: u64) -> Case {
+        let limits = Limits { depth: DEPTH, sites };
+        let trace = shape.trace(lines, sites);
+        let lent = limits.for_marks(lines);
+        let right = plain::profile(&trace, limits, &lent).expect("a good trace");
+        let room = |scratch| Room { scratch: vec![0; scratch], rows: vec![0; limits.rows()], answer: [0; 4] };
+        let (tables, marked) = (room(limits.table_scratch()), room(limits.marks_scratch()));
+        Case { shape, limits, trace, lent, right, tables, marked, marks: vec![0; lines] }
+    }
+
+    /// The pass over the bytes, the two proved engines and the plain one.
+    fn runs<'a>(&'a mut self, library: &'a dyn Library) -> [Run<'a>; TIMED] {
+        let Case { limits, trace, lent, tables, marked, marks, .. } = self;
+        let (limits, trace, lent) = (*limits, &trace[..], &*lent);
+        [
+            Box::new(move || _ = black_box(black_box(trace).iter().map(|&byte| u64::from(byte)).sum::<u64>())),
+            Box::new(move || {
+                let Room { scratch, rows, answer } = &mut *tables;
+                assert_eq!(library.tables(black_box(trace), limits, scratch, rows, answer), 0, "accepted");
+            }),
+            Box::new(move || {
+                let Room { scratch, rows, answer } = &mut *marked;
+                assert_eq!(library.marks(black_box(trace), limits, scratch, marks, rows, answer), 0, "accepted");
+            }),
+            Box::new(move || _ = black_box(plain::profile(black_box(trace), limits, lent))),
+        ]
+    }
+
+    /// Holds what the engines have left against what is right.
+    fn check(&self) {
+        let (rows, name) = (self.right.rows.concat(), self.shape.name);
+        assert_eq!((&self.tables.rows, self.tables.answer), (&rows, self.right.answer), "the table engine on {name}");
+        assert_eq!((&self.marked.rows, self.marked.answer), (&rows, self.right.answer), "the marks engine on {name}");
+        assert_eq!(self.marks, self.right.marks, "the marks on {name}");
+    }
+
+    fn measured(&self, timed: &[f64], script: f64) -> Measured {
+        let [bytes, tables, marks, plain] = timed[..] else { unreachable!("as many as are timed") };
+        let seconds = [bytes, tables, marks, plain, script];
+        Measured { shape: self.shape.name, lines: self.marks.len(), sites: self.limits.sites, seconds }
+    }
 }
 
 /// The median seconds that the script takes, its start not counted.
-fn time_script(folder: &Path, trace: &[u8], name: &str, limits: Limits) -> Result<f64, Box<dyn Error>> {
-    let file = folder.join(name);
+fn time_script(folder: &Path, case: &Case) -> Result<f64, Box<dyn Error>> {
+    let Case { shape, limits, trace, marks, .. } = case;
+    let file = folder.join(format!("{}-{}-{}.trace", shape.name, marks.len(), limits.sites));
     fs::write(&file, trace)?;
     let own = Path::new(env!("CARGO_MANIFEST_DIR")).join("script");
     let told = Command::new("python3")
