@@ -1,4 +1,5 @@
 pub mod Loops
+pub mod OneRow
 pub mod Steps
 pub mod Parts
 pub mod Bodies

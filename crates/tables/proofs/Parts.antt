@@ -1,17 +1,21 @@
 -- A part of the scratch from a place on, as it is lent and as it comes back; and what its tables then are.
 use mathlib.Core.Path.{_≡_, refl, ap, _∙_, sym}
+use mathlib.Core.Bool.{Bool, true, false, cond}
 use mathlib.Core.Logic.{_⊎_, inl, inr}
-use mathlib.Core.List.{List, [], _∷_, _++_, append-nil}
+use mathlib.Core.List.{List, [], _++_, append-nil}
 use Prim.Native.Nat.{ℕ, _+_, _*_, _-_, _≤_, _<_}
 use native.Mathlib.Decide.{decLt}
 use native.Mathlib.Omega.{arith}
+use lib.Dec.{eqb}
 use lib.ListN.{length, take, drop, getD, length-drop, List·getD-append}
 use lib.Seq.{take-length, drop-length, length-take-le, getD-take, getD-drop, getD-append-add}
+use borrow.Author.Tests.{eqb-true, eqb-false}
 use borrow.Rule.Slice.PartMut.{putMid, same-len-mid}
-use Rattle.chain.specs.Plan.{CostLine}
-use Rattle.trace.specs.Fold.{Chains, nothing, onRow}
+use Rattle.chain.specs.Plan.{CostLine, weight}
+use Rattle.trace.specs.Fold.{Chains, nothing}
 use Rattle.walk.specs.Reader.{alone}
-use Rattle.tables.specs.Blocks.{Out, Shows}
+use Rattle.tables.specs.Blocks.{Out, Shows, partAt, Holds}
+use Rattle.tables.proofs.Steps.{part-first, part-later}
 
 -- the part from o on, as it is lent and as it comes back
 module _ (o : ℕ) (t : List ℕ) (h : o ≤ length t) where
@@ -34,9 +38,6 @@ module _ (o : ℕ) (t : List ℕ) (h : o ≤ length t) where
       ap (λ (z : List ℕ). getD z (o + j) 0) (back-is y)
       ∙ ap (λ (q : ℕ). getD (take o t ++ y) (q + j) 0) (sym (length-take-le o t h))
       ∙ getD-append-add (take o t) y j 0
-
-  pub part-length : length (take (length t - o) (drop o t)) ≡ length t - o
-  part-length = ap length part-is ∙ length-drop o t
 
   pub part-at : (j : ℕ) → getD (take (length t - o) (drop o t)) j 0 ≡ getD t (o + j) 0
   part-at j = ap (λ (z : List ℕ). getD z j 0) part-is ∙ getD-drop o t j 0
@@ -66,9 +67,21 @@ own-only n w t c s j o = go (in-or-out n w j) (in-or-out (2 * n) w j) (in-or-out
     go (inl l) (inl x) (inl g) = s .zero j o l x g
 
 module _ (n w : ℕ) (wn : w ≤ n) (t : List ℕ) (h : 4 * n ≤ length t) where
-  -- a child is lent zeros
-  pub child-none : (k : Chains) → Shows n w t k [] → Shows n w (take (length t - 4 * n) (drop (4 * n) t)) nothing []
-  child-none k s =
+  -- behind the prefix's block all is zero as long as no child is the longest
+  first-zero : (c : List CostLine) → Shows n w t (alone c) [] → (j : ℕ) → getD t (n + j) 0 ≡ 0
+  first-zero c s j = own-only n w t c s (n + j) (λ x y. omega arith)
+
+  -- and behind the four blocks whatever child is
+  later-zero : (k : Chains) → Shows n w t k [] → (j : ℕ) → getD t (4 * n + j) 0 ≡ 0
+  later-zero k s j = go (decLt j w)
+    where
+      go : Dec (j < w) → getD t (4 * n + j) 0 ≡ 0
+      go (yes l) = s .G j l
+      go (no l) = s .zero (4 * n + j) (λ x y. omega arith) (λ x y. omega arith) (λ x y. omega arith) (λ x y. omega arith)
+
+  -- a part that is lent with zeros shows no chain
+  zeros-none : (o : ℕ) → o ≤ 4 * n → ((j : ℕ) → getD t (o + j) 0 ≡ 0) → Shows n w (take (length t - o) (drop o t)) nothing []
+  zeros-none o l z =
       record {
         P = λ i l. none (0 + i);
         L = λ i l. none (n + i);
@@ -77,16 +90,33 @@ module _ (n w : ℕ) (wn : w ≤ n) (t : List ℕ) (h : 4 * n ≤ length t) wher
         zero = λ j a b x y. none j;
       }
     where
-      own : (j : ℕ) → Dec (j < w) → getD t (4 * n + j) 0 ≡ 0
-      own j (yes l) = s .G j l
-      own j (no l) = s .zero (4 * n + j) (λ x y. omega arith) (λ x y. omega arith) (λ x y. omega arith) (λ x y. omega arith)
+      none : (j : ℕ) → getD (take (length t - o) (drop o t)) j 0 ≡ 0
+      none j = part-at o t (omega arith) j ∙ z j
 
-      none : (j : ℕ) → getD (take (length t - 4 * n) (drop (4 * n) t)) j 0 ≡ 0
-      none j = part-at (4 * n) t h j ∙ own j (decLt j w)
+  -- a child leaves its chain's table at the front of its part, and zeros: where no child is the longest,
+  back-first : (p c : List CostLine) (y : List ℕ) → Shows n w t (alone p) [] → Shows n w y (alone c) [] → Shows n w (putMid n (length t - n) t y) (record { p = p; l = c; c = [] }) []
+  back-first p c y s d =
+      record {
+        P = λ i l. back-low n t (omega arith) y (0 + i) (omega arith) ∙ s .P i l;
+        L = λ i l. let z : i ≡ 0 + i = omega arith in back-high n t (omega arith) y i ∙ ap (λ (j : ℕ). getD y j 0) z ∙ d .P i l;
+        C = λ i l. high (2 * n + i) (omega arith) (λ x y. omega arith);
+        G = λ i l. high (4 * n + i) (omega arith) (λ x y. omega arith);
+        zero = λ j a b x g. away j a b x g (decLt j n);
+      }
+    where
+      high : (j : ℕ) → n ≤ j → Out n w j → getD (putMid n (length t - n) t y) j 0 ≡ 0
+      high j l g =
+          let i = j - n in
+          let z : n + i ≡ j = omega arith in
+          ap (λ (q : ℕ). getD (putMid n (length t - n) t y) q 0) (sym z) ∙ back-high n t (omega arith) y i ∙ own-only n w y c d i (λ p q. g (omega arith) (omega arith))
 
-  -- a child leaves its chain's table at the front of its part, and zeros
-  pub child-back : (k : Chains) (c : List CostLine) (y : List ℕ) → Shows n w t k [] → Shows n w y (alone c) [] → Shows n w (putMid (4 * n) (length t - 4 * n) t y) k c
-  child-back k c y s d =
+      away : (j : ℕ) → Out 0 w j → Out n w j → Out (2 * n) w j → Out (4 * n) w j → Dec (j < n) → getD (putMid n (length t - n) t y) j 0 ≡ 0
+      away j a b x g (yes l) = back-low n t (omega arith) y j l ∙ own-only n w t p s j a
+      away j a b x g (no l) = high j (omega arith) b
+
+  -- and where one is
+  back-later : (k : Chains) (c : List CostLine) (y : List ℕ) → Shows n w t k [] → Shows n w y (alone c) [] → Shows n w (putMid (4 * n) (length t - 4 * n) t y) k c
+  back-later k c y s d =
       record {
         P = λ i l. back-low (4 * n) t h y (0 + i) (omega arith) ∙ s .P i l;
         L = λ i l. back-low (4 * n) t h y (n + i) (omega arith) ∙ s .L i l;
@@ -104,5 +134,34 @@ module _ (n w : ℕ) (wn : w ≤ n) (t : List ℕ) (h : 4 * n ≤ length t) wher
           ∙ back-high (4 * n) t h y i
           ∙ own-only n w y c d i (λ p q. g (omega arith) (omega arith))
 
-  pub back-length : (y : List ℕ) → length y ≡ length (take (length t - 4 * n) (drop (4 * n) t)) → length (putMid (4 * n) (length t - 4 * n) t y) ≡ length t
-  back-length y e = same-len-mid (4 * n) (length t - 4 * n) t y e
+  -- a child's part, wherever it begins
+  module _ (v o : ℕ) (is : o ≡ partAt n v) where
+    pub part-in : o ≤ 4 * n
+    part-in = rw is (go (eqb v 0))
+      where
+        go : (b : Bool) → cond b n (4 * n) ≤ 4 * n
+        go true = omega arith
+        go false = omega arith
+
+    pub part-length : length (take (length t - o) (drop o t)) ≡ length t - o
+    part-length = ap length (part-is o t (omega (arith, part-in))) ∙ length-drop o t
+
+    -- it is lent zeros
+    pub child-none : (k : Chains) → v ≡ weight (k .l) → Holds n w t k [] → Shows n w (take (length t - o) (drop o t)) nothing []
+    child-none k e s = zeros-none o part-in (go (eqb v 0) refl)
+      where
+        go : (b : Bool) → eqb v 0 ≡ b → (j : ℕ) → getD t (o + j) 0 ≡ 0
+        go true q j = let m = eqb-true v 0 q in rw (is ∙ part-first n v m) (first-zero (k .p ++ k .c) (s .first (sym e ∙ m)) j)
+        go false q j = let m = eqb-false v 0 q in rw (is ∙ part-later n v m) (later-zero k (s .later (λ z. m (e ∙ z))) j)
+
+    -- it comes back with the child's table
+    pub child-back : (k : Chains) (c : List CostLine) (y : List ℕ) → v ≡ weight (k .l) → Holds n w t k [] → Shows n w y (alone c) [] → Holds n w (putMid o (length t - o) t y) k c
+    child-back k c y e s d =
+        record {
+          first = λ q. rw (is ∙ part-first n v (e ∙ q)) (back-first (k .p ++ k .c) c y (s .first q) d);
+          later = λ q. rw (is ∙ part-later n v (λ z. q (sym e ∙ z))) (back-later k c y (s .later q) d);
+        }
+
+-- nothing of its length is lost
+pub back-length : (o : ℕ) (t y : List ℕ) → length y ≡ length (take (length t - o) (drop o t)) → length (putMid o (length t - o) t y) ≡ length t
+back-length o t y e = same-len-mid o (length t - o) t y e

@@ -1,21 +1,23 @@
 -- What the loops' results come to in chains.
-use mathlib.Core.Path.{_≡_, refl, ap, _∙_, sym}
+use mathlib.Core.Path.{_≡_, refl, ap, _∙_, sym, subst}
 use mathlib.Core.Bool.{Bool, true, false, cond}
-use mathlib.Core.List.{List, [], _∷_, _++_}
+use mathlib.Core.Logic.{_⊎_, inl, inr}
+use mathlib.Core.List.{List, [], _∷_, _++_, append-nil, append-assoc}
 use Prim.Native.Nat.{ℕ, _+_, _*_, _^_, _≤_, _<_}
 use native.Mathlib.Omega.{arith}
 use lib.Dec.{eqb, ltb}
-use lib.ListN.{length, getD, set, length-set}
+use lib.ListN.{length, getD, set}
 use lib.Seq.{getD-set-same, getD-set-other}
-use borrow.Author.Tests.{lt-ltb, le-ltb, eqb-true, eqb-false}
+use borrow.Author.Tests.{lt-ltb, le-ltb, eqb-true, eqb-false, eq-eqb, ne-eqb}
 use Rattle.chain.specs.Plan.{CostLine, weight, choose}
-use Rattle.chain.proofs.Choose.{choose-left, choose-right}
-use Rattle.trace.specs.Fold.{costAt, Chains, spent, joined, called, spawned, onRow}
+use Rattle.chain.proofs.Choose.{choose-left, choose-right, choose-cases, test}
+use Rattle.trace.specs.Fold.{costAt, Chains, called, spawned, onRow}
 use Rattle.trace.proofs.OnChain.{row-append, row-le}
 use Rattle.walk.specs.declared.Open.{Open}
-use Rattle.walk.specs.Numbers.{numbers, spentN, joinedN, calledN, spawnedN, load}
+use Rattle.walk.specs.Numbers.{numbers, spentN, joinedN, calledN, spawnedN}
+use Rattle.walk.specs.Reader.{alone}
 use Rattle.walk.proofs.Numbers.{spent-numbers, joined-numbers, called-numbers, spawned-numbers}
-use Rattle.tables.specs.Blocks.{Out, Added, Cleared, Table, Shows, Asks, Spent, Joined, Called, Spawned}
+use Rattle.tables.specs.Blocks.{Added, Cleared, Table, Weighed, Shows, sinceAt, partAt, Holds, Asks, Spent, Joined, Called, Spawned}
 
 -- a table elsewhere is kept
 kept : (t t′ : List ℕ) (a w : ℕ) (c : List CostLine) → ((i : ℕ) → i < w → getD t′ (a + i) 0 ≡ getD t (a + i) 0) → Table t a w c → Table t′ a w c
@@ -29,102 +31,318 @@ summed a b w t t′ x y d h g i l = omega (arith, d .sums i l, h i l, g i l, row
 pub fits : (a b w : ℕ) (t : List ℕ) (x y : List CostLine) → Table t a w x → Table t b w y → weight x + weight y < 2 ^ 64 → (i : ℕ) → i < w → getD t (a + i) 0 + getD t (b + i) 0 < 2 ^ 64
 fits a b w t x y h g f i l = omega (arith, h i l, g i l, row-le i x, row-le i y)
 
+-- a chain that weighs nothing has nothing in any row
+weightless : (i : ℕ) (c : List CostLine) → weight c ≡ 0 → onRow i c ≡ 0
+weightless i c e = omega (arith, row-le i c)
+
+-- where no child is the longest, whichever of the two the join takes, its rows are the continuation's
+row-choose : (i : ℕ) (l c : List CostLine) → weight l ≡ 0 → onRow i (choose l c) ≡ onRow i c
+row-choose i l c e = go (choose-cases l c)
+  where
+    go : ((weight l < weight c) × (choose l c ≡ c)) ⊎ ((weight c ≤ weight l) × (choose l c ≡ l)) → onRow i (choose l c) ≡ onRow i c
+    go (inl q) = ap (onRow i) (q .1)
+    go (inr q) = ap (onRow i) (q .1) ∙ omega (arith, weightless i l e, weightless i c (omega arith))
+
+-- where the blocks and parts are, by what the longest child weighs
+pub since-first : (n v : ℕ) → v ≡ 0 → sinceAt n v ≡ 0
+since-first n v e = ap (λ (b : Bool). cond b 0 (2 * n)) (eq-eqb v 0 e)
+
+pub since-later : (n v : ℕ) → (v ≡ 0 → ⊥) → sinceAt n v ≡ 2 * n
+since-later n v e = ap (λ (b : Bool). cond b 0 (2 * n)) (ne-eqb v 0 e)
+
+pub part-first : (n v : ℕ) → v ≡ 0 → partAt n v ≡ n
+part-first n v e = ap (λ (b : Bool). cond b n (4 * n)) (eq-eqb v 0 e)
+
+pub part-later : (n v : ℕ) → (v ≡ 0 → ⊥) → partAt n v ≡ 4 * n
+part-later n v e = ap (λ (b : Bool). cond b n (4 * n)) (ne-eqb v 0 e)
+
+-- an open invocation's numbers say whether a child is the longest
+pub none-longest : (f : Open) (k : Chains) → f ≡ numbers (f .at) (f .work) k → f .longest ≡ 0 → weight (k .l) ≡ 0
+none-longest f k e z = sym (ap (λ (x : Open). x .longest) e) ∙ z
+
+pub some-longest : (f : Open) (k : Chains) → f ≡ numbers (f .at) (f .work) k → (f .longest ≡ 0 → ⊥) → weight (k .l) ≡ 0 → ⊥
+some-longest f k e m z = m (ap (λ (x : Open). x .longest) e ∙ z)
+
+-- number s of the block at a, raised by a cost of v
+module _ (w : ℕ) (t : List ℕ) (a s v : ℕ) where
+  abbrev pub raised : List ℕ
+  raised = set t (a + s) (getD t (a + s) 0 + v)
+
+  module _ (sw : s < w) where
+    elsewhere : (j : ℕ) → (j ≡ a + s → ⊥) → getD raised j 0 ≡ getD t j 0
+    elsewhere j q = getD-set-other t (a + s) j (getD t (a + s) 0 + v) 0 q
+
+    -- a chain's table is then that of the chain and the cost
+    row-raised : (line : ℕ) (c : List CostLine) → a + w ≤ length t → Table t a w c → Table raised a w (c ++ costAt line s v ∷ [])
+    row-raised line c room h i l = here (eqb s i) refl ∙ sym (row-append i c (costAt line s v ∷ []))
+      where
+        here : (b : Bool) → eqb s i ≡ b → getD raised (a + i) 0 ≡ onRow i c + (cond b v 0 + 0)
+        here true q =
+            let z = eqb-true s i q in
+            rw (← z) (getD-set-same t (a + s) (getD t (a + s) 0 + v) 0 (omega arith) ∙ omega (arith, h s sw))
+        here false q = elsewhere (a + i) (λ z. eqb-false s i q (omega arith)) ∙ omega (arith, h i l)
+
+module _ (n w : ℕ) (t : List ℕ) where
+  -- a longest child that weighs nothing is none
+  light : (p l : List CostLine) → weight l ≡ 0 → Shows n w t (record { p = p; l = l; c = [] }) [] → Shows n w t (alone p) []
+  light p l e s = record { P = s .P; L = λ i h. s .L i h ∙ weightless i l e; C = s .C; G = s .G; zero = s .zero }
+
+  -- where the continuation is empty, each chain's table is in its own block
+  pub holds-two : (p l : List CostLine) → Shows n w t (record { p = p; l = l; c = [] }) [] → Holds n w t (record { p = p; l = l; c = [] }) []
+  holds-two p l s = record { first = λ e. subst (λ (x : List CostLine). Shows n w t (alone x) []) (sym (append-nil p)) (light p l e s); later = λ e. s }
+
+  -- an invocation that has come to one chain
+  pub alone-shows : (p : List CostLine) → Holds n w t (alone p) [] → Shows n w t (alone p) []
+  alone-shows p h = subst (λ (x : List CostLine). Shows n w t (alone x) []) (append-nil p) (h .first refl)
+
 module _ (n w : ℕ) (wn : w ≤ n) (t : List ℕ) where
+  -- no child was the longest: the prefix's block has the continuation
+  pub join-none : (f : Open) → f .longest ≡ 0 → Joined n w t f (joinedN f) t
+  join-none f m k e h =
+      let z = none-longest f k e m in
+      let s = h .first z in (
+        ap joinedN e ∙ joined-numbers (f .at) (f .work) k,
+        holds-two n w t (k .p ++ choose (k .l) (k .c)) []
+            (record {
+              P = λ i l. omega (arith, s .P i l, row-append i (k .p) (k .c), row-append i (k .p) (choose (k .l) (k .c)), row-choose i (k .l) (k .c) z);
+              L = s .L;
+              C = s .C;
+              G = s .G;
+              zero = s .zero;
+            }),
+      )
+
   -- the continuation was heavier
-  pub join-since : (f : Open) (t₁ t₂ : List ℕ) → Added 0 (2 * n) w t t₁ → Cleared n w t₁ t₂ → f .longest < f .since → Joined n w t f (joinedN f) t₂
-  join-since f t₁ t₂ d z lt k e s =
+  pub join-since : (f : Open) (t₁ t₂ : List ℕ) → Added 0 (2 * n) w t t₁ → Cleared n w t₁ t₂ → (f .longest ≡ 0 → ⊥) → f .longest < f .since → Joined n w t f (joinedN f) t₂
+  join-since f t₁ t₂ d z m lt k e h =
+      let s = h .later (some-longest f k e m) in
       let q : choose (k .l) (k .c) ≡ k .c = choose-right (k .l) (k .c) (omega (arith, ap (λ (x : Open). x .longest) e, ap (λ (x : Open). x .since) e)) in (
         ap joinedN e ∙ joined-numbers (f .at) (f .work) k,
-        record {
-          P = rw q (kept t₁ t₂ 0 w (k .p ++ k .c) (λ i l. z .rest (0 + i) (λ x y. omega arith)) (summed 0 (2 * n) w t t₁ (k .p) (k .c) d (s .P) (s .C)));
-          L = z .gone;
-          C = kept t₁ t₂ (2 * n) w [] (λ i l. z .rest (2 * n + i) (λ x y. omega arith)) (d .gone);
-          G = λ i l. z .rest (4 * n + i) (λ x y. omega arith) ∙ d .rest (4 * n + i) (λ x y. omega arith) (λ x y. omega arith) ∙ s .G i l;
-          zero = λ j a b c g. z .rest j b ∙ d .rest j a c ∙ s .zero j a b c g;
-        },
+        holds-two n w t₂ (k .p ++ choose (k .l) (k .c)) []
+            (record {
+              P = rw q (kept t₁ t₂ 0 w (k .p ++ k .c) (λ i l. z .rest (0 + i) (λ x y. omega arith)) (summed 0 (2 * n) w t t₁ (k .p) (k .c) d (s .P) (s .C)));
+              L = z .gone;
+              C = kept t₁ t₂ (2 * n) w [] (λ i l. z .rest (2 * n + i) (λ x y. omega arith)) (d .gone);
+              G = λ i l. z .rest (4 * n + i) (λ x y. omega arith) ∙ d .rest (4 * n + i) (λ x y. omega arith) (λ x y. omega arith) ∙ s .G i l;
+              zero = λ j a b c g. z .rest j b ∙ d .rest j a c ∙ s .zero j a b c g;
+            }),
       )
 
   -- the longest child was, or they weigh the same
-  pub join-longest : (f : Open) (t₁ t₂ : List ℕ) → Added 0 n w t t₁ → Cleared (2 * n) w t₁ t₂ → f .since ≤ f .longest → Joined n w t f (joinedN f) t₂
-  join-longest f t₁ t₂ d z le k e s =
+  pub join-longest : (f : Open) (t₁ t₂ : List ℕ) → Added 0 n w t t₁ → Cleared (2 * n) w t₁ t₂ → (f .longest ≡ 0 → ⊥) → f .since ≤ f .longest → Joined n w t f (joinedN f) t₂
+  join-longest f t₁ t₂ d z m le k e h =
+      let s = h .later (some-longest f k e m) in
       let q : choose (k .l) (k .c) ≡ k .l = choose-left (k .l) (k .c) (omega (arith, ap (λ (x : Open). x .longest) e, ap (λ (x : Open). x .since) e)) in (
         ap joinedN e ∙ joined-numbers (f .at) (f .work) k,
+        holds-two n w t₂ (k .p ++ choose (k .l) (k .c)) []
+            (record {
+              P = rw q (kept t₁ t₂ 0 w (k .p ++ k .l) (λ i l. z .rest (0 + i) (λ x y. omega arith)) (summed 0 n w t t₁ (k .p) (k .l) d (s .P) (s .L)));
+              L = kept t₁ t₂ n w [] (λ i l. z .rest (n + i) (λ x y. omega arith)) (d .gone);
+              C = z .gone;
+              G = λ i l. z .rest (4 * n + i) (λ x y. omega arith) ∙ d .rest (4 * n + i) (λ x y. omega arith) (λ x y. omega arith) ∙ s .G i l;
+              zero = λ j a b c g. z .rest j c ∙ d .rest j a b ∙ s .zero j a b c g;
+            }),
+      )
+
+  -- a called child, where no child is the longest
+  called-first : (f : Open) (c : Open) (t′ : List ℕ) → Added 0 n w t t′ → f .longest ≡ 0 → Called n w t f c (calledN c f) t′
+  called-first f c t′ d m k g e v h =
+      let z = none-longest f k e m in
+      let s = h .first z in (
+        ap (calledN c) e ∙ called-numbers (f .at) (f .work) k c g v,
         record {
-          P = rw q (kept t₁ t₂ 0 w (k .p ++ k .l) (λ i l. z .rest (0 + i) (λ x y. omega arith)) (summed 0 n w t t₁ (k .p) (k .l) d (s .P) (s .L)));
-          L = kept t₁ t₂ n w [] (λ i l. z .rest (n + i) (λ x y. omega arith)) (d .gone);
-          C = z .gone;
-          G = λ i l. z .rest (4 * n + i) (λ x y. omega arith) ∙ d .rest (4 * n + i) (λ x y. omega arith) (λ x y. omega arith) ∙ s .G i l;
-          zero = λ j a b c g. z .rest j c ∙ d .rest j a b ∙ s .zero j a b c g;
+          first = λ q.
+              record {
+                P = subst (Table t′ 0 w) (append-assoc (k .p) (k .c) g) (summed 0 n w t t′ (k .p ++ k .c) g d (s .P) (s .L));
+                L = d .gone;
+                C = λ i l. d .rest (2 * n + i) (λ x y. omega arith) (λ x y. omega arith) ∙ s .C i l;
+                G = λ i l. d .rest (4 * n + i) (λ x y. omega arith) (λ x y. omega arith) ∙ s .G i l;
+                zero = λ j a b x y. d .rest j a b ∙ s .zero j a b x y;
+              };
+          later = λ q. absurd (q z);
         },
       )
 
-  pub called-done : (f : Open) (c : Open) (t′ : List ℕ) → Added (2 * n) (4 * n) w t t′ → Called n w t f c (calledN c f) t′
-  called-done f c t′ d k g e v s = (
-    ap (calledN c) e ∙ called-numbers (f .at) (f .work) k c g v,
-    record {
-      P = λ i l. d .rest (0 + i) (λ x y. omega arith) (λ x y. omega arith) ∙ s .P i l;
-      L = λ i l. d .rest (n + i) (λ x y. omega arith) (λ x y. omega arith) ∙ s .L i l;
-      C = summed (2 * n) (4 * n) w t t′ (k .c) g d (s .C) (s .G);
-      G = d .gone;
-      zero = λ j a b x y. d .rest j x y ∙ s .zero j a b x y;
-    },
-  )
+  -- a called child, where another child is
+  called-later : (f : Open) (c : Open) (t′ : List ℕ) → Added (2 * n) (4 * n) w t t′ → (f .longest ≡ 0 → ⊥) → Called n w t f c (calledN c f) t′
+  called-later f c t′ d m k g e v h =
+      let z = some-longest f k e m in
+      let s = h .later z in (
+        ap (calledN c) e ∙ called-numbers (f .at) (f .work) k c g v,
+        record {
+          first = λ q. absurd (z q);
+          later = λ q.
+              record {
+                P = λ i l. d .rest (0 + i) (λ x y. omega arith) (λ x y. omega arith) ∙ s .P i l;
+                L = λ i l. d .rest (n + i) (λ x y. omega arith) (λ x y. omega arith) ∙ s .L i l;
+                C = summed (2 * n) (4 * n) w t t′ (k .c) g d (s .C) (s .G);
+                G = d .gone;
+                zero = λ j a b x y. d .rest j x y ∙ s .zero j a b x y;
+              };
+        },
+      )
+
+  pub called-done : (f : Open) (c : Open) (t′ : List ℕ) → Added (sinceAt n (f .longest)) (partAt n (f .longest)) w t t′ → Called n w t f c (calledN c f) t′
+  called-done f c t′ d = go (eqb (f .longest) 0) refl
+    where
+      go : (b : Bool) → eqb (f .longest) 0 ≡ b → Called n w t f c (calledN c f) t′
+      go true q = let m = eqb-true (f .longest) 0 q in called-first f c t′ (rw (since-first n (f .longest) m, part-first n (f .longest) m) at d) m
+      go false q = let m = eqb-false (f .longest) 0 q in called-later f c t′ (rw (since-later n (f .longest) m, part-later n (f .longest) m) at d) m
+
+  -- no child was the longest before the spawned one: its table is in its place
+  pub spawned-first : (f : Open) (c : Open) → f .longest ≡ 0 → Spawned n w t f c (spawnedN c f) t
+  spawned-first f c m k g e v h =
+      let z = none-longest f k e m in
+      (ap (spawnedN c) e ∙ spawned-numbers (f .at) (f .work) k c g v, go z (test (weight (k .l)) (weight (k .c) + weight g)))
+    where
+      go : weight (k .l) ≡ 0 → ((weight (k .l) < weight (k .c) + weight g) × (ltb (weight (k .l)) (weight (k .c) + weight g) ≡ true)) ⊎ ((weight (k .c) + weight g ≤ weight (k .l)) × (ltb (weight (k .l)) (weight (k .c) + weight g) ≡ false))
+          → Holds n w t (spawned g k) []
+      go z (inl q) = simp (q .1) (holds-two n w t (k .p ++ k .c) g (h .first z))
+      go z (inr q) = simp (q .1) (record { first = λ x. light n w t (k .p ++ k .c) g (omega (arith, q .0)) (h .first z); later = λ x. absurd (x z) })
 
   -- the spawned child is the longest from now on
-  pub spawned-longer : (f : Open) (c : Open) (t₁ t₂ t₃ : List ℕ) → Added 0 (2 * n) w t t₁ → Cleared n w t₁ t₂ → Added n (4 * n) w t₂ t₃ → f .longest < f .since + c .prefix → Spawned n w t f c (spawnedN c f) t₃
-  spawned-longer f c t₁ t₂ t₃ d z d₂ lt k g e v s =
+  pub spawned-longer : (f : Open) (c : Open) (t₁ t₂ t₃ : List ℕ) → Added 0 (2 * n) w t t₁ → Cleared n w t₁ t₂ → Added n (4 * n) w t₂ t₃ → (f .longest ≡ 0 → ⊥) → f .longest < f .since + c .prefix → Spawned n w t f c (spawnedN c f) t₃
+  spawned-longer f c t₁ t₂ t₃ d z d₂ m lt k g e v h =
+      let s = h .later (some-longest f k e m) in
       let q : ltb (weight (k .l)) (weight (k .c) + weight g) ≡ true = lt-ltb (weight (k .l)) (weight (k .c) + weight g) (omega (arith, ap (λ (x : Open). x .longest) e, ap (λ (x : Open). x .since) e)) in
       let g₂ : Table t₂ (4 * n) w g = kept t t₂ (4 * n) w g (λ i l. z .rest (4 * n + i) (λ x y. omega arith) ∙ d .rest (4 * n + i) (λ x y. omega arith) (λ x y. omega arith)) (s .G) in
       let p₂ : Table t₂ 0 w (k .p ++ k .c) = kept t₁ t₂ 0 w (k .p ++ k .c) (λ i l. z .rest (0 + i) (λ x y. omega arith)) (summed 0 (2 * n) w t t₁ (k .p) (k .c) d (s .P) (s .C)) in
       let c₂ : Table t₂ (2 * n) w [] = kept t₁ t₂ (2 * n) w [] (λ i l. z .rest (2 * n + i) (λ x y. omega arith)) (d .gone) in (
         ap (spawnedN c) e ∙ spawned-numbers (f .at) (f .work) k c g v,
         simp q
+            (holds-two n w t₃ (k .p ++ k .c) g
             (record {
               P = kept t₂ t₃ 0 w (k .p ++ k .c) (λ i l. d₂ .rest (0 + i) (λ x y. omega arith) (λ x y. omega arith)) p₂;
               L = summed n (4 * n) w t₂ t₃ [] g d₂ (z .gone) g₂;
               C = kept t₂ t₃ (2 * n) w [] (λ i l. d₂ .rest (2 * n + i) (λ x y. omega arith) (λ x y. omega arith)) c₂;
               G = d₂ .gone;
               zero = λ j a b x y. d₂ .rest j b y ∙ z .rest j b ∙ d .rest j a x ∙ s .zero j a b x y;
-            }),
+            })),
       )
 
   -- it is not
-  pub spawned-shorter : (f : Open) (c : Open) (t₁ : List ℕ) → Cleared (4 * n) w t t₁ → f .since + c .prefix ≤ f .longest → Spawned n w t f c (spawnedN c f) t₁
-  spawned-shorter f c t₁ z le k g e v s =
+  pub spawned-shorter : (f : Open) (c : Open) (t₁ : List ℕ) → Cleared (4 * n) w t t₁ → (f .longest ≡ 0 → ⊥) → f .since + c .prefix ≤ f .longest → Spawned n w t f c (spawnedN c f) t₁
+  spawned-shorter f c t₁ z m le k g e v h =
+      let x = some-longest f k e m in
+      let s = h .later x in
       let q : ltb (weight (k .l)) (weight (k .c) + weight g) ≡ false = le-ltb (weight (k .l)) (weight (k .c) + weight g) (omega (arith, ap (λ (x : Open). x .longest) e, ap (λ (x : Open). x .since) e)) in (
         ap (spawnedN c) e ∙ spawned-numbers (f .at) (f .work) k c g v,
         simp q
             (record {
-              P = λ i l. z .rest (0 + i) (λ x y. omega arith) ∙ s .P i l;
-              L = λ i l. z .rest (n + i) (λ x y. omega arith) ∙ s .L i l;
-              C = λ i l. z .rest (2 * n + i) (λ x y. omega arith) ∙ s .C i l;
-              G = z .gone;
-              zero = λ j a b x y. z .rest j y ∙ s .zero j a b x y;
+              first = λ o. absurd (x o);
+              later = λ o.
+                  record {
+                    P = λ i l. z .rest (0 + i) (λ x y. omega arith) ∙ s .P i l;
+                    L = λ i l. z .rest (n + i) (λ x y. omega arith) ∙ s .L i l;
+                    C = λ i l. z .rest (2 * n + i) (λ x y. omega arith) ∙ s .C i l;
+                    G = z .gone;
+                    zero = λ j a b x y. z .rest j y ∙ s .zero j a b x y;
+                  };
             }),
       )
 
-  -- what the spawned child's table is added to is clear
+  -- the child's table, behind what is done to the other blocks
+  pub child-table : (t₁ t₂ : List ℕ) → Added 0 (2 * n) w t t₁ → Cleared n w t₁ t₂ → (g : List CostLine) → Table t (4 * n) w g → Table t₂ (4 * n) w g
+  child-table t₁ t₂ d z g h = kept t t₂ (4 * n) w g (λ i l. z .rest (4 * n + i) (λ x y. omega arith) ∙ d .rest (4 * n + i) (λ x y. omega arith) (λ x y. omega arith)) h
+
+  -- what it is added to is clear
   pub child-fits : (t₁ t₂ : List ℕ) → Added 0 (2 * n) w t t₁ → Cleared n w t₁ t₂ → (g : List CostLine) → Table t (4 * n) w g → weight g < 2 ^ 64 → (i : ℕ) → i < w → getD t₂ (n + i) 0 + getD t₂ (4 * n + i) 0 < 2 ^ 64
-  child-fits t₁ t₂ d z g h v i l =
-      omega (arith, z .gone i l, z .rest (4 * n + i) (λ x y. omega arith), d .rest (4 * n + i) (λ x y. omega arith) (λ x y. omega arith), h i l, row-le i g)
+  child-fits t₁ t₂ d z g h v i l = omega (arith, z .gone i l, child-table t₁ t₂ d z g h i l, row-le i g)
 
-  pub spent-done : (f : Open) (s v : ℕ) → s < w → 4 * n ≤ length t → Spent n w s v t f (spentN v f) (set t (2 * n + s) (getD t (2 * n + s) 0 + v))
-  spent-done f s v sw room k e h = (
-    ap (spentN v) e ∙ spent-numbers (f .at) (f .work) s v k,
-    record {
-      P = λ i l. other (0 + i) (λ q. omega arith) ∙ h .P i l;
-      L = λ i l. other (n + i) (λ q. omega arith) ∙ h .L i l;
-      C = λ i l. here i l (eqb s i) refl ∙ sym (row-append i (k .c) (costAt (f .at) s v ∷ []));
-      G = λ i l. other (4 * n + i) (λ q. omega arith) ∙ h .G i l;
-      zero = λ j a b x y. other j (λ q. x (omega arith) (omega arith)) ∙ h .zero j a b x y;
-    },
-  )
+  -- a cost, where no child is the longest
+  spent-first : (f : Open) (s v : ℕ) → s < w → 4 * n ≤ length t → f .longest ≡ 0 → Spent n w s v t f (spentN v f) (raised w t 0 s v)
+  spent-first f s v sw room m k e h =
+      let z = none-longest f k e m in
+      let o = h .first z in
+      let other = elsewhere w t 0 s v sw in (
+        ap (spentN v) e ∙ spent-numbers (f .at) (f .work) s v k,
+        record {
+          first = λ q.
+              record {
+                P = subst (Table (raised w t 0 s v) 0 w) (append-assoc (k .p) (k .c) (costAt (f .at) s v ∷ [])) (row-raised w t 0 s v sw (f .at) (k .p ++ k .c) (omega arith) (o .P));
+                L = λ i l. other (n + i) (λ q. omega arith) ∙ o .L i l;
+                C = λ i l. other (2 * n + i) (λ q. omega arith) ∙ o .C i l;
+                G = λ i l. other (4 * n + i) (λ q. omega arith) ∙ o .G i l;
+                zero = λ j a b x y. other j (λ q. a (omega arith) (omega arith)) ∙ o .zero j a b x y;
+              };
+          later = λ q. absurd (q z);
+        },
+      )
+
+  -- a cost, where a child is
+  spent-later : (f : Open) (s v : ℕ) → s < w → 4 * n ≤ length t → (f .longest ≡ 0 → ⊥) → Spent n w s v t f (spentN v f) (raised w t (2 * n) s v)
+  spent-later f s v sw room m k e h =
+      let z = some-longest f k e m in
+      let o = h .later z in
+      let other = elsewhere w t (2 * n) s v sw in (
+        ap (spentN v) e ∙ spent-numbers (f .at) (f .work) s v k,
+        record {
+          first = λ q. absurd (z q);
+          later = λ q.
+              record {
+                P = λ i l. other (0 + i) (λ q. omega arith) ∙ o .P i l;
+                L = λ i l. other (n + i) (λ q. omega arith) ∙ o .L i l;
+                C = row-raised w t (2 * n) s v sw (f .at) (k .c) (omega arith) (o .C);
+                G = λ i l. other (4 * n + i) (λ q. omega arith) ∙ o .G i l;
+                zero = λ j a b x y. other j (λ q. x (omega arith) (omega arith)) ∙ o .zero j a b x y;
+              };
+        },
+      )
+
+  pub spent-done : (f : Open) (s v : ℕ) → s < w → 4 * n ≤ length t → Spent n w s v t f (spentN v f) (raised w t (sinceAt n (f .longest)) s v)
+  spent-done f s v sw room = go (eqb (f .longest) 0) refl
     where
-      other : (j : ℕ) → (j ≡ 2 * n + s → ⊥) → getD (set t (2 * n + s) (getD t (2 * n + s) 0 + v)) j 0 ≡ getD t j 0
-      other j q = getD-set-other t (2 * n + s) j (getD t (2 * n + s) 0 + v) 0 q
+      go : (b : Bool) → eqb (f .longest) 0 ≡ b → Spent n w s v t f (spentN v f) (raised w t (sinceAt n (f .longest)) s v)
+      go true q = let m = eqb-true (f .longest) 0 q in rw (since-first n (f .longest) m) (spent-first f s v sw room m)
+      go false q = let m = eqb-false (f .longest) 0 q in rw (since-later n (f .longest) m) (spent-later f s v sw room m)
 
-      here : (i : ℕ) → i < w → (b : Bool) → eqb s i ≡ b → getD (set t (2 * n + s) (getD t (2 * n + s) 0 + v)) (2 * n + i) 0 ≡ onRow i (k .c) + (cond b v 0 + 0)
-      here i l true q =
-          let z = eqb-true s i q in
-          rw (← z) (getD-set-same t (2 * n + s) (getD t (2 * n + s) 0 + v) 0 (omega arith) ∙ omega (arith, h .C s sw))
-      here i l false q = other (2 * n + i) (λ z. eqb-false s i q (omega arith)) ∙ omega (arith, h .C i l)
+-- what a step may rely on
+module _ (n w : ℕ) (t : List ℕ) (f : Open) (v : ℕ) (r : Asks n w t f v) where
+  -- the invocation's numbers and the child's fit together
+  pub load-fits : f .prefix + (f .longest + f .since) + v < 2 ^ 64
+  load-fits = omega (arith, r .fits, ap (λ (x : Open). x .prefix) (r .weighs), ap (λ (x : Open). x .longest) (r .weighs), ap (λ (x : Open). x .since) (r .weighs))
+
+  -- the block with the continuation
+  pub since-le : (i : ℕ) → i < w → getD t (sinceAt n (f .longest) + i) 0 ≤ f .prefix + f .since
+  since-le i l = go (eqb (f .longest) 0) refl
+    where
+      go : (b : Bool) → eqb (f .longest) 0 ≡ b → getD t (sinceAt n (f .longest) + i) 0 ≤ f .prefix + f .since
+      go true q =
+          let m = eqb-true (f .longest) 0 q in
+          let s = r .holds .first (none-longest f (r .k) (r .weighs) m) in
+          rw (since-first n (f .longest) m)
+          (omega (arith, s .P i l, row-append i (r .k .p) (r .k .c), row-le i (r .k .p), row-le i (r .k .c), ap (λ (x : Open). x .prefix) (r .weighs), ap (λ (x : Open). x .since) (r .weighs)))
+      go false q =
+          let m = eqb-false (f .longest) 0 q in
+          let s = r .holds .later (some-longest f (r .k) (r .weighs) m) in
+          rw (since-later n (f .longest) m) (omega (arith, s .C i l, row-le i (r .k .c), ap (λ (x : Open). x .since) (r .weighs)))
+
+  -- the block that the child left
+  pub part-weighed : Weighed t (partAt n (f .longest)) w v
+  part-weighed = go (eqb (f .longest) 0) refl
+    where
+      go : (b : Bool) → eqb (f .longest) 0 ≡ b → Weighed t (partAt n (f .longest)) w v
+      go true q =
+          let m = eqb-true (f .longest) 0 q in
+          rw (part-first n (f .longest) m) (record { g = r .g; weighs = r .child; table = r .holds .first (none-longest f (r .k) (r .weighs) m) .L })
+      go false q =
+          let m = eqb-false (f .longest) 0 q in
+          rw (part-later n (f .longest) m) (record { g = r .g; weighs = r .child; table = r .holds .later (some-longest f (r .k) (r .weighs) m) .G })
+
+  -- the two can be added
+  pub take-fits : (i : ℕ) → i < w → getD t (sinceAt n (f .longest) + i) 0 + getD t (partAt n (f .longest) + i) 0 < 2 ^ 64
+  take-fits i l = let g = part-weighed in omega (arith, load-fits, since-le i l, g .table i l, row-le i (g .g), g .weighs)
+
+  pub take-room : 5 * n ≤ length t → (sinceAt n (f .longest) + w ≤ partAt n (f .longest)) × (partAt n (f .longest) + w ≤ length t)
+  take-room room = go (eqb (f .longest) 0)
+    where
+      go : (b : Bool) → (cond b 0 (2 * n) + w ≤ cond b n (4 * n)) × (cond b n (4 * n) + w ≤ length t)
+      go true = (omega (arith, r .blocks), omega (arith, r .blocks))
+      go false = (omega (arith, r .blocks), omega (arith, r .blocks))
+
+  pub since-room : sinceAt n (f .longest) + w ≤ length t
+  since-room = go (eqb (f .longest) 0)
+    where
+      go : (b : Bool) → cond b 0 (2 * n) + w ≤ length t
+      go true = omega (arith, r .blocks, r .room)
+      go false = omega (arith, r .blocks, r .room)

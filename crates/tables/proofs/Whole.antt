@@ -31,6 +31,7 @@ use Rattle.walk.proofs.Accepted as root
 use Rattle.tables.specs.Blocks.{Shows}
 use Rattle.tables.specs.Reader.{BodyAsks, BodyLeaves}
 use Rattle.tables.specs.Root.{lent, Admitted, Settled}
+use Rattle.tables.proofs.Steps.{holds-two}
 use Rattle.tables.proofs.Parts.{own-only}
 
 zeros-show : (n w l : ℕ) → Shows n w (replicate l 0) nothing []
@@ -75,7 +76,7 @@ module _ (s : List ℕ) (D M : ℕ) (scratch rows : List ℕ) (count lines : ℕ
         room = omega (arith, scratch-long, room-is D (M + 3) (limits .0), length-replicate {A = ℕ} (length scratch) 0);
         k = nothing;
         weighs = refl;
-        shows = zeros-show (M + 3) (count + 1) (length scratch);
+        holds = holds-two (M + 3) (count + 1) (replicate (length scratch) 0) [] [] (zeros-show (M + 3) (count + 1) (length scratch));
       }))
 
   -- what the root's reading comes to

@@ -1,7 +1,10 @@
--- What the scratch of an open invocation holds: four blocks of n numbers, of the first three the first w in use, and its children's scratch behind them.
+-- What the scratch of an open invocation holds: four blocks of n numbers, of the first three the first w in use, and its children's scratch behind those
+-- that are in use.
 use Prim.Native.Nat.{ℕ, _+_, _*_, _^_, _≤_, _<_}
 use mathlib.Core.Path.{_≡_}
-use mathlib.Core.List.{List, []}
+use mathlib.Core.Bool.{cond}
+use mathlib.Core.List.{List, [], _++_}
+use lib.Dec.{eqb}
 use lib.ListN.{length, getD}
 use Rattle.chain.specs.Plan.{CostLine, weight}
 use Rattle.trace.specs.Fold.{costAt, Chains, spent, joined, called, spawned, onRow}
@@ -27,6 +30,12 @@ pub record Cleared (a w : ℕ) (t t′ : List ℕ) : Type 0 where
 abbrev pub Table : List ℕ → ℕ → ℕ → List CostLine → Type 0
 Table t a w c = (i : ℕ) → i < w → getD t (a + i) 0 ≡ onRow i c
 
+-- the block at b is the table of a chain that weighs v
+pub record Weighed (t : List ℕ) (b w v : ℕ) : Type 0 where
+  pub g : List CostLine
+  pub weighs : weight g ≡ v
+  pub table : Table t b w g
+
 -- the tables of the three chains, that of a child's chain g at the front of its own scratch, and zeros everywhere else
 pub record Shows (n w : ℕ) (t : List ℕ) (k : Chains) (g : List CostLine) : Type 0 where
   pub P : Table t 0 w (k .p)
@@ -35,7 +44,21 @@ pub record Shows (n w : ℕ) (t : List ℕ) (k : Chains) (g : List CostLine) : T
   pub G : Table t (4 * n) w g
   pub zero : (j : ℕ) → Out 0 w j → Out n w j → Out (2 * n) w j → Out (4 * n) w j → getD t j 0 ≡ 0
 
--- What a step asks of the scratch t of an invocation with the numbers f: it shows the chains that weigh so, with a child's chain of weight v beside them.
+-- where the continuation's table is, by what the longest child weighs: in the prefix's block as long as no child is the longest
+abbrev pub sinceAt : ℕ → ℕ → ℕ
+sinceAt n longest = cond (eqb longest 0) 0 (2 * n)
+
+-- where a child's part of the scratch begins: at the longest child's block as long as no child is the longest, else behind the four blocks
+abbrev pub partAt : ℕ → ℕ → ℕ
+partAt n longest = cond (eqb longest 0) n (4 * n)
+
+-- The scratch of an invocation that has come to the chains k, with a child's chain g at the front of the child's part. As long as no child is the longest,
+-- the prefix's block is the table of the prefix and the continuation together, and the child's table stands in the longest child's block.
+pub record Holds (n w : ℕ) (t : List ℕ) (k : Chains) (g : List CostLine) : Type 0 where
+  pub first : weight (k .l) ≡ 0 → Shows n w t (record { p = k .p ++ k .c; l = g; c = [] }) []
+  pub later : (weight (k .l) ≡ 0 → ⊥) → Shows n w t k g
+
+-- What a step asks of the scratch t of an invocation with the numbers f: it holds the chains that weigh so, with a child's chain of weight v beside them.
 pub record Asks (n w : ℕ) (t : List ℕ) (f : Open) (v : ℕ) : Type 0 where
   pub blocks : w ≤ n
   pub room : 4 * n ≤ length t
@@ -43,25 +66,25 @@ pub record Asks (n w : ℕ) (t : List ℕ) (f : Open) (v : ℕ) : Type 0 where
   pub g : List CostLine
   pub weighs : f ≡ numbers (f .at) (f .work) k
   pub child : weight g ≡ v
-  pub shows : Shows n w t k g
+  pub holds : Holds n w t k g
   pub fits : load k + v < 2 ^ 64
 
 -- behind a cost of v in row s
 abbrev pub Spent : (n w s v : ℕ) (t : List ℕ) (f r : Open) (t′ : List ℕ) → Type 0
-Spent n w s v t f r t′ = (k : Chains) → f ≡ numbers (f .at) (f .work) k → Shows n w t k []
-    → (r ≡ numbers (f .at + 1) (f .work + v) (spent (costAt (f .at) s v) k)) × Shows n w t′ (spent (costAt (f .at) s v) k) []
+Spent n w s v t f r t′ = (k : Chains) → f ≡ numbers (f .at) (f .work) k → Holds n w t k []
+    → (r ≡ numbers (f .at + 1) (f .work + v) (spent (costAt (f .at) s v) k)) × Holds n w t′ (spent (costAt (f .at) s v) k) []
 
 -- behind a sync or the return
 abbrev pub Joined : (n w : ℕ) (t : List ℕ) (f r : Open) (t′ : List ℕ) → Type 0
-Joined n w t f r t′ = (k : Chains) → f ≡ numbers (f .at) (f .work) k → Shows n w t k []
-    → (r ≡ numbers (f .at + 1) (f .work) (joined k)) × Shows n w t′ (joined k) []
+Joined n w t f r t′ = (k : Chains) → f ≡ numbers (f .at) (f .work) k → Holds n w t k []
+    → (r ≡ numbers (f .at + 1) (f .work) (joined k)) × Holds n w t′ (joined k) []
 
 -- behind a called child with the numbers c
 abbrev pub Called : (n w : ℕ) (t : List ℕ) (f c r : Open) (t′ : List ℕ) → Type 0
-Called n w t f c r t′ = (k : Chains) (g : List CostLine) → f ≡ numbers (f .at) (f .work) k → weight g ≡ c .prefix → Shows n w t k g
-    → (r ≡ numbers (c .at) (f .work + c .work) (called g k)) × Shows n w t′ (called g k) []
+Called n w t f c r t′ = (k : Chains) (g : List CostLine) → f ≡ numbers (f .at) (f .work) k → weight g ≡ c .prefix → Holds n w t k g
+    → (r ≡ numbers (c .at) (f .work + c .work) (called g k)) × Holds n w t′ (called g k) []
 
 -- behind a spawned child with the numbers c
 abbrev pub Spawned : (n w : ℕ) (t : List ℕ) (f c r : Open) (t′ : List ℕ) → Type 0
-Spawned n w t f c r t′ = (k : Chains) (g : List CostLine) → f ≡ numbers (f .at) (f .work) k → weight g ≡ c .prefix → Shows n w t k g
-    → (r ≡ numbers (c .at) (f .work + c .work) (spawned g k)) × Shows n w t′ (spawned g k) []
+Spawned n w t f c r t′ = (k : Chains) (g : List CostLine) → f ≡ numbers (f .at) (f .work) k → weight g ≡ c .prefix → Holds n w t k g
+    → (r ≡ numbers (c .at) (f .work + c .work) (spawned g k)) × Holds n w t′ (spawned g k) []

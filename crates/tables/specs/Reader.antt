@@ -3,6 +3,7 @@ use Prim.Native.Nat.{ℕ, _+_, _*_, _≤_, _<_}
 use mathlib.Core.Path.{_≡_}
 use mathlib.Core.List.{List, []}
 use lib.ListN.{length}
+use Rattle.line.specs.At.{kindAt}
 use Rattle.trace.specs.Tree.{Body, linesOf}
 use Rattle.trace.specs.Fold.{Chains, nothing, run}
 use Rattle.walk.specs.declared.Open.{Open}
@@ -10,9 +11,9 @@ use Rattle.walk.specs.Stands.{Stands}
 use Rattle.walk.specs.Numbers.{numbers}
 use Rattle.walk.specs.Item.{More, itemChains}
 use Rattle.walk.specs.Reader.{Ready, ItemDone, alone, BodyDone}
-use Rattle.tables.specs.Blocks.{Shows}
+use Rattle.tables.specs.Blocks.{Shows, Holds}
 
--- the scratch shows the chains that the numbers f weigh, and has room for deep invocations more
+-- the scratch holds the chains that the numbers f weigh, and has room for deep invocations more
 pub record Lent (s : List ℕ) (row deep : ℕ) (f : Open) (t rows : List ℕ) (n w : ℕ) : Type 0 where
   pub m : ℕ
   pub ready : Ready s row m deep f rows
@@ -21,17 +22,18 @@ pub record Lent (s : List ℕ) (row deep : ℕ) (f : Open) (t rows : List ℕ) (
   pub room : 4 * n + deep * (4 * n) ≤ length t
   pub k : Chains
   pub weighs : f ≡ numbers (f .at) (f .work) k
-  pub shows : Shows n w t k []
+  pub holds : Holds n w t k []
 
--- the item reader: there is an item
-pub record ItemAsks (s : List ℕ) (row deep : ℕ) (f : Open) (t rows : List ℕ) (n w : ℕ) : Type 0 where
+-- the item reader: there is an item, whose first line is of this kind
+pub record ItemAsks (s : List ℕ) (kind row deep : ℕ) (f : Open) (t rows : List ℕ) (n w : ℕ) : Type 0 where
   pub lent : Lent s row deep f t rows n w
+  pub kind-is : kind ≡ kindAt s (f .at)
   pub more : More (lent .ready .body)
 
 -- whatever body stands here, and whatever chains its invocation has come to
 abbrev pub ItemLeaves : (s : List ℕ) (row : ℕ) (f : Open) (t rows : List ℕ) (n w : ℕ) (r : Open) (t′ rows′ : List ℕ) → Type 0
-ItemLeaves s row f t rows n w r t′ rows′ = (b : Body) (k : Chains) → More b → Stands s (f .at) (linesOf b) → f ≡ numbers (f .at) (f .work) k → Shows n w t k []
-    → ItemDone row f rows b k r rows′ × Shows n w t′ (itemChains (f .at) row b k) []
+ItemLeaves s row f t rows n w r t′ rows′ = (b : Body) (k : Chains) → More b → Stands s (f .at) (linesOf b) → f ≡ numbers (f .at) (f .work) k → Holds n w t k []
+    → ItemDone row f rows b k r rows′ × Holds n w t′ (itemChains (f .at) row b k) []
 
 -- the body reader
 abbrev pub BodyAsks : (s : List ℕ) (from row deep : ℕ) (t rows : List ℕ) (n w : ℕ) → Type 0

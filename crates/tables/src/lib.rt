@@ -1,12 +1,15 @@
-// The table engine. An open invocation's scratch is four blocks of n numbers, and its children's scratch behind them. The first w numbers of a block
-// are a table: what of a chain stands in each row. The blocks are those of the prefix, the longest child and the continuation; the fourth stays zero.
+// The table engine. An open invocation's part of the scratch is four blocks of n numbers. The first w numbers of a block are a table: what of a chain
+// stands in each row. The blocks are those of the prefix, the longest child and the continuation; the fourth stays zero. As long as no child is the
+// longest, the continuation's table is kept in the prefix's block, the only one in use, and a child's part begins right behind it: the table that the
+// child leaves then stands in the block of the longest child. Once a child is the longest, a child's part begins behind the four blocks. So whatever
+// blocks a parent has in use while a child is open are below the child's part.
 ghost use mathlib.Core.Path.{_≡_};
 ghost use Prim.Native.Nat.{ℕ, _+_, _*_, _^_, _≤_, _<_};
 ghost use lib.ListN.{length, getD};
 ghost use Rattle.trace.specs.Rows.{columns};
 ghost use Rattle.trace.specs.Promise.{tables, Promise};
 ghost use Rattle.walk.specs.declared.Open.{Open};
-ghost use Rattle.tables.specs.Blocks.{Added, Cleared, Asks, Spent, Joined, Called, Spawned};
+ghost use Rattle.tables.specs.Blocks.{Added, Cleared, Weighed, sinceAt, partAt, Asks, Spent, Joined, Called, Spawned};
 ghost use Rattle.tables.specs.Root.{lent, Admitted, Settled};
 ghost use Rattle.tables.specs.Reader.{ItemAsks, ItemLeaves, BodyAsks, BodyLeaves};
 
@@ -36,23 +39,76 @@ fn clear(t: &mut [u64], a: usize, w: usize)
     }
 }
 
+// Adds the block at b, the table of a chain that weighs v, to the block at a, and clears it. Where number s of it is v, all others are zero.
+fn take_child(t: &mut [u64], a: usize, b: usize, w: usize, s: usize, v: u64)
+    requires { ⌜ (a + w ≤ b) × (b + w ≤ length (now t)) ⌝ }
+    requires { ⌜ ((i : ℕ) → i < w → getD (now t) (a + i) 0 + getD (now t) (b + i) 0 < 2 ^ 64) ⌝ }
+    requires { ⌜ (s < w) × Weighed (now t) b w v ⌝ }
+    ensures { λ _. ⌜ Added a b w (now (t .entry)) (now (t .exit)) ⌝ }
+{
+    if t[b + s] == v {
+        t[a + s] = t[a + s] + v;
+        t[b + s] = 0;
+        return;
+    }
+    add_from(t, a, b, w);
+}
+
+// Clears the block at a, the table of a chain that weighs v. Where number s of it is v, all others are zero.
+fn clear_child(t: &mut [u64], a: usize, w: usize, s: usize, v: u64)
+    requires { ⌜ a + w ≤ length (now t) ⌝ }
+    requires { ⌜ (s < w) × Weighed (now t) a w v ⌝ }
+    ensures { λ _. ⌜ Cleared a w (now (t .entry)) (now (t .exit)) ⌝ }
+{
+    if t[a + s] == v {
+        t[a + s] = 0;
+        return;
+    }
+    clear(t, a, w);
+}
+
+// Where the continuation's table is: in the prefix's block as long as no child is the longest.
+fn since(n: usize, f: walk::Open) -> usize
+    requires { ⌜ 4 * n < 2 ^ 64 ⌝ }
+    ensures { λ r. ⌜ r ≡ sinceAt n (f .longest) ⌝ }
+{
+    if f.longest == 0 {
+        return 0;
+    }
+    2 * n
+}
+
+// Where a child's part of the scratch begins: behind the prefix's block as long as no child is the longest, else behind the four blocks.
+fn part(n: usize, f: walk::Open) -> usize
+    requires { ⌜ 4 * n < 2 ^ 64 ⌝ }
+    ensures { λ r. ⌜ r ≡ partAt n (f .longest) ⌝ }
+{
+    if f.longest == 0 {
+        return n;
+    }
+    4 * n
+}
+
 // A cost of v in row s: the continuation's.
 fn spend(t: &mut [u64], n: usize, w: usize, f: walk::Open, s: usize, v: u64) -> walk::Open
     requires { ⌜ Asks n w (now t) f 0 ⌝ }
-    requires { ⌜ (s < w) × ((f .at + 1 < 2 ^ 64) × ((f .work + v < 2 ^ 64) × (f .since + v < 2 ^ 64))) ⌝ }
+    requires { ⌜ (s < w) × ((f .at + 1 < 2 ^ 64) × ((f .work + v < 2 ^ 64) × (f .prefix + (f .longest + f .since) + v < 2 ^ 64))) ⌝ }
     ensures { λ r. ⌜ Spent n w s v (now (t .entry)) f r (now (t .exit)) ⌝ }
 {
-    let i = 2 * n + s;
+    let i = since(n, f) + s;
     walk::add(t, i, v);
     f.spent(v)
 }
 
-// A sync, or the join at a return: the prefix takes the longest child or, where it is heavier, the continuation.
+// A sync, or the join at a return: the prefix takes the longest child or, where it is heavier, the continuation, which it has where no child is the longest.
 fn join(t: &mut [u64], n: usize, w: usize, f: walk::Open) -> walk::Open
     requires { ⌜ Asks n w (now t) f 0 ⌝ }
     requires { ⌜ f .at + 1 < 2 ^ 64 ⌝ }
     ensures { λ r. ⌜ Joined n w (now (t .entry)) f r (now (t .exit)) ⌝ }
 {
+    if f.longest == 0 {
+        return f.joined();
+    }
     let k = 2 * n;
     if f.longest < f.since {
         add_from(t, 0, k, w);
@@ -64,31 +120,35 @@ fn join(t: &mut [u64], n: usize, w: usize, f: walk::Open) -> walk::Open
     f.joined()
 }
 
-// A called child has returned: the continuation takes its chain.
-fn called(t: &mut [u64], n: usize, w: usize, f: walk::Open, c: walk::Open) -> walk::Open
+// A called child of row s has returned: the continuation takes its chain.
+fn called(t: &mut [u64], n: usize, w: usize, f: walk::Open, s: usize, c: walk::Open) -> walk::Open
     requires { ⌜ Asks n w (now t) f (c .prefix) ⌝ }
-    requires { ⌜ (5 * n ≤ length (now t)) × (f .work + c .work < 2 ^ 64) ⌝ }
+    requires { ⌜ (s < w) × ((5 * n ≤ length (now t)) × (f .work + c .work < 2 ^ 64)) ⌝ }
     ensures { λ r. ⌜ Called n w (now (t .entry)) f c r (now (t .exit)) ⌝ }
 {
-    add_from(t, 2 * n, 4 * n, w);
+    take_child(t, since(n, f), part(n, f), w, s, c.prefix);
     f.called(c)
 }
 
-// A spawned child has returned: it is the longest from now on where it is longer, and the prefix takes the continuation up to it.
-fn spawned(t: &mut [u64], n: usize, w: usize, f: walk::Open, c: walk::Open) -> walk::Open
+// A spawned child of row s has returned: it is the longest from now on where it is longer, and the prefix takes the continuation up to it. Where no child
+// was the longest before, all tables are in their places.
+fn spawned(t: &mut [u64], n: usize, w: usize, f: walk::Open, s: usize, c: walk::Open) -> walk::Open
     requires { ⌜ Asks n w (now t) f (c .prefix) ⌝ }
-    requires { ⌜ (5 * n ≤ length (now t)) × (f .work + c .work < 2 ^ 64) ⌝ }
+    requires { ⌜ (s < w) × ((5 * n ≤ length (now t)) × (f .work + c .work < 2 ^ 64)) ⌝ }
     ensures { λ r. ⌜ Spawned n w (now (t .entry)) f c r (now (t .exit)) ⌝ }
 {
+    if f.longest == 0 {
+        return f.spawned(c);
+    }
     let k = 2 * n;
     let g = 4 * n;
     if f.longest < f.since + c.prefix {
         add_from(t, 0, k, w);
         clear(t, n, w);
-        add_from(t, n, g, w);
+        take_child(t, n, g, w, s, c.prefix);
         return f.spawned(c);
     }
-    clear(t, g, w);
+    clear_child(t, g, w, s, c.prefix);
     f.spawned(c)
 }
 
@@ -107,17 +167,18 @@ fn body(
     ensures { λ r. ⌜ BodyLeaves (now (trace .entry)) from row (now (t .entry)) (now (rows .entry)) n w r (now (t .exit)) (now (rows .exit)) ⌝ }
 {
     let mut f = walk::Open::new(from);
-    let mut at = from;
-    while line::kind_at(trace, at) != 5 {
-        f = item(trace, f, row, deep, t, rows, n, w);
-        at = f.at;
+    let mut kind = line::kind_at(trace, from);
+    while kind != 5 {
+        f = item(trace, kind, f, row, deep, t, rows, n, w);
+        kind = line::kind_at(trace, f.at);
     }
     join(t, n, w, f)
 }
 
-// Reads one item, with the whole body of a call or a spawn.
+// Reads one item, whose first line is of this kind, with the whole body of a call or a spawn.
 fn item(
     trace: &[u8],
+    kind: u8,
     f: walk::Open,
     row: usize,
     deep: usize,
@@ -126,11 +187,10 @@ fn item(
     n: usize,
     w: usize,
 ) -> walk::Open
-    requires { ⌜ ItemAsks (now trace) row deep f (now t) (now rows) n w ⌝ }
+    requires { ⌜ ItemAsks (now trace) kind row deep f (now t) (now rows) n w ⌝ }
     ensures { λ r. ⌜ ItemLeaves (now (trace .entry)) row f (now (t .entry)) (now (rows .entry)) n w r (now (t .exit)) (now (rows .exit)) ⌝ }
 {
     let at = f.at;
-    let kind = line::kind_at(trace, at);
     if kind == 6 {
         let v = line::value_at(trace, at) as u64;
         walk::spend(rows, row, v);
@@ -140,13 +200,13 @@ fn item(
         return join(t, n, w, f);
     }
     let site = line::site_at(trace, at) as usize;
-    let o = 4 * n;
+    let o = part(n, f);
     let c = body(trace, at + 1, site, deep - 1, &mut t[o..], rows, n, w);
     walk::count(rows, site, c.work, c.prefix);
     if kind == 2 {
-        return called(t, n, w, f, c);
+        return called(t, n, w, f, site, c);
     }
-    spawned(t, n, w, f, c)
+    spawned(t, n, w, f, site, c)
 }
 
 // Column 5: each row's number is moved out of the root's table.
