@@ -19,7 +19,7 @@ use Rattle.walk.proofs.Lines.{is-more, is-done}
 use Rattle.walk.proofs.Reader.{own-numbers, farther, ready-again, turn-start, turn-again, turn-done}
 use Rattle.tables.specs.Blocks.{Shows, Holds, Joined}
 use Rattle.tables.specs.Reader.{Lent, ItemAsks, ItemLeaves, BodyAsks, BodyLeaves}
-use Rattle.tables.proofs.Steps.{holds-two, alone-shows}
+use Rattle.tables.proofs.Held.{holds-two, alone-shows}
 
 module _ (s : List ℕ) (row deep n w : ℕ) where
   -- the loop has come to f: what is left of the body, and what it comes to, are as from its first line on

@@ -24,17 +24,19 @@ use Rattle.walk.proofs.Child.{cost-is, call-is, spawn-is, Child, child-is, cost
 use Rattle.walk.proofs.Child.{deeper as child-deeper}
 use Rattle.tables.specs.Blocks.{Shows, partAt, Holds, Asks, Spent, Joined, Called, Spawned}
 use Rattle.tables.specs.Reader.{Lent, ItemAsks, ItemLeaves, BodyAsks, BodyLeaves}
-use Rattle.tables.proofs.Steps.{holds-two}
+use Rattle.tables.proofs.Held.{holds-two}
 use Rattle.tables.proofs.Parts.{part-in, part-length, child-none, child-back, back-length}
 
 module _ {s : List ℕ} {row deep : ℕ} {f : Open} {t rows : List ℕ} {n w : ℕ} (l : Lent s row deep f t rows n w) where
+  -- there is a line behind this one
   pub line-fits : f .at + 1 < 2 ^ 64
   line-fits = omega (arith, l .ready .ends, size-some (l .ready .body))
 
+  -- the invocation's own blocks
   pub own-room : 4 * n ≤ length t
   own-room = omega (arith, l .room)
 
-  -- no child has returned
+  -- a step with no child beside the chains
   own-asks : Asks n w t f 0
   own-asks =
       record {
@@ -67,9 +69,11 @@ pub record Costs (s : List ℕ) (kind row deep : ℕ) (f : Open) (t rows : List 
   pub cost : kind ≡ 6
 
 module _ {s : List ℕ} {kind row deep : ℕ} {f : Open} {t rows : List ℕ} {n w v : ℕ} (h : Costs s kind row deep f t rows n w v) where
+  -- whatever body stands here begins with it
   spend-is : (b : Body) → Stands s (f .at) (linesOf b) → (r : Body) × (b ≡ spend v r)
   spend-is = cost-is s (f .at) kind (kind-says s (f .at) (f .at) kind refl (h .asks .kind-is)) v (value-says s (f .at) (f .at) v refl (h .value-is)) (h .cost)
 
+  -- it fits the rows, the work and the chains
   fit : ((columns * row + 3 < length rows) × (getD rows (columns * row + 3) 0 + v < 2 ^ 64)) × ((f .work + v < 2 ^ 64) × (f .prefix + (f .longest + f .since) + v < 2 ^ 64))
   fit =
       let l = h .asks .lent in
@@ -82,6 +86,7 @@ module _ {s : List ℕ} {kind row deep : ℕ} {f : Open} {t rows : List ℕ} {n 
   pub spend-asks : Asks n w t f 0 × ((row < w) × ((f .at + 1 < 2 ^ 64) × ((f .work + v < 2 ^ 64) × (f .prefix + (f .longest + f .since) + v < 2 ^ 64))))
   spend-asks = let l = h .asks .lent in (own-asks l, (omega (arith, l .ready .row-in, l .wide), (line-fits l, fit .1)))
 
+  -- what is left of it
   pub cost-leaves : (r : Open) (t′ rows′ : List ℕ) → Grown rows (one (columns * row + 3) v) rows′ → Spent n w row v t f r t′ → ItemLeaves s row f t rows n w r t′ rows′
   cost-leaves r t′ rows′ grown sp b k m st e sh =
       let q = spend-is b st in
@@ -112,6 +117,7 @@ module _ {s : List ℕ} {kind row deep : ℕ} {f : Open} {t rows : List ℕ} {n 
   abbrev part : List ℕ
   part = take (length t - o) (drop o t)
 
+  -- one more invocation may open, and its part begins inside the scratch
   pub deeper : 1 ≤ deep
   deeper = child-deeper s row (l .m) deep f rows (l .ready) site child
 
@@ -128,6 +134,7 @@ module _ {s : List ℕ} {kind row deep : ℕ} {f : Open} {t rows : List ℕ} {n 
   lent-none : (k : Chains) → f ≡ numbers (f .at) (f .work) k → Holds n w t k [] → Shows n w part nothing []
   lent-none k e sh = child-none n w (l .blocks) t (own-room l) (f .longest) o (h .begins) k (ap (λ (x : Open). x .longest) e) sh
 
+  -- the child's reader may begin
   pub body-asks : BodyAsks s (f .at + 1) site (deep - 1) part rows n w
   body-asks =
       record {
@@ -149,9 +156,11 @@ module _ {s : List ℕ} {kind row deep : ℕ} {f : Open} {t rows : List ℕ} {n 
     left : BodyDone (f .at + 1) site rows (child .g) c rows₁ × Shows n w y (alone (run (f .at + 1) site nothing (child .g))) []
     left = done (child .g) (child .stands) (lent-none (l .k) (l .weighs) (l .holds))
 
+    -- it can be counted
     pub count-asks : (columns * site + 2 < length rows₁) × ((getD rows₁ (columns * site) 0 + 1 < 2 ^ 64) × ((getD rows₁ (columns * site + 1) 0 + c .work < 2 ^ 64) × (getD rows₁ (columns * site + 2) 0 + c .prefix < 2 ^ 64)))
     count-asks = (count-room s row (l .m) deep f rows (l .ready) site child c rows₁ lr (left .0), count-fits s row (l .m) deep f rows (l .ready) site child c rows₁ lr (left .0))
 
+    -- and its chain taken
     pub child-asks : Asks n w back f (c .prefix) × ((site < w) × ((5 * n ≤ length back) × (f .work + c .work < 2 ^ 64)))
     child-asks =
         let p = ap (λ (x : Open). x .prefix) (left .0 .numbers-are) in

@@ -1,5 +1,6 @@
 pub mod Loops
 pub mod OneRow
+pub mod Held
 pub mod Steps
 pub mod Parts
 pub mod Bodies

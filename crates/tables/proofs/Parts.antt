@@ -15,7 +15,7 @@ use Rattle.chain.specs.Plan.{CostLine, weight}
 use Rattle.trace.specs.Fold.{Chains, nothing}
 use Rattle.walk.specs.Reader.{alone}
 use Rattle.tables.specs.Blocks.{Out, Shows, partAt, Holds}
-use Rattle.tables.proofs.Steps.{part-first, part-later}
+use Rattle.tables.proofs.Held.{part-first, part-later}
 
 -- the part from o on, as it is lent and as it comes back
 module _ (o : ℕ) (t : List ℕ) (h : o ≤ length t) where

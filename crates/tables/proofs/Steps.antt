@@ -2,22 +2,22 @@
 use mathlib.Core.Path.{_≡_, refl, ap, _∙_, sym, subst}
 use mathlib.Core.Bool.{Bool, true, false, cond}
 use mathlib.Core.Logic.{_⊎_, inl, inr}
-use mathlib.Core.List.{List, [], _∷_, _++_, append-nil, append-assoc}
+use mathlib.Core.List.{List, [], _∷_, _++_, append-assoc}
 use Prim.Native.Nat.{ℕ, _+_, _*_, _^_, _≤_, _<_}
 use native.Mathlib.Omega.{arith}
 use lib.Dec.{eqb, ltb}
 use lib.ListN.{length, getD, set}
 use lib.Seq.{getD-set-same, getD-set-other}
-use borrow.Author.Tests.{lt-ltb, le-ltb, eqb-true, eqb-false, eq-eqb, ne-eqb}
+use borrow.Author.Tests.{lt-ltb, le-ltb, eqb-true, eqb-false}
 use Rattle.chain.specs.Plan.{CostLine, weight, choose}
 use Rattle.chain.proofs.Choose.{choose-left, choose-right, choose-cases, test}
-use Rattle.trace.specs.Fold.{costAt, Chains, called, spawned, onRow}
+use Rattle.trace.specs.Fold.{costAt, called, spawned, onRow}
 use Rattle.trace.proofs.OnChain.{row-append, row-le}
 use Rattle.walk.specs.declared.Open.{Open}
 use Rattle.walk.specs.Numbers.{numbers, spentN, joinedN, calledN, spawnedN}
-use Rattle.walk.specs.Reader.{alone}
 use Rattle.walk.proofs.Numbers.{spent-numbers, joined-numbers, called-numbers, spawned-numbers}
-use Rattle.tables.specs.Blocks.{Added, Cleared, Table, Weighed, Shows, sinceAt, partAt, Holds, Asks, Spent, Joined, Called, Spawned}
+use Rattle.tables.specs.Blocks.{Added, Cleared, Table, Weighed, sinceAt, partAt, Holds, Asks, Spent, Joined, Called, Spawned}
+use Rattle.tables.proofs.Held.{since-first, since-later, part-first, part-later, none-longest, some-longest, weightless, light, holds-two}
 
 -- a table elsewhere is kept
 kept : (t t′ : List ℕ) (a w : ℕ) (c : List CostLine) → ((i : ℕ) → i < w → getD t′ (a + i) 0 ≡ getD t (a + i) 0) → Table t a w c → Table t′ a w c
@@ -31,10 +31,6 @@ summed a b w t t′ x y d h g i l = omega (arith, d .sums i l, h i l, g i l, row
 pub fits : (a b w : ℕ) (t : List ℕ) (x y : List CostLine) → Table t a w x → Table t b w y → weight x + weight y < 2 ^ 64 → (i : ℕ) → i < w → getD t (a + i) 0 + getD t (b + i) 0 < 2 ^ 64
 fits a b w t x y h g f i l = omega (arith, h i l, g i l, row-le i x, row-le i y)
 
--- a chain that weighs nothing has nothing in any row
-weightless : (i : ℕ) (c : List CostLine) → weight c ≡ 0 → onRow i c ≡ 0
-weightless i c e = omega (arith, row-le i c)
-
 -- where no child is the longest, whichever of the two the join takes, its rows are the continuation's
 row-choose : (i : ℕ) (l c : List CostLine) → weight l ≡ 0 → onRow i (choose l c) ≡ onRow i c
 row-choose i l c e = go (choose-cases l c)
@@ -43,57 +39,24 @@ row-choose i l c e = go (choose-cases l c)
     go (inl q) = ap (onRow i) (q .1)
     go (inr q) = ap (onRow i) (q .1) ∙ omega (arith, weightless i l e, weightless i c (omega arith))
 
--- where the blocks and parts are, by what the longest child weighs
-pub since-first : (n v : ℕ) → v ≡ 0 → sinceAt n v ≡ 0
-since-first n v e = ap (λ (b : Bool). cond b 0 (2 * n)) (eq-eqb v 0 e)
-
-pub since-later : (n v : ℕ) → (v ≡ 0 → ⊥) → sinceAt n v ≡ 2 * n
-since-later n v e = ap (λ (b : Bool). cond b 0 (2 * n)) (ne-eqb v 0 e)
-
-pub part-first : (n v : ℕ) → v ≡ 0 → partAt n v ≡ n
-part-first n v e = ap (λ (b : Bool). cond b n (4 * n)) (eq-eqb v 0 e)
-
-pub part-later : (n v : ℕ) → (v ≡ 0 → ⊥) → partAt n v ≡ 4 * n
-part-later n v e = ap (λ (b : Bool). cond b n (4 * n)) (ne-eqb v 0 e)
-
--- an open invocation's numbers say whether a child is the longest
-pub none-longest : (f : Open) (k : Chains) → f ≡ numbers (f .at) (f .work) k → f .longest ≡ 0 → weight (k .l) ≡ 0
-none-longest f k e z = sym (ap (λ (x : Open). x .longest) e) ∙ z
-
-pub some-longest : (f : Open) (k : Chains) → f ≡ numbers (f .at) (f .work) k → (f .longest ≡ 0 → ⊥) → weight (k .l) ≡ 0 → ⊥
-some-longest f k e m z = m (ap (λ (x : Open). x .longest) e ∙ z)
-
 -- number s of the block at a, raised by a cost of v
-module _ (w : ℕ) (t : List ℕ) (a s v : ℕ) where
-  abbrev pub raised : List ℕ
+module _ (t : List ℕ) (a s v : ℕ) where
+  abbrev raised : List ℕ
   raised = set t (a + s) (getD t (a + s) 0 + v)
 
-  module _ (sw : s < w) where
-    elsewhere : (j : ℕ) → (j ≡ a + s → ⊥) → getD raised j 0 ≡ getD t j 0
-    elsewhere j q = getD-set-other t (a + s) j (getD t (a + s) 0 + v) 0 q
+  -- all other numbers are as they were
+  elsewhere : (j : ℕ) → (j ≡ a + s → ⊥) → getD raised j 0 ≡ getD t j 0
+  elsewhere j q = getD-set-other t (a + s) j (getD t (a + s) 0 + v) 0 q
 
-    -- a chain's table is then that of the chain and the cost
-    row-raised : (line : ℕ) (c : List CostLine) → a + w ≤ length t → Table t a w c → Table raised a w (c ++ costAt line s v ∷ [])
-    row-raised line c room h i l = here (eqb s i) refl ∙ sym (row-append i c (costAt line s v ∷ []))
-      where
-        here : (b : Bool) → eqb s i ≡ b → getD raised (a + i) 0 ≡ onRow i c + (cond b v 0 + 0)
-        here true q =
-            let z = eqb-true s i q in
-            rw (← z) (getD-set-same t (a + s) (getD t (a + s) 0 + v) 0 (omega arith) ∙ omega (arith, h s sw))
-        here false q = elsewhere (a + i) (λ z. eqb-false s i q (omega arith)) ∙ omega (arith, h i l)
-
-module _ (n w : ℕ) (t : List ℕ) where
-  -- a longest child that weighs nothing is none
-  light : (p l : List CostLine) → weight l ≡ 0 → Shows n w t (record { p = p; l = l; c = [] }) [] → Shows n w t (alone p) []
-  light p l e s = record { P = s .P; L = λ i h. s .L i h ∙ weightless i l e; C = s .C; G = s .G; zero = s .zero }
-
-  -- where the continuation is empty, each chain's table is in its own block
-  pub holds-two : (p l : List CostLine) → Shows n w t (record { p = p; l = l; c = [] }) [] → Holds n w t (record { p = p; l = l; c = [] }) []
-  holds-two p l s = record { first = λ e. subst (λ (x : List CostLine). Shows n w t (alone x) []) (sym (append-nil p)) (light p l e s); later = λ e. s }
-
-  -- an invocation that has come to one chain
-  pub alone-shows : (p : List CostLine) → Holds n w t (alone p) [] → Shows n w t (alone p) []
-  alone-shows p h = subst (λ (x : List CostLine). Shows n w t (alone x) []) (append-nil p) (h .first refl)
+  -- a chain's table is then that of the chain and the cost
+  row-raised : (w line : ℕ) (c : List CostLine) → s < w → a + w ≤ length t → Table t a w c → Table raised a w (c ++ costAt line s v ∷ [])
+  row-raised w line c sw room h i l = here (eqb s i) refl ∙ sym (row-append i c (costAt line s v ∷ []))
+    where
+      here : (b : Bool) → eqb s i ≡ b → getD raised (a + i) 0 ≡ onRow i c + (cond b v 0 + 0)
+      here true q =
+          let z = eqb-true s i q in
+          rw (← z) (getD-set-same t (a + s) (getD t (a + s) 0 + v) 0 (omega arith) ∙ omega (arith, h s sw))
+      here false q = elsewhere (a + i) (λ z. eqb-false s i q (omega arith)) ∙ omega (arith, h i l)
 
 module _ (n w : ℕ) (wn : w ≤ n) (t : List ℕ) where
   -- no child was the longest: the prefix's block has the continuation
@@ -182,6 +145,7 @@ module _ (n w : ℕ) (wn : w ≤ n) (t : List ℕ) where
         },
       )
 
+  -- a called child, wherever the tables are
   pub called-done : (f : Open) (c : Open) (t′ : List ℕ) → Added (sinceAt n (f .longest)) (partAt n (f .longest)) w t t′ → Called n w t f c (calledN c f) t′
   called-done f c t′ d = go (eqb (f .longest) 0) refl
     where
@@ -200,12 +164,19 @@ module _ (n w : ℕ) (wn : w ≤ n) (t : List ℕ) where
       go z (inl q) = simp (q .1) (holds-two n w t (k .p ++ k .c) g (h .first z))
       go z (inr q) = simp (q .1) (record { first = λ x. light n w t (k .p ++ k .c) g (omega (arith, q .0)) (h .first z); later = λ x. absurd (x z) })
 
+  -- the spawned child's table, behind what is done to the other blocks
+  pub child-table : (t₁ t₂ : List ℕ) → Added 0 (2 * n) w t t₁ → Cleared n w t₁ t₂ → (g : List CostLine) → Table t (4 * n) w g → Table t₂ (4 * n) w g
+  child-table t₁ t₂ d z g h = kept t t₂ (4 * n) w g (λ i l. z .rest (4 * n + i) (λ x y. omega arith) ∙ d .rest (4 * n + i) (λ x y. omega arith) (λ x y. omega arith)) h
+
+  -- what it is added to is clear
+  pub child-fits : (t₁ t₂ : List ℕ) → Added 0 (2 * n) w t t₁ → Cleared n w t₁ t₂ → (g : List CostLine) → Table t (4 * n) w g → weight g < 2 ^ 64 → (i : ℕ) → i < w → getD t₂ (n + i) 0 + getD t₂ (4 * n + i) 0 < 2 ^ 64
+  child-fits t₁ t₂ d z g h v i l = omega (arith, z .gone i l, child-table t₁ t₂ d z g h i l, row-le i g)
+
   -- the spawned child is the longest from now on
   pub spawned-longer : (f : Open) (c : Open) (t₁ t₂ t₃ : List ℕ) → Added 0 (2 * n) w t t₁ → Cleared n w t₁ t₂ → Added n (4 * n) w t₂ t₃ → (f .longest ≡ 0 → ⊥) → f .longest < f .since + c .prefix → Spawned n w t f c (spawnedN c f) t₃
   spawned-longer f c t₁ t₂ t₃ d z d₂ m lt k g e v h =
       let s = h .later (some-longest f k e m) in
       let q : ltb (weight (k .l)) (weight (k .c) + weight g) ≡ true = lt-ltb (weight (k .l)) (weight (k .c) + weight g) (omega (arith, ap (λ (x : Open). x .longest) e, ap (λ (x : Open). x .since) e)) in
-      let g₂ : Table t₂ (4 * n) w g = kept t t₂ (4 * n) w g (λ i l. z .rest (4 * n + i) (λ x y. omega arith) ∙ d .rest (4 * n + i) (λ x y. omega arith) (λ x y. omega arith)) (s .G) in
       let p₂ : Table t₂ 0 w (k .p ++ k .c) = kept t₁ t₂ 0 w (k .p ++ k .c) (λ i l. z .rest (0 + i) (λ x y. omega arith)) (summed 0 (2 * n) w t t₁ (k .p) (k .c) d (s .P) (s .C)) in
       let c₂ : Table t₂ (2 * n) w [] = kept t₁ t₂ (2 * n) w [] (λ i l. z .rest (2 * n + i) (λ x y. omega arith)) (d .gone) in (
         ap (spawnedN c) e ∙ spawned-numbers (f .at) (f .work) k c g v,
@@ -213,7 +184,7 @@ module _ (n w : ℕ) (wn : w ≤ n) (t : List ℕ) where
             (holds-two n w t₃ (k .p ++ k .c) g
             (record {
               P = kept t₂ t₃ 0 w (k .p ++ k .c) (λ i l. d₂ .rest (0 + i) (λ x y. omega arith) (λ x y. omega arith)) p₂;
-              L = summed n (4 * n) w t₂ t₃ [] g d₂ (z .gone) g₂;
+              L = summed n (4 * n) w t₂ t₃ [] g d₂ (z .gone) (child-table t₁ t₂ d z g (s .G));
               C = kept t₂ t₃ (2 * n) w [] (λ i l. d₂ .rest (2 * n + i) (λ x y. omega arith) (λ x y. omega arith)) c₂;
               G = d₂ .gone;
               zero = λ j a b x y. d₂ .rest j b y ∙ z .rest j b ∙ d .rest j a x ∙ s .zero j a b x y;
@@ -241,25 +212,17 @@ module _ (n w : ℕ) (wn : w ≤ n) (t : List ℕ) where
             }),
       )
 
-  -- the child's table, behind what is done to the other blocks
-  pub child-table : (t₁ t₂ : List ℕ) → Added 0 (2 * n) w t t₁ → Cleared n w t₁ t₂ → (g : List CostLine) → Table t (4 * n) w g → Table t₂ (4 * n) w g
-  child-table t₁ t₂ d z g h = kept t t₂ (4 * n) w g (λ i l. z .rest (4 * n + i) (λ x y. omega arith) ∙ d .rest (4 * n + i) (λ x y. omega arith) (λ x y. omega arith)) h
-
-  -- what it is added to is clear
-  pub child-fits : (t₁ t₂ : List ℕ) → Added 0 (2 * n) w t t₁ → Cleared n w t₁ t₂ → (g : List CostLine) → Table t (4 * n) w g → weight g < 2 ^ 64 → (i : ℕ) → i < w → getD t₂ (n + i) 0 + getD t₂ (4 * n + i) 0 < 2 ^ 64
-  child-fits t₁ t₂ d z g h v i l = omega (arith, z .gone i l, child-table t₁ t₂ d z g h i l, row-le i g)
-
   -- a cost, where no child is the longest
-  spent-first : (f : Open) (s v : ℕ) → s < w → 4 * n ≤ length t → f .longest ≡ 0 → Spent n w s v t f (spentN v f) (raised w t 0 s v)
+  spent-first : (f : Open) (s v : ℕ) → s < w → 4 * n ≤ length t → f .longest ≡ 0 → Spent n w s v t f (spentN v f) (raised t 0 s v)
   spent-first f s v sw room m k e h =
       let z = none-longest f k e m in
       let o = h .first z in
-      let other = elsewhere w t 0 s v sw in (
+      let other = elsewhere t 0 s v in (
         ap (spentN v) e ∙ spent-numbers (f .at) (f .work) s v k,
         record {
           first = λ q.
               record {
-                P = subst (Table (raised w t 0 s v) 0 w) (append-assoc (k .p) (k .c) (costAt (f .at) s v ∷ [])) (row-raised w t 0 s v sw (f .at) (k .p ++ k .c) (omega arith) (o .P));
+                P = subst (Table (raised t 0 s v) 0 w) (append-assoc (k .p) (k .c) (costAt (f .at) s v ∷ [])) (row-raised t 0 s v w (f .at) (k .p ++ k .c) sw (omega arith) (o .P));
                 L = λ i l. other (n + i) (λ q. omega arith) ∙ o .L i l;
                 C = λ i l. other (2 * n + i) (λ q. omega arith) ∙ o .C i l;
                 G = λ i l. other (4 * n + i) (λ q. omega arith) ∙ o .G i l;
@@ -270,11 +233,11 @@ module _ (n w : ℕ) (wn : w ≤ n) (t : List ℕ) where
       )
 
   -- a cost, where a child is
-  spent-later : (f : Open) (s v : ℕ) → s < w → 4 * n ≤ length t → (f .longest ≡ 0 → ⊥) → Spent n w s v t f (spentN v f) (raised w t (2 * n) s v)
+  spent-later : (f : Open) (s v : ℕ) → s < w → 4 * n ≤ length t → (f .longest ≡ 0 → ⊥) → Spent n w s v t f (spentN v f) (raised t (2 * n) s v)
   spent-later f s v sw room m k e h =
       let z = some-longest f k e m in
       let o = h .later z in
-      let other = elsewhere w t (2 * n) s v sw in (
+      let other = elsewhere t (2 * n) s v in (
         ap (spentN v) e ∙ spent-numbers (f .at) (f .work) s v k,
         record {
           first = λ q. absurd (z q);
@@ -282,17 +245,18 @@ module _ (n w : ℕ) (wn : w ≤ n) (t : List ℕ) where
               record {
                 P = λ i l. other (0 + i) (λ q. omega arith) ∙ o .P i l;
                 L = λ i l. other (n + i) (λ q. omega arith) ∙ o .L i l;
-                C = row-raised w t (2 * n) s v sw (f .at) (k .c) (omega arith) (o .C);
+                C = row-raised t (2 * n) s v w (f .at) (k .c) sw (omega arith) (o .C);
                 G = λ i l. other (4 * n + i) (λ q. omega arith) ∙ o .G i l;
                 zero = λ j a b x y. other j (λ q. x (omega arith) (omega arith)) ∙ o .zero j a b x y;
               };
         },
       )
 
-  pub spent-done : (f : Open) (s v : ℕ) → s < w → 4 * n ≤ length t → Spent n w s v t f (spentN v f) (raised w t (sinceAt n (f .longest)) s v)
+  -- a cost, wherever the continuation's table is
+  pub spent-done : (f : Open) (s v : ℕ) → s < w → 4 * n ≤ length t → Spent n w s v t f (spentN v f) (raised t (sinceAt n (f .longest)) s v)
   spent-done f s v sw room = go (eqb (f .longest) 0) refl
     where
-      go : (b : Bool) → eqb (f .longest) 0 ≡ b → Spent n w s v t f (spentN v f) (raised w t (sinceAt n (f .longest)) s v)
+      go : (b : Bool) → eqb (f .longest) 0 ≡ b → Spent n w s v t f (spentN v f) (raised t (sinceAt n (f .longest)) s v)
       go true q = let m = eqb-true (f .longest) 0 q in rw (since-first n (f .longest) m) (spent-first f s v sw room m)
       go false q = let m = eqb-false (f .longest) 0 q in rw (since-later n (f .longest) m) (spent-later f s v sw room m)
 
@@ -302,7 +266,7 @@ module _ (n w : ℕ) (t : List ℕ) (f : Open) (v : ℕ) (r : Asks n w t f v) wh
   pub load-fits : f .prefix + (f .longest + f .since) + v < 2 ^ 64
   load-fits = omega (arith, r .fits, ap (λ (x : Open). x .prefix) (r .weighs), ap (λ (x : Open). x .longest) (r .weighs), ap (λ (x : Open). x .since) (r .weighs))
 
-  -- the block with the continuation
+  -- a number of the block with the continuation
   pub since-le : (i : ℕ) → i < w → getD t (sinceAt n (f .longest) + i) 0 ≤ f .prefix + f .since
   since-le i l = go (eqb (f .longest) 0) refl
     where
@@ -333,6 +297,7 @@ module _ (n w : ℕ) (t : List ℕ) (f : Open) (v : ℕ) (r : Asks n w t f v) wh
   pub take-fits : (i : ℕ) → i < w → getD t (sinceAt n (f .longest) + i) 0 + getD t (partAt n (f .longest) + i) 0 < 2 ^ 64
   take-fits i l = let g = part-weighed in omega (arith, load-fits, since-le i l, g .table i l, row-le i (g .g), g .weighs)
 
+  -- and they lie one behind the other
   pub take-room : 5 * n ≤ length t → (sinceAt n (f .longest) + w ≤ partAt n (f .longest)) × (partAt n (f .longest) + w ≤ length t)
   take-room room = go (eqb (f .longest) 0)
     where
@@ -340,6 +305,7 @@ module _ (n w : ℕ) (t : List ℕ) (f : Open) (v : ℕ) (r : Asks n w t f v) wh
       go true = (omega (arith, r .blocks), omega (arith, r .blocks))
       go false = (omega (arith, r .blocks), omega (arith, r .blocks))
 
+  -- the block with the continuation is in the scratch
   pub since-room : sinceAt n (f .longest) + w ≤ length t
   since-room = go (eqb (f .longest) 0)
     where

@@ -31,7 +31,7 @@ use Rattle.walk.proofs.Accepted as root
 use Rattle.tables.specs.Blocks.{Shows}
 use Rattle.tables.specs.Reader.{BodyAsks, BodyLeaves}
 use Rattle.tables.specs.Root.{lent, Admitted, Settled}
-use Rattle.tables.proofs.Steps.{holds-two}
+use Rattle.tables.proofs.Held.{holds-two}
 use Rattle.tables.proofs.Parts.{own-only}
 
 zeros-show : (n w l : ℕ) → Shows n w (replicate l 0) nothing []

@@ -1,8 +1,8 @@
 // The table engine. An open invocation's part of the scratch is four blocks of n numbers. The first w numbers of a block are a table: what of a chain
 // stands in each row. The blocks are those of the prefix, the longest child and the continuation; the fourth stays zero. As long as no child is the
 // longest, the continuation's table is kept in the prefix's block, the only one in use, and a child's part begins right behind it: the table that the
-// child leaves then stands in the block of the longest child. Once a child is the longest, a child's part begins behind the four blocks. So whatever
-// blocks a parent has in use while a child is open are below the child's part.
+// child leaves then stands in the block of the longest child. Once a child is the longest, a child's part begins behind the four blocks. So each
+// open invocation works in its own part of the scratch: the blocks that its parent has in use lie below it.
 ghost use mathlib.Core.Path.{_≡_};
 ghost use Prim.Native.Nat.{ℕ, _+_, _*_, _^_, _≤_, _<_};
 ghost use lib.ListN.{length, getD};
@@ -39,7 +39,7 @@ fn clear(t: &mut [u64], a: usize, w: usize)
     }
 }
 
-// Adds the block at b, the table of a chain that weighs v, to the block at a, and clears it. Where number s of it is v, all others are zero.
+// Adds the block at b, the table of a chain that weighs v, to the block at a, and clears it: only number s where this is v, for then all others are zero.
 fn take_child(t: &mut [u64], a: usize, b: usize, w: usize, s: usize, v: u64)
     requires { ⌜ (a + w ≤ b) × (b + w ≤ length (now t)) ⌝ }
     requires { ⌜ ((i : ℕ) → i < w → getD (now t) (a + i) 0 + getD (now t) (b + i) 0 < 2 ^ 64) ⌝ }
@@ -54,7 +54,7 @@ fn take_child(t: &mut [u64], a: usize, b: usize, w: usize, s: usize, v: u64)
     add_from(t, a, b, w);
 }
 
-// Clears the block at a, the table of a chain that weighs v. Where number s of it is v, all others are zero.
+// Clears the block at a, the table of a chain that weighs v: only number s where this is v, for then all others are zero.
 fn clear_child(t: &mut [u64], a: usize, w: usize, s: usize, v: u64)
     requires { ⌜ a + w ≤ length (now t) ⌝ }
     requires { ⌜ (s < w) × Weighed (now t) a w v ⌝ }
@@ -100,7 +100,8 @@ fn spend(t: &mut [u64], n: usize, w: usize, f: walk::Open, s: usize, v: u64) -> 
     f.spent(v)
 }
 
-// A sync, or the join at a return: the prefix takes the longest child or, where it is heavier, the continuation, which it has where no child is the longest.
+// A sync, or the join at a return: the prefix takes the longest child or, where it is heavier, the continuation. Its block has the continuation already
+// where no child is the longest.
 fn join(t: &mut [u64], n: usize, w: usize, f: walk::Open) -> walk::Open
     requires { ⌜ Asks n w (now t) f 0 ⌝ }
     requires { ⌜ f .at + 1 < 2 ^ 64 ⌝ }
@@ -131,7 +132,7 @@ fn called(t: &mut [u64], n: usize, w: usize, f: walk::Open, s: usize, c: walk::O
 }
 
 // A spawned child of row s has returned: it is the longest from now on where it is longer, and the prefix takes the continuation up to it. Where no child
-// was the longest before, all tables are in their places.
+// was the longest before, each table is in its place already.
 fn spawned(t: &mut [u64], n: usize, w: usize, f: walk::Open, s: usize, c: walk::Open) -> walk::Open
     requires { ⌜ Asks n w (now t) f (c .prefix) ⌝ }
     requires { ⌜ (s < w) × ((5 * n ≤ length (now t)) × (f .work + c .work < 2 ^ 64)) ⌝ }

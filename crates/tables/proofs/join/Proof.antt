@@ -1,6 +1,7 @@
 use Prim.Native.Nat.{_*_}
 use native.Mathlib.Omega.{arith}
-use Rattle.tables.proofs.Steps.{fits, some-longest, load-fits, join-none, join-since, join-longest}
+use Rattle.tables.proofs.Held.{some-longest}
+use Rattle.tables.proofs.Steps.{fits, load-fits, join-none, join-since, join-longest}
 use borrow.Author.Needs.{needs}
 use Rattle.tables.proofs.join.Statement.{statement}
 use Rattle.tables.proofs.join.Tie as tie

@@ -1,5 +1,5 @@
 use mathlib.Core.Path.{sym}
-use Rattle.tables.proofs.Steps.{part-first, part-later}
+use Rattle.tables.proofs.Held.{part-first, part-later}
 use borrow.Author.Needs.{needs}
 use Rattle.tables.proofs.part.Statement.{statement}
 use Rattle.tables.proofs.part.Tie as tie

@@ -1,5 +1,5 @@
 use mathlib.Core.Path.{sym}
-use Rattle.tables.proofs.Steps.{since-first, since-later}
+use Rattle.tables.proofs.Held.{since-first, since-later}
 use borrow.Author.Needs.{needs}
 use Rattle.tables.proofs.since.Statement.{statement}
 use Rattle.tables.proofs.since.Tie as tie

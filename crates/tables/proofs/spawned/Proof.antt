@@ -1,6 +1,7 @@
 use Prim.Native.Nat.{_*_}
 use native.Mathlib.Omega.{arith}
-use Rattle.tables.proofs.Steps.{fits, some-longest, load-fits, child-table, child-fits, spawned-first, spawned-longer, spawned-shorter}
+use Rattle.tables.proofs.Held.{some-longest}
+use Rattle.tables.proofs.Steps.{fits, load-fits, child-table, child-fits, spawned-first, spawned-longer, spawned-shorter}
 use borrow.Author.Needs.{needs}
 use Rattle.tables.proofs.spawned.Statement.{statement}
 use Rattle.tables.proofs.spawned.Tie as tie

@@ -1,0 +1,51 @@
+-- Which chains' tables are in which blocks, as long as no child is the longest and from then on.
+use mathlib.Core.Path.{_≡_, refl, ap, _∙_, sym, subst}
+use mathlib.Core.Bool.{Bool, cond}
+use mathlib.Core.List.{List, [], append-nil}
+use Prim.Native.Nat.{ℕ, _*_}
+use native.Mathlib.Omega.{arith}
+use borrow.Author.Tests.{eq-eqb, ne-eqb}
+use Rattle.chain.specs.Plan.{CostLine, weight}
+use Rattle.trace.specs.Fold.{Chains, onRow}
+use Rattle.trace.proofs.OnChain.{row-le}
+use Rattle.walk.specs.declared.Open.{Open}
+use Rattle.walk.specs.Numbers.{numbers}
+use Rattle.walk.specs.Reader.{alone}
+use Rattle.tables.specs.Blocks.{Shows, sinceAt, partAt, Holds}
+
+-- where the continuation's table is and where a child's part begins: as long as no child is the longest, and from then on
+pub since-first : (n v : ℕ) → v ≡ 0 → sinceAt n v ≡ 0
+since-first n v e = ap (λ (b : Bool). cond b 0 (2 * n)) (eq-eqb v 0 e)
+
+pub since-later : (n v : ℕ) → (v ≡ 0 → ⊥) → sinceAt n v ≡ 2 * n
+since-later n v e = ap (λ (b : Bool). cond b 0 (2 * n)) (ne-eqb v 0 e)
+
+pub part-first : (n v : ℕ) → v ≡ 0 → partAt n v ≡ n
+part-first n v e = ap (λ (b : Bool). cond b n (4 * n)) (eq-eqb v 0 e)
+
+pub part-later : (n v : ℕ) → (v ≡ 0 → ⊥) → partAt n v ≡ 4 * n
+part-later n v e = ap (λ (b : Bool). cond b n (4 * n)) (ne-eqb v 0 e)
+
+-- an open invocation's numbers say whether a child is the longest
+pub none-longest : (f : Open) (k : Chains) → f ≡ numbers (f .at) (f .work) k → f .longest ≡ 0 → weight (k .l) ≡ 0
+none-longest f k e z = sym (ap (λ (x : Open). x .longest) e) ∙ z
+
+pub some-longest : (f : Open) (k : Chains) → f ≡ numbers (f .at) (f .work) k → (f .longest ≡ 0 → ⊥) → weight (k .l) ≡ 0 → ⊥
+some-longest f k e m z = m (ap (λ (x : Open). x .longest) e ∙ z)
+
+-- a chain that weighs nothing has nothing in any row
+pub weightless : (i : ℕ) (c : List CostLine) → weight c ≡ 0 → onRow i c ≡ 0
+weightless i c e = omega (arith, row-le i c)
+
+module _ (n w : ℕ) (t : List ℕ) where
+  -- a longest child that weighs nothing is none
+  pub light : (p l : List CostLine) → weight l ≡ 0 → Shows n w t (record { p = p; l = l; c = [] }) [] → Shows n w t (alone p) []
+  light p l e s = record { P = s .P; L = λ i h. s .L i h ∙ weightless i l e; C = s .C; G = s .G; zero = s .zero }
+
+  -- where the continuation is empty, each chain's table is in its own block
+  pub holds-two : (p l : List CostLine) → Shows n w t (record { p = p; l = l; c = [] }) [] → Holds n w t (record { p = p; l = l; c = [] }) []
+  holds-two p l s = record { first = λ e. subst (λ (x : List CostLine). Shows n w t (alone x) []) (sym (append-nil p)) (light p l e s); later = λ e. s }
+
+  -- an invocation that has come to one chain
+  pub alone-shows : (p : List CostLine) → Holds n w t (alone p) [] → Shows n w t (alone p) []
+  alone-shows p h = subst (λ (x : List CostLine). Shows n w t (alone x) []) (append-nil p) (h .first refl)
