@@ -26,9 +26,11 @@ two-rows s i (x ∷ c) q = omega (arith, two-rows s i c q, go (eqb (x .row) s) r
 
 -- number s of the block at b is all that its chain weighs
 module _ (b w s v : ℕ) (t : List ℕ) (room : b + w ≤ length t) (sw : s < w) (h : Weighed t b w v) (all : getD t (b + s) 0 ≡ v) where
+  -- all others are zero
   others : (i : ℕ) → i < w → (i ≡ s → ⊥) → getD t (b + i) 0 ≡ 0
   others i l q = omega (arith, two-rows s i (h .g) (λ e. q (sym e)), h .table s sw, h .table i l, h .weighs)
 
+  -- the block is cleared where this number is
   pub cleared-one : Cleared b w t (set t (b + s) 0)
   cleared-one = record { gone = λ i l. gone′ i l (ℕ-discrete i s); rest = λ j x. getD-set-other t (b + s) j 0 0 (λ e. x (omega arith) (omega arith)) }
     where
@@ -36,11 +38,12 @@ module _ (b w s v : ℕ) (t : List ℕ) (room : b + w ≤ length t) (sw : s < w)
       gone′ i l (yes e) = rw e (getD-set-same t (b + s) 0 0 (omega arith))
       gone′ i l (no d) = getD-set-other t (b + s) (b + i) 0 0 (λ e. d (omega arith)) ∙ others i l d
 
-  -- a block below
+  -- the block at a lies below
   module _ (a : ℕ) (ab : a + w ≤ b) where
     abbrev sum : ℕ
     sum = getD t (a + s) 0 + v
 
+    -- the block is added to it where this number is
     pub added-one : Added a b w t (set (set t (a + s) sum) (b + s) 0)
     added-one = record { sums = λ i l. sums′ i l (ℕ-discrete i s); gone = λ i l. gone′ i l (ℕ-discrete i s); rest = λ j x y. other j (λ e. x (omega arith) (omega arith)) (λ e. y (omega arith) (omega arith)) }
       where

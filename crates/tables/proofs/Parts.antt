@@ -71,7 +71,7 @@ module _ (n w : ℕ) (wn : w ≤ n) (t : List ℕ) (h : 4 * n ≤ length t) wher
   first-zero : (c : List CostLine) → Shows n w t (alone c) [] → (j : ℕ) → getD t (n + j) 0 ≡ 0
   first-zero c s j = own-only n w t c s (n + j) (λ x y. omega arith)
 
-  -- and behind the four blocks whatever child is
+  -- and behind the four blocks in any case
   later-zero : (k : Chains) → Shows n w t k [] → (j : ℕ) → getD t (4 * n + j) 0 ≡ 0
   later-zero k s j = go (decLt j w)
     where
@@ -79,7 +79,7 @@ module _ (n w : ℕ) (wn : w ≤ n) (t : List ℕ) (h : 4 * n ≤ length t) wher
       go (yes l) = s .G j l
       go (no l) = s .zero (4 * n + j) (λ x y. omega arith) (λ x y. omega arith) (λ x y. omega arith) (λ x y. omega arith)
 
-  -- a part that is lent with zeros shows no chain
+  -- a part of zeros shows no chain
   zeros-none : (o : ℕ) → o ≤ 4 * n → ((j : ℕ) → getD t (o + j) 0 ≡ 0) → Shows n w (take (length t - o) (drop o t)) nothing []
   zeros-none o l z =
       record {
@@ -136,6 +136,7 @@ module _ (n w : ℕ) (wn : w ≤ n) (t : List ℕ) (h : 4 * n ≤ length t) wher
 
   -- a child's part, wherever it begins
   module _ (v o : ℕ) (is : o ≡ partAt n v) where
+    -- at most the four blocks lie below it
     pub part-in : o ≤ 4 * n
     part-in = rw is (go (eqb v 0))
       where
@@ -143,6 +144,7 @@ module _ (n w : ℕ) (wn : w ≤ n) (t : List ℕ) (h : 4 * n ≤ length t) wher
         go true = omega arith
         go false = omega arith
 
+    -- it goes up to the end of the scratch
     pub part-length : length (take (length t - o) (drop o t)) ≡ length t - o
     part-length = ap length (part-is o t (omega (arith, part-in))) ∙ length-drop o t
 
@@ -162,6 +164,6 @@ module _ (n w : ℕ) (wn : w ≤ n) (t : List ℕ) (h : 4 * n ≤ length t) wher
           later = λ q. rw (is ∙ part-later n v (λ z. q (sym e ∙ z))) (back-later k c y (s .later q) d);
         }
 
--- nothing of its length is lost
+-- the scratch is as long as it was when a part has come back
 pub back-length : (o : ℕ) (t y : List ℕ) → length y ≡ length (take (length t - o) (drop o t)) → length (putMid o (length t - o) t y) ≡ length t
 back-length o t y e = same-len-mid o (length t - o) t y e
