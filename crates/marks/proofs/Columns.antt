@@ -2,25 +2,28 @@
 use mathlib.Core.Path.{_≡_, refl, ap, _∙_, sym, subst}
 use mathlib.Core.Logic.{_⊎_, inl, inr}
 use mathlib.Core.Bool.{Bool, true, false, cond}
-use mathlib.Core.List.{List}
+use mathlib.Core.List.{List, [], _∷_, _++_}
 use Prim.Native.Nat.{ℕ, suc, _+_, _*_, _-_, _^_, _≤_, _<_}
 use native.Mathlib.Omega.{arith}
 use lib.Dec.{eqb}
-use lib.ListN.{length, getD, set}
+use lib.ListN.{length, getD, set, length-set}
+use lib.Seq.{getD-set-same, getD-set-other, set-getD, set-set}
 use borrow.Author.Tests.{eq-eqb, ne-eqb}
 use Rattle.line.specs.At.{kindAt, siteAt, valueAt}
 use Rattle.trace.specs.Rows.{columns}
-use Rattle.trace.specs.Tree.{Body, done, spend, sync, call, spawn, linesOf, size, Within}
+use Rattle.trace.specs.Tree.{Body, done, spend, sync, call, spawn, linesOf, size}
+use Rattle.trace.proofs.Tree.{size-is}
 use Rattle.walk.specs.Stands.{Stands, Says, kindOf}
 use Rattle.walk.specs.Gain.{one, Grown}
-use Rattle.walk.specs.Item.{More, rest, itemSize}
-use Rattle.walk.proofs.Items.{size-item, size-some, item-some, stands-rest, within-rest}
+use Rattle.walk.proofs.Items.{size-some, stands-left, stands-right}
 use Rattle.walk.proofs.Lines.{is-more, is-done, is-sync}
 use Rattle.walk.proofs.Says.{kind-says, site-says, value-says}
 use Rattle.walk.proofs.Rows.{one-same, grown-one}
 use Rattle.walk.proofs.Room.{lines-in}
-use Rattle.walk.proofs.Child.{cost-is, Child, child-is, within-child}
-use Rattle.marks.specs.Column.{marked, onGain, onItem, OnLent, OnItemAsks, OnItemLeaves, OnBodyLeaves}
+use Rattle.walk.proofs.Child.{cost-is, Child, child-is}
+use Rattle.marks.specs.declared.Present.{Present}
+use Rattle.marks.specs.Park.{Zero}
+use Rattle.marks.specs.Column.{marked, onGain, Left, left, AllStand, linesLeft, onLeft, AllWithin, behind, onLine, stacked, Held, root, entered, Returned, OnLent, LineAsks, LineLeaves, ColumnAsks, ColumnLeaves}
 
 -- a mark decides
 pub marked-on : (x v : ℕ) → x ≡ 1 → marked x v ≡ v
@@ -42,179 +45,240 @@ grown-off rows j x v e i l = omega (arith, ap (λ (y : ℕ). one j y i) (marked-
         go true = refl
         go false = refl
 
--- a body is its first item and the rest
-on-item : (m : List ℕ) (b : Body) (n s i : ℕ) → More b → onGain m n s b i ≡ onItem m n s b i + onGain m (n + itemSize b) s (rest b) i
-on-item m done n s i h = absurd h
-on-item m (spend v r) n s i h = refl
-on-item m (sync r) n s i h = omega arith
-on-item m (call j g r) n s i h = refl
-on-item m (spawn j g r) n s i h = refl
+-- What one line does to the open invocations.
 
--- the loop has come to line n: what is left of the body b, and what it comes to, are as from its first line on
-pub record OnTurn (s : List ℕ) (from row : ℕ) (m rows₀ : List ℕ) (n : ℕ) (rows : List ℕ) (b : Body) : Type 0 where
-  pub left : Body
-  pub stands : Stands s n (linesOf left)
-  pub same-end : n + size left ≡ from + size b
-  pub same-rows : (i : ℕ) → i < length rows₀ → getD rows i 0 + onGain m n row left i ≡ getD rows₀ i 0 + onGain m from row b i
+-- lines that stand, and what they add, by equal numbers of the first line
+stand-same : (s : List ℕ) (k : List Left) (n e : ℕ) → n ≡ e → AllStand s n k → AllStand s e k
+stand-same s k n e q h = subst (λ (j : ℕ). AllStand s j k) q h
 
-pub record OnLoop (s : List ℕ) (from row deep : ℕ) (m rows₀ : List ℕ) (n kind : ℕ) (rows : List ℕ) : Type 0 where
-  pub kind-is : kind ≡ kindAt s n
-  pub rows-long : length rows ≡ length rows₀
-  pub lent : OnLent s n row deep m rows
-  pub turns : (b : Body) → Stands s from (linesOf b) → OnTurn s from row m rows₀ n rows b
+on-same : (m : List ℕ) (k : List Left) (i n e : ℕ) → n ≡ e → onLeft m n k i ≡ onLeft m e k i
+on-same m k i n e q = ap (λ (j : ℕ). onLeft m j k i) q
 
-pub loop-start : {s : List ℕ} {from row deep : ℕ} {m rows : List ℕ} → OnLent s from row deep m rows → (kind : ℕ) → kind ≡ kindAt s from → OnLoop s from row deep m rows from kind rows
-loop-start l kind k = record { kind-is = k; rows-long = refl; lent = l; turns = λ b h. record { left = b; stands = h; same-end = refl; same-rows = λ i q. refl } }
+-- a child's lines, and those of its invocation behind it
+stand-two : (s : List ℕ) (n row j : ℕ) (g r : Body) (k : List Left) → Stands s (n + 1) (linesOf g ++ linesOf r) → AllStand s (n + suc (size g + size r)) k → AllStand s (n + 1) (left j g ∷ (left row r ∷ k))
+stand-two s n row j g r k h w =
+    let e : n + 1 + length (linesOf g) ≡ n + 1 + size g = omega (arith, size-is g) in (
+      stands-left s (linesOf g) (linesOf r) (n + 1) h,
+      (subst (λ (i : ℕ). Stands s i (linesOf r)) e (stands-right s (linesOf g) (linesOf r) (n + 1) h), stand-same s k (n + suc (size g + size r)) (n + 1 + size g + size r) (omega arith) w),
+    )
 
-module _ {s : List ℕ} {from row deep : ℕ} {m rows₀ : List ℕ} {n kind : ℕ} {rows : List ℕ} (x : OnLoop s from row deep m rows₀ n kind rows) where
-  abbrev l : OnLent s n row deep m rows
-  l = x .lent
+stand-behind : (s : List ℕ) (n row : ℕ) (b : Body) (k : List Left) → AllStand s n (left row b ∷ k) → AllStand s (n + 1) (behind row b k)
+stand-behind s n row done k h = h .1
+stand-behind s n row (spend v r) k h = (h .0 .1, stand-same s k (n + suc (size r)) (n + 1 + size r) (omega arith) (h .1))
+stand-behind s n row (sync r) k h = (h .0 .1, stand-same s k (n + suc (size r)) (n + 1 + size r) (omega arith) (h .1))
+stand-behind s n row (call j g r) k h = stand-two s n row j g r k (h .0 .1) (h .1)
+stand-behind s n row (spawn j g r) k h = stand-two s n row j g r k (h .0 .1) (h .1)
 
-  says : Says kindOf s n kind
-  says = kind-says s n n kind refl (x .kind-is)
+within-behind : (sites D row : ℕ) (b : Body) (k : List Left) → AllWithin sites D (left row b ∷ k) → AllWithin sites D (behind row b k)
+within-behind sites D row done k h = h .3
+within-behind sites D row (spend v r) k h = (h .0, h .1, h .2 .2, h .3)
+within-behind sites D row (sync r) k h = h
+within-behind sites D row (call j g r) k h = (h .2 .1, h .2 .2, h .2 .3, (h .0, h .1, h .2 .4, h .3))
+within-behind sites D row (spawn j g r) k h = (h .2 .1, h .2 .2, h .2 .3, (h .0, h .1, h .2 .4, h .3))
 
-  pub loop-asks : (kind ≡ 5 → ⊥) → OnItemAsks s kind n row deep m rows
-  loop-asks k5 = record { lent = l; kind-is = x .kind-is; more = is-more s n kind says (l .body) (l .stands) k5 }
+lines-behind : (row : ℕ) (b : Body) (k : List Left) → linesLeft (left row b ∷ k) ≡ 1 + linesLeft (behind row b k)
+lines-behind row done k = omega arith
+lines-behind row (spend v r) k = omega arith
+lines-behind row (sync r) k = omega arith
+lines-behind row (call j g r) k = omega arith
+lines-behind row (spawn j g r) k = omega arith
 
-  -- an item was read: the next line is r
-  module _ (k5 : kind ≡ 5 → ⊥) (r : ℕ) (rows′ : List ℕ) (len : length rows′ ≡ length rows) (done : OnItemLeaves s n row m rows r rows′) where
-    more : More (l .body)
-    more = is-more s n kind says (l .body) (l .stands) k5
+on-two : (m : List ℕ) (n row j : ℕ) (g r : Body) (k : List Left) (i : ℕ) → onGain m (n + 1) j g i + onGain m (n + (1 + size g)) row r i + onLeft m (n + suc (size g + size r)) k i ≡ onLeft m (n + 1) (left j g ∷ (left row r ∷ k)) i
+on-two m n row j g r k i =
+    let e : n + (1 + size g) ≡ n + 1 + size g = omega arith in
+    omega (arith, ap (λ (x : ℕ). onGain m x row r i) e, on-same m k i (n + suc (size g + size r)) (n + 1 + size g + size r) (omega arith))
 
-    left : (r ≡ n + itemSize (l .body)) × ((i : ℕ) → i < length rows → getD rows′ i 0 ≡ getD rows i 0 + onItem m n row (l .body) i)
-    left = done (l .body) more (l .stands)
+on-behind : (m : List ℕ) (n row : ℕ) (b : Body) (k : List Left) (i : ℕ) → onLeft m n (left row b ∷ k) i ≡ onLine m n row b i + onLeft m (n + 1) (behind row b k) i
+on-behind m n row done k i = omega arith
+on-behind m n row (spend v r) k i = omega (arith, on-same m k i (n + suc (size r)) (n + 1 + size r) (omega arith))
+on-behind m n row (sync r) k i = omega (arith, on-same m k i (n + suc (size r)) (n + 1 + size r) (omega arith))
+on-behind m n row (call j g r) k i = omega (arith, on-two m n row j g r k i)
+on-behind m n row (spawn j g r) k i = omega (arith, on-two m n row j g r k i)
 
-    pub loop-less : 65536 - r < 65536 - n
-    loop-less = omega (arith, left .0, item-some (l .body) more, l .ends, size-some (l .body))
+-- The rows in the scratch.
+stacked-length : (z : List ℕ) (k : List Left) → length (stacked z k) ≡ length z
+stacked-length z [] = refl
+stacked-length z (x ∷ k) = length-set (stacked z k) (length k) (x .row) ∙ stacked-length z k
 
-    pub loop-again : (next : ℕ) → next ≡ kindAt s r → OnLoop s from row deep m rows₀ r next rows′
-    loop-again next k =
-        let b = l .body in
-        record {
-          kind-is = k;
-          rows-long = len ∙ x .rows-long;
-          lent =
-              subst (λ (j : ℕ). OnLent s j row deep m rows′) (sym (left .0))
-              (record {
-                sites = l .sites;
-                body = rest b;
-                stands = stands-rest s b n more (l .stands);
-                D = l .D;
-                d = l .d;
-                within = within-rest (l .sites) (l .D) (l .d) b (l .within);
-                depth = l .depth;
-                row-in = l .row-in;
-                rows-long = omega (arith, l .rows-long, len);
-                lines = l .lines;
-                ends = omega (arith, l .ends, size-item b more);
-                fits = λ j q. omega (arith, l .fits j q, on-item m b n row (columns * j + 4) more, left .1 (columns * j + 4) (omega (arith, l .rows-long)));
-              });
-          turns = λ b h. turn b h;
-        }
-      where
-        turn : (b : Body) → Stands s from (linesOf b) → OnTurn s from row m rows₀ r rows′ b
-        turn b h =
-            let u = x .turns b h in
-            let c = u .left in
-            let more = is-more s n kind says c (u .stands) k5 in
-            let d = done c more (u .stands) in
-            subst (λ (j : ℕ). OnTurn s from row m rows₀ j rows′ b) (sym (d .0))
-            (record {
-              left = rest c;
-              stands = stands-rest s c n more (u .stands);
-              same-end = omega (arith, u .same-end, size-item c more);
-              same-rows = λ i q. omega (arith, u .same-rows i q, on-item m c n row i more, d .1 i (omega (arith, x .rows-long)));
-            })
+stacked-zero : (z : List ℕ) → Zero z → (k : List Left) (j : ℕ) → length k ≤ j → getD (stacked z k) j 0 ≡ 0
+stacked-zero z o [] j l = o j
+stacked-zero z o (x ∷ k) j l = getD-set-other (stacked z k) (length k) j (x .row) 0 (λ e. omega arith) ∙ stacked-zero z o k j (omega arith)
 
-  pub loop-done : kind ≡ 5 → OnBodyLeaves s from row m rows₀ (n + 1) rows
-  loop-done k5 b h =
-      let u = x .turns b h in
-      let e = is-done s n kind says (u .left) (u .stands) k5 in
-      (omega (arith, u .same-end, ap size e), λ i q. omega (arith, u .same-rows i q, ap (λ (y : Body). onGain m n row y i) e))
+-- an invocation was left
+held-left : (z : List ℕ) → Zero z → (k : List Left) (a r : Present) (t t′ : List ℕ) → length k ≤ length z → a .around ≡ length k → t ≡ stacked z k → Returned t a r t′ → Held z k r t′
+held-left z o [] a r t t′ l e h x = x .last e .1 ∙ h
+held-left z o (y ∷ k) a r t t′ l e h x =
+    let u = stacked z k in
+    let d = length k in
+    let p = x .inner d (omega arith) in
+    let clear : set u d 0 ≡ u = ap (set u d) (sym (stacked-zero z o k d (omega arith))) ∙ set-getD u d 0 in (
+      ap (λ (y : Present). y .row) (p .0) ∙ ap (λ (y : List ℕ). getD y d 0) h ∙ getD-set-same u d (y .row) 0 (omega (arith, stacked-length z k)),
+      ap (λ (y : Present). y .around) (p .0),
+      p .1 ∙ ap (λ (y : List ℕ). set y d 0) h ∙ set-set u d (y .row) 0 ∙ clear,
+    )
 
--- the item reader
-module _ {s : List ℕ} {row deep : ℕ} {m : List ℕ} {n : ℕ} {rows : List ℕ} (l : OnLent s n row deep m rows) where
-  pub line-fits : n + 1 < 2 ^ 64
-  line-fits = omega (arith, l .ends, size-some (l .body))
+-- the return of the root, and that of another
+pub returned-last : (t : List ℕ) (a : Present) → a .around ≡ 0 → Returned t a a t
+returned-last t a e = record { last = λ q. (refl, refl); inner = λ d q. absurd (omega arith) }
+
+pub returned-inner : (t : List ℕ) (a : Present) → (a .around ≡ 0 → ⊥) → Returned t a (record { row = getD t (a .around - 1) 0; around = a .around - 1 }) (set t (a .around - 1) 0)
+returned-inner t a e = record { last = λ q. absurd (e q); inner = λ d q. let z : a .around - 1 ≡ d = omega arith in rw z (refl, refl) }
+
+-- an invocation was entered
+held-entered : (z : List ℕ) (k : List Left) (a r : Present) (t t′ : List ℕ) (row site : ℕ) (b g : Body) → Held z (left row b ∷ k) a t → r ≡ entered site a → t′ ≡ set t (a .around) (a .row) → Held z (left site g ∷ (left row b ∷ k)) r t′
+held-entered z k a r t t′ row site b g h e q = (
+  ap (λ (y : Present). y .row) e,
+  omega (arith, ap (λ (y : Present). y .around) e, h .1),
+  q ∙ ap (λ (y : List ℕ). set y (a .around) (a .row)) (h .2) ∙ ap (λ (y : ℕ). set (stacked z k) y (a .row)) (h .1) ∙ ap (set (stacked z k) (length k)) (h .0),
+)
+
+-- A line.
+module _ {s : List ℕ} {n : ℕ} {a : Present} {t m rows : List ℕ} (q : LineAsks s n a t m rows) where
+  abbrev l : OnLent s n (left (q .row) (q .body) ∷ q .around) (q .z) a t m rows
+  l = q .lent
 
   pub mark-in : n < length m
-  mark-in = omega (arith, l .lines, lines-in s (l .body) n (l .stands), size-some (l .body))
+  mark-in = omega (arith, l .lines, lines-in s (q .body) n (l .stand .0), size-some (q .body))
 
-module _ {s : List ℕ} {kind row deep : ℕ} {m : List ℕ} {n : ℕ} {rows : List ℕ} (a : OnItemAsks s kind n row deep m rows) where
-  abbrev y : OnLent s n row deep m rows
-  y = a .lent
+  scratch-length : length t ≡ length (q .z)
+  scratch-length = ap length (l .held .2) ∙ stacked-length (q .z) (q .around)
 
-  kind-so : Says kindOf s n kind
-  kind-so = kind-says s n n kind refl (a .kind-is)
+  -- how many invocations are around
+  around-in : (length (q .around) ≤ length (q .z)) × (a .around < length t)
+  around-in = (omega (arith, l .within .1, l .room), omega (arith, l .held .1, l .within .1, l .room, scratch-length))
 
-  pub sync-leaves : kind ≡ 4 → OnItemLeaves s n row m rows (n + 1) rows
-  sync-leaves k4 b more h =
-      let q = is-sync s n kind kind-so b h k4 in
-      subst (λ (x : Body). (n + 1 ≡ n + itemSize x) × ((i : ℕ) → i < length rows → getD rows i 0 ≡ getD rows i 0 + onItem m n row x i)) (sym (q .1)) (refl, λ i l. omega arith)
+  pub leave-asks : a .around ≤ length t
+  leave-asks = omega (arith, around-in .1)
+
+  pub enter-asks : a .around < length t
+  enter-asks = around-in .1
+
+-- what a line leaves, by its kind
+module _ {s : List ℕ} {n : ℕ} {a : Present} {t m rows : List ℕ} (p : LineAsks s n a t m rows) (kind : ℕ) (kind-is : kind ≡ kindAt s n) where
+  says : Says kindOf s n kind
+  says = kind-says s n n kind refl kind-is
+
+  -- whose next item is b
+  abbrev Leaves : (z : List ℕ) (row : ℕ) (k : List Left) (r : Present) (t′ rows′ : List ℕ) → Body → Type 0
+  Leaves z row k r t′ rows′ b = Held z (behind row b k) r t′ × Grown rows (onLine m n row b) rows′
+
+  -- nothing is added
+  grown-none : Grown rows (λ i. 0) rows
+  grown-none i l = omega arith
+
+  pub sync-leaves : kind ≡ 4 → LineLeaves s n a t m rows a t rows
+  sync-leaves k4 q =
+      let e = is-sync s n kind says (q .body) (q .lent .stand .0) k4 in
+      subst (Leaves (q .z) (q .row) (q .around) a t rows) (sym (e .1)) (q .lent .held, grown-none)
+
+  pub return-leaves : kind ≡ 5 → (r : Present) (t′ : List ℕ) → Returned t a r t′ → LineLeaves s n a t m rows r t′ rows
+  return-leaves k5 r t′ x q =
+      let l = q .lent in
+      let e = is-done s n kind says (q .body) (l .stand .0) k5 in
+      subst (Leaves (q .z) (q .row) (q .around) r t′ rows) (sym e) (held-left (q .z) (l .zero) (q .around) a r t t′ (around-in q .0) (l .held .1) (l .held .2) x, grown-none)
 
   -- a cost of v
   module _ (k6 : kind ≡ 6) (v : ℕ) (value : v ≡ valueAt s n) where
     spend-is : (b : Body) → Stands s n (linesOf b) → (r : Body) × (b ≡ spend v r)
-    spend-is = cost-is s n kind kind-so v (value-says s n n v refl value) k6
+    spend-is = cost-is s n kind says v (value-says s n n v refl value) k6
 
-    pub add-asks : (columns * row + 4 < length rows) × (getD rows (columns * row + 4) 0 + marked (getD m n 0) v < 2 ^ 64)
+    pub add-asks : (columns * a .row + 4 < length rows) × (getD rows (columns * a .row + 4) 0 + marked (getD m n 0) v < 2 ^ 64)
     add-asks =
-        let q = spend-is (y .body) (y .stands) in
-        (omega (arith, y .row-in, y .rows-long), omega (arith, y .fits row (y .row-in), ap (λ (x : Body). onGain m n row x (columns * row + 4)) (q .1), one-same (columns * row + 4) (marked (getD m n 0) v)))
+        let l = p .lent in
+        let e = spend-is (p .body) (l .stand .0) in
+        let f = l .fits (p .row) (l .within .0) in
+        rw (l .held .0)
+        (omega (arith, l .within .0, l .rows-long), omega (arith, f, ap (λ (x : Body). onGain m n (p .row) x (columns * p .row + 4)) (e .1), one-same (columns * p .row + 4) (marked (getD m n 0) v)))
 
-    pub cost-leaves : (rows′ : List ℕ) → Grown rows (one (columns * row + 4) (marked (getD m n 0) v)) rows′ → OnItemLeaves s n row m rows (n + 1) rows′
-    cost-leaves rows′ grown b more h =
-        let q = spend-is b h in
-        subst (λ (x : Body). (n + 1 ≡ n + itemSize x) × ((i : ℕ) → i < length rows → getD rows′ i 0 ≡ getD rows i 0 + onItem m n row x i)) (sym (q .1)) (refl, grown)
+    pub cost-leaves : (rows′ : List ℕ) → Grown rows (one (columns * a .row + 4) (marked (getD m n 0) v)) rows′ → LineLeaves s n a t m rows a t rows′
+    cost-leaves rows′ grown q =
+        let l = q .lent in
+        let e = spend-is (q .body) (l .stand .0) in
+        subst (Leaves (q .z) (q .row) (q .around) a t rows′) (sym (e .1)) (l .held, subst (λ (x : ℕ). Grown rows (one (columns * x + 4) (marked (getD m n 0) v)) rows′) (l .held .0) grown)
 
   -- a call or a spawn of site
-  module _ (site : ℕ) (sited : site ≡ siteAt s n) (k6 : kind ≡ 6 → ⊥) (k4 : kind ≡ 4 → ⊥) where
-    child-of : (b : Body) → Stands s n (linesOf b) → More b → Child s n site b
-    child-of = child-is s n kind site kind-so (site-says s n n site refl sited) k6 k4
-
-    abbrev child : Child s n site (y .body)
-    child = child-of (y .body) (y .stands) (a .more)
-
-    in-it : (site ≤ y .sites) × (suc (y .d) ≤ y .D) × Within (y .sites) (y .D) (suc (y .d)) (child .g) × (1 + size (child .g) ≤ size (y .body))
-    in-it = within-child s n site (y .sites) (y .D) (y .d) (y .body) child (y .within)
-
-    gains : (i : ℕ) → onGain m (n + 1) site (child .g) i ≤ onGain m n row (y .body) i
-    gains i = go (child .is)
+  module _ (site : ℕ) (sited : site ≡ siteAt s n) (k6 : kind ≡ 6 → ⊥) (k5 : kind ≡ 5 → ⊥) (k4 : kind ≡ 4 → ⊥) where
+    pub child-leaves : (r : Present) (t′ : List ℕ) → r ≡ entered site a → t′ ≡ set t (a .around) (a .row) → LineLeaves s n a t m rows r t′ rows
+    child-leaves r t′ er et q = go (c .is)
       where
-        go : ((y .body ≡ call site (child .g) (child .r)) ⊎ (y .body ≡ spawn site (child .g) (child .r))) → onGain m (n + 1) site (child .g) i ≤ onGain m n row (y .body) i
-        go (inl e) = omega (arith, ap (λ (x : Body). onGain m n row x i) e)
-        go (inr e) = omega (arith, ap (λ (x : Body). onGain m n row x i) e)
+        c : Child s n site (q .body)
+        c = child-is s n kind site says (site-says s n n site refl sited) k6 k4 (q .body) (q .lent .stand .0) (is-more s n kind says (q .body) (q .lent .stand .0) k5)
 
-    pub deeper : 1 ≤ deep
-    deeper = omega (arith, in-it .1, y .depth)
+        both : Held (q .z) (left site (c .g) ∷ (left (q .row) (c .r) ∷ q .around)) r t′ × Grown rows (λ i. 0) rows
+        both = (held-entered (q .z) (q .around) a r t t′ (q .row) site (c .r) (c .g) (q .lent .held) er et, grown-none)
 
-    pub body-asks : OnLent s (n + 1) site (deep - 1) m rows
-    body-asks =
-        record {
-          sites = y .sites;
-          body = child .g;
-          stands = child .stands;
-          D = y .D;
-          d = suc (y .d);
-          within = in-it .2;
-          depth = omega (arith, y .depth, deeper);
-          row-in = in-it .0;
-          rows-long = y .rows-long;
-          lines = y .lines;
-          ends = omega (arith, y .ends, in-it .3);
-          fits = λ j q. omega (arith, y .fits j q, gains (columns * j + 4));
-        }
+        go : ((q .body ≡ call site (c .g) (c .r)) ⊎ (q .body ≡ spawn site (c .g) (c .r))) → Leaves (q .z) (q .row) (q .around) r t′ rows (q .body)
+        go (inl e) = subst (Leaves (q .z) (q .row) (q .around) r t′ rows) (sym e) both
+        go (inr e) = subst (Leaves (q .z) (q .row) (q .around) r t′ rows) (sym e) both
 
-    pub child-leaves : (r : ℕ) (rows′ : List ℕ) → OnBodyLeaves s (n + 1) site m rows r rows′ → OnItemLeaves s n row m rows r rows′
-    child-leaves r rows′ left b more h = go (c .is)
+-- The loop has come to line n: the open invocations, and what they come to, are as from the first line of the root's body b on.
+pub record Turn (s : List ℕ) (from lines : ℕ) (z m rows₀ : List ℕ) (n : ℕ) (a : Present) (t rows : List ℕ) (b : Body) : Type 0 where
+  pub opened : List Left
+  pub ends : n + linesLeft opened ≡ lines
+  pub lent : OnLent s n opened z a t m rows
+  pub same-rows : (i : ℕ) → i < length rows₀ → getD rows i 0 + onLeft m n opened i ≡ getD rows₀ i 0 + onGain m from 0 b i
+
+pub record Loop (s : List ℕ) (from lines : ℕ) (z m rows₀ : List ℕ) (n : ℕ) (a : Present) (t rows : List ℕ) : Type 0 where
+  pub rows-long : length rows ≡ length rows₀
+  pub turns : (q : ColumnAsks s from lines z m rows₀) → Turn s from lines z m rows₀ n a t rows (q .body)
+
+pub turn-start : (s : List ℕ) (from lines : ℕ) (z m rows : List ℕ) → Loop s from lines z m rows from root z rows
+turn-start s from lines z m rows = record { rows-long = refl; turns = λ q. record { opened = left 0 (q .body) ∷ []; ends = omega (arith, q .ends); lent = q .lent; same-rows = λ i h. omega arith } }
+
+module _ {s : List ℕ} {from lines : ℕ} {z m rows₀ : List ℕ} {n : ℕ} {a : Present} {t rows : List ℕ} (x : Loop s from lines z m rows₀ n a t rows) where
+  -- at least one invocation is open before the last line
+  line-of : {b : Body} → n < lines → Turn s from lines z m rows₀ n a t rows b → LineAsks s n a t m rows
+  line-of less u = go (u .opened) (u .ends) (u .lent)
+    where
+      go : (k : List Left) → n + linesLeft k ≡ lines → OnLent s n k z a t m rows → LineAsks s n a t m rows
+      go [] e l = absurd (omega arith)
+      go (y ∷ k) e l = record { row = y .row; body = y .body; around = k; z = z; lent = l }
+
+  pub turn-asks : n < lines → ColumnAsks s from lines z m rows₀ → LineAsks s n a t m rows
+  turn-asks less q = line-of less (x .turns q)
+
+  pub turn-again : n < lines → (r : Present) (t′ rows′ : List ℕ) → length rows′ ≡ length rows → LineLeaves s n a t m rows r t′ rows′ → Loop s from lines z m rows₀ (n + 1) r t′ rows′
+  turn-again less r t′ rows′ len leaves = record { rows-long = len ∙ x .rows-long; turns = λ q. let u = x .turns q in go q (u .opened) (u .ends) (u .lent) (u .same-rows) }
+    where
+      go : (q : ColumnAsks s from lines z m rows₀) (k : List Left) → n + linesLeft k ≡ lines → OnLent s n k z a t m rows → ((i : ℕ) → i < length rows₀ → getD rows i 0 + onLeft m n k i ≡ getD rows₀ i 0 + onGain m from 0 (q .body) i) → Turn s from lines z m rows₀ (n + 1) r t′ rows′ (q .body)
+      go q [] e l w = absurd (omega arith)
+      go q (y ∷ k) e l w =
+          let d = leaves (record { row = y .row; body = y .body; around = k; z = z; lent = l }) in
+          let b = y .body in
+          record {
+            opened = behind (y .row) b k;
+            ends = omega (arith, lines-behind (y .row) b k);
+            lent =
+                record {
+                  sites = l .sites;
+                  D = l .D;
+                  stand = stand-behind s n (y .row) b k (l .stand);
+                  within = within-behind (l .sites) (l .D) (y .row) b k (l .within);
+                  zero = l .zero;
+                  room = l .room;
+                  held = d .0;
+                  rows-long = omega (arith, l .rows-long, len);
+                  lines = l .lines;
+                  fits = λ j h. omega (arith, l .fits j h, on-behind m n (y .row) b k (columns * j + 4), d .1 (columns * j + 4) (omega (arith, l .rows-long)));
+                };
+            same-rows = λ i h. omega (arith, w i h, on-behind m n (y .row) b k i, d .1 i (omega (arith, x .rows-long)));
+          }
+
+  -- none is open behind the last line
+  module _ (last : lines ≤ n) where
+    none-left : {b : Body} → (u : Turn s from lines z m rows₀ n a t rows b) → u .opened ≡ []
+    none-left u = go (u .opened) (u .ends)
       where
-        c : Child s n site b
-        c = child-of b h more
+        go : (k : List Left) → n + linesLeft k ≡ lines → k ≡ []
+        go [] e = refl
+        go (y ∷ k) e = absurd (omega (arith, size-some (y .body)))
 
-        go : ((b ≡ call site (c .g) (c .r)) ⊎ (b ≡ spawn site (c .g) (c .r))) → (r ≡ n + itemSize b) × ((i : ℕ) → i < length rows → getD rows′ i 0 ≡ getD rows i 0 + onItem m n row b i)
-        go (inl e) =
-            let d = left (c .g) (c .stands) in
-            (omega (arith, d .0, ap itemSize e), λ i q. omega (arith, d .1 i q, ap (λ (x : Body). onItem m n row x i) e))
-        go (inr e) =
-            let d = left (c .g) (c .stands) in
-            (omega (arith, d .0, ap itemSize e), λ i q. omega (arith, d .1 i q, ap (λ (x : Body). onItem m n row x i) e))
+    pub turn-zero : ColumnAsks s from lines z m rows₀ → t ≡ z
+    turn-zero q =
+        let u = x .turns q in
+        subst (λ (k : List Left). Held z k a t) (none-left u) (u .lent .held)
+
+    pub turn-done : ColumnLeaves s from lines z m rows₀ rows
+    turn-done q i h =
+        let u = x .turns q in
+        omega (arith, u .same-rows i h, ap (λ (k : List Left). onLeft m n k i) (none-left u))

@@ -31,7 +31,7 @@ use Rattle.walk.proofs.Zeros.{zeros-at}
 use Rattle.walk.proofs.Accepted.{fine, limits, rooms, rows-room, cleared, body, stands, ready, work-is, span-is, count-fits, cells, none-on, rest}
 use Rattle.marks.specs.Shown.{Wiped}
 use Rattle.marks.specs.Reader.{BodyAsks, BodyLeft, BodyLeaves}
-use Rattle.marks.specs.Column.{onGain, OnLent, OnBodyLeaves}
+use Rattle.marks.specs.Column.{onGain, ColumnAsks, ColumnLeaves}
 use Rattle.marks.specs.Root.{lent, Admitted}
 use Rattle.marks.proofs.Shown.{outside}
 use Rattle.marks.proofs.Bodies.{shows-begun}
@@ -117,86 +117,92 @@ module _ {s : List ℕ} {D M : ℕ} {x : Lent} {count lines : ℕ} (a : Admitted
       within : Within count D 1 b
       within = subst (λ (k : ℕ). Within k D 1 b) heads (p .within)
 
-      pub on-asks : OnLent s count 0 (D - 1) m₂ rows₂
-      on-asks =
-          record {
-            sites = count;
-            body = b;
-            stands = here;
-            D = D;
-            d = 1;
-            within = within;
-            depth = omega (arith, bounds .0);
-            row-in = omega arith;
-            rows-long = omega (arith, lr₂, rows-in);
-            lines = omega (arith, text-in, lm);
-            ends = omega (arith, lines-are, a .lines-is, good .lines-most);
-            fits = λ j l.
-                omega (
-                  arith,
-                  none-on marks s D M x t (a .is) count (a .count-is) c rows₁ lr (left .done) rows₂ counts j l,
-                  on-le m₂ (columns * j + 4) b count 0,
-                  work-small D t p M good,
-                );
-          }
-
-      -- the second reading
-      module _ (n : ℕ) (t₃ rows₃ : List ℕ) (zero : t₃ ≡ replicate (length (x .scratch)) 0) (lr₃ : length rows₃ ≡ length (x .rows)) (on : OnBodyLeaves s count 0 m₂ rows₂ n rows₃) where
-        abbrev answer : Answer
-        answer = Accepted (c .work) (c .prefix) count lines
-
-        grown : (i : ℕ) → i < length (x .rows) → getD rows₃ i 0 ≡ getD rows₂ i 0 + onGain m₂ count 0 b i
-        grown i l = on b here .1 i (omega (arith, lr₂))
-
-        shown : (i : ℕ) → count ≤ i → i < count + size b → getD m₂ i 0 ≡ cond (has i (linesIn (chainOf count 0 b))) 1 0
-        shown i l r = left .zone .marks-are i l (omega (arith, at-is))
-
-        on-is : (k : ℕ) → onGain m₂ count 0 b (columns * k + 4) ≡ onRow k (chainOf count 0 b)
-        on-is k =
-            subst (λ (h : ℕ). ((i : ℕ) → h ≤ i → i < h + size b → getD m₂ i 0 ≡ cond (has i (linesIn (chainOf h 0 b))) 1 0) → onGain m₂ h 0 b (columns * k + 4) ≡ onRow k (chainOf h 0 b)) heads (on-row D t p m₂ k) shown
-
-        cells-are : (k j : ℕ) → k ≤ count → j < columns → getD rows₃ (columns * k + j) 0 ≡ cell count b k j
-        cells-are k j h l = go (decLt j 4)
-          where
-            go : Dec (j < 4) → getD rows₃ (columns * k + j) 0 ≡ cell count b k j
-            go (yes q) = omega (arith, grown (columns * k + j) (omega (arith, rows-in)), on-cross m₂ j k q b count 0, cells marks s D M x t (a .is) count (a .count-is) c rows₁ lr (left .done) rows₂ counts k j h q)
-            go (no q) =
-                let e : j ≡ 4 = omega arith in
-                rw e (omega (arith, grown (columns * k + 4) (omega (arith, rows-in)), none-on marks s D M x t (a .is) count (a .count-is) c rows₁ lr (left .done) rows₂ counts k h, on-is k))
-
-        rest-is : (i : ℕ) → columns * (count + 1) ≤ i → getD rows₃ i 0 ≡ getD (x .rows) i 0
-        rest-is i h = go (decLt i (length (x .rows)))
-          where
-            go : Dec (i < length (x .rows)) → getD rows₃ i 0 ≡ getD (x .rows) i 0
-            go (yes q) = omega (arith, grown i q, on-out m₂ count D 1 i b count 0 within (omega arith) h, rest marks s D M x t (a .is) count (a .count-is) c rows₁ lr (left .done) rows₂ counts i h q)
-            go (no q) = List·getD-eq-default rows₃ 0 {n = i} (omega arith) ∙ sym (List·getD-eq-default (x .rows) 0 {n = i} (omega arith))
-
-        marks-are : (k : ℕ) → k < count + size b → getD m₂ k 0 ≡ cond (has k (linesIn (chainOf count 0 b))) 1 0
-        marks-are k l = go (decLt k count)
-          where
-            go : Dec (k < count) → getD m₂ k 0 ≡ cond (has k (linesIn (chainOf count 0 b))) 1 0
-            go (yes q) =
-                left .kept k (λ v w. omega arith)
-                ∙ sites-off .gone k (omega arith) q
-                ∙ ap (λ (y : Bool). cond y 1 0) (sym (outside k count (c .at) (chainOf count 0 b) (left .zone .inside) (λ v w. omega arith)))
-            go (no q) = shown k (omega arith) l
-
-        by-tree : ProfileBy marks count b x answer (lent t₃ m₂ rows₃)
-        by-tree =
+      -- the second reading, on the scratch t₂, which the first left zero
+      module _ (t₂ : List ℕ) (zero : t₂ ≡ replicate (length (x .scratch)) 0) where
+        pub on-asks : ColumnAsks s count lines t₂ m₂ rows₂
+        on-asks =
             record {
-              answer = ap (λ (y : ℕ). Accepted y (c .prefix) count lines) (work-is marks s D M x t (a .is) count (a .count-is) c rows₁ lr (left .done)) ∙ ap (λ (y : ℕ). Accepted (workOf b) y count lines) (span-is marks s D M x t (a .is) count (a .count-is) c rows₁ lr (left .done)) ∙ ap (Accepted (workOf b) (spanOf b) count) lines-are;
-              rows = record { same-length = lr₃; cells = cells-are; rest = rest-is };
-              scratch = zero;
-              marked = record { same-length = lm; marks-are = marks-are; rest = λ k l. left .kept k (λ v w. omega (arith, at-is)) ∙ sites-off .rest k (λ v w. omega arith) };
+              body = b;
+              ends = omega (arith, lines-are);
+              lent =
+                  record {
+                    sites = count;
+                    D = D;
+                    stand = (here, tt);
+                    within = (omega arith, omega (arith, bounds .0), within, tt);
+                    zero = λ j. ap (λ (y : List ℕ). getD y j 0) zero ∙ zeros-at (length (x .scratch)) j;
+                    room = omega (arith, long .0, ap length zero, length-replicate {A = ℕ} (length (x .scratch)) 0);
+                    held = (refl, refl, refl);
+                    rows-long = omega (arith, lr₂, rows-in);
+                    lines = omega (arith, text-in, lm);
+                    fits = λ j l.
+                        omega (
+                          arith,
+                          none-on marks s D M x t (a .is) count (a .count-is) c rows₁ lr (left .done) rows₂ counts j l,
+                          on-le m₂ (columns * j + 4) b count 0,
+                          work-small D t p M good,
+                        );
+                  };
             }
 
-        pub promised : Promise marks s D M x answer (lent t₃ m₂ rows₃)
-        promised =
-            let h = tree-profile D t p marks x answer (lent t₃ m₂ rows₃) (subst (λ (m : ℕ). ProfileBy marks m b x answer (lent t₃ m₂ rows₃)) (sym heads) by-tree) in
-            record {
-              when-accepted = λ u e. subst (λ (y : List Frame). Profile marks y x answer (lent t₃ m₂ rows₃)) (accepted-same t u (sym (a .is) ∙ e)) h;
-              when-refused = λ k n e. clash (let z = sym (a .is) ∙ e in cc);
-            }
+        -- what it left
+        module _ (t₃ rows₃ : List ℕ) (same : t₃ ≡ t₂) (lr₃ : length rows₃ ≡ length (x .rows)) (on : ColumnLeaves s count lines t₂ m₂ rows₂ rows₃) where
+          abbrev answer : Answer
+          answer = Accepted (c .work) (c .prefix) count lines
+
+          grown : (i : ℕ) → i < length (x .rows) → getD rows₃ i 0 ≡ getD rows₂ i 0 + onGain m₂ count 0 b i
+          unfolding on-asks
+          grown i l = on on-asks i (omega (arith, lr₂))
+
+          shown : (i : ℕ) → count ≤ i → i < count + size b → getD m₂ i 0 ≡ cond (has i (linesIn (chainOf count 0 b))) 1 0
+          shown i l r = left .zone .marks-are i l (omega (arith, at-is))
+
+          on-is : (k : ℕ) → onGain m₂ count 0 b (columns * k + 4) ≡ onRow k (chainOf count 0 b)
+          on-is k =
+              subst (λ (h : ℕ). ((i : ℕ) → h ≤ i → i < h + size b → getD m₂ i 0 ≡ cond (has i (linesIn (chainOf h 0 b))) 1 0) → onGain m₂ h 0 b (columns * k + 4) ≡ onRow k (chainOf h 0 b)) heads (on-row D t p m₂ k) shown
+
+          cells-are : (k j : ℕ) → k ≤ count → j < columns → getD rows₃ (columns * k + j) 0 ≡ cell count b k j
+          cells-are k j h l = go (decLt j 4)
+            where
+              go : Dec (j < 4) → getD rows₃ (columns * k + j) 0 ≡ cell count b k j
+              go (yes q) = omega (arith, grown (columns * k + j) (omega (arith, rows-in)), on-cross m₂ j k q b count 0, cells marks s D M x t (a .is) count (a .count-is) c rows₁ lr (left .done) rows₂ counts k j h q)
+              go (no q) =
+                  let e : j ≡ 4 = omega arith in
+                  rw e (omega (arith, grown (columns * k + 4) (omega (arith, rows-in)), none-on marks s D M x t (a .is) count (a .count-is) c rows₁ lr (left .done) rows₂ counts k h, on-is k))
+
+          rest-is : (i : ℕ) → columns * (count + 1) ≤ i → getD rows₃ i 0 ≡ getD (x .rows) i 0
+          rest-is i h = go (decLt i (length (x .rows)))
+            where
+              go : Dec (i < length (x .rows)) → getD rows₃ i 0 ≡ getD (x .rows) i 0
+              go (yes q) = omega (arith, grown i q, on-out m₂ count D 1 i b count 0 within (omega arith) h, rest marks s D M x t (a .is) count (a .count-is) c rows₁ lr (left .done) rows₂ counts i h q)
+              go (no q) = List·getD-eq-default rows₃ 0 {n = i} (omega arith) ∙ sym (List·getD-eq-default (x .rows) 0 {n = i} (omega arith))
+
+          marks-are : (k : ℕ) → k < count + size b → getD m₂ k 0 ≡ cond (has k (linesIn (chainOf count 0 b))) 1 0
+          marks-are k l = go (decLt k count)
+            where
+              go : Dec (k < count) → getD m₂ k 0 ≡ cond (has k (linesIn (chainOf count 0 b))) 1 0
+              go (yes q) =
+                  left .kept k (λ v w. omega arith)
+                  ∙ sites-off .gone k (omega arith) q
+                  ∙ ap (λ (y : Bool). cond y 1 0) (sym (outside k count (c .at) (chainOf count 0 b) (left .zone .inside) (λ v w. omega arith)))
+              go (no q) = shown k (omega arith) l
+
+          by-tree : ProfileBy marks count b x answer (lent t₃ m₂ rows₃)
+          by-tree =
+              record {
+                answer = ap (λ (y : ℕ). Accepted y (c .prefix) count lines) (work-is marks s D M x t (a .is) count (a .count-is) c rows₁ lr (left .done)) ∙ ap (λ (y : ℕ). Accepted (workOf b) y count lines) (span-is marks s D M x t (a .is) count (a .count-is) c rows₁ lr (left .done)) ∙ ap (Accepted (workOf b) (spanOf b) count) lines-are;
+                rows = record { same-length = lr₃; cells = cells-are; rest = rest-is };
+                scratch = same ∙ zero;
+                marked = record { same-length = lm; marks-are = marks-are; rest = λ k l. left .kept k (λ v w. omega (arith, at-is)) ∙ sites-off .rest k (λ v w. omega arith) };
+              }
+
+          pub promised : Promise marks s D M x answer (lent t₃ m₂ rows₃)
+          promised =
+              let h = tree-profile D t p marks x answer (lent t₃ m₂ rows₃) (subst (λ (m : ℕ). ProfileBy marks m b x answer (lent t₃ m₂ rows₃)) (sym heads) by-tree) in
+              record {
+                when-accepted = λ u e. subst (λ (y : List Frame). Profile marks y x answer (lent t₃ m₂ rows₃)) (accepted-same t u (sym (a .is) ∙ e)) h;
+                when-refused = λ k n e. clash (let z = sym (a .is) ∙ e in cc);
+              }
 
 -- what the answer of acceptance says
 module _ (s : List ℕ) (D M : ℕ) (x : Lent) where

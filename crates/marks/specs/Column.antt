@@ -2,15 +2,15 @@
 use Prim.Native.Nat.{ℕ, _+_, _*_, _^_, _≤_, _<_}
 use mathlib.Core.Path.{_≡_}
 use mathlib.Core.Bool.{cond}
-use mathlib.Core.List.{List}
+use mathlib.Core.List.{List, [], _∷_}
 use lib.Dec.{eqb}
-use lib.ListN.{length, getD}
-use Rattle.line.specs.At.{kindAt}
+use lib.ListN.{length, getD, set}
 use Rattle.trace.specs.Rows.{columns}
 use Rattle.trace.specs.Tree.{Body, done, spend, sync, call, spawn, linesOf, size, Within}
 use Rattle.walk.specs.Stands.{Stands}
-use Rattle.walk.specs.Gain.{one}
-use Rattle.walk.specs.Item.{More, itemSize}
+use Rattle.walk.specs.Gain.{one, Grown}
+use Rattle.marks.specs.declared.Present.{Present}
+use Rattle.marks.specs.Park.{Zero}
 
 -- what a cost of v counts whose mark is x
 abbrev pub marked : ℕ → ℕ → ℕ
@@ -24,39 +24,104 @@ onGain m n s (sync r) i = onGain m (n + 1) s r i
 onGain m n s (call j g r) i = onGain m (n + 1) j g i + onGain m (n + (1 + size g)) s r i
 onGain m n s (spawn j g r) i = onGain m (n + 1) j g i + onGain m (n + (1 + size g)) s r i
 
--- the same over its first item
-abbrev pub onItem : List ℕ → ℕ → ℕ → Body → ℕ → ℕ
-onItem m n s done i = 0
-onItem m n s (spend v r) i = one (columns * s + 4) (marked (getD m n 0) v) i
-onItem m n s (sync r) i = 0
-onItem m n s (call j g r) i = onGain m (n + 1) j g i
-onItem m n s (spawn j g r) i = onGain m (n + 1) j g i
-
--- The lines of the text from line n on are those of a body, and each line of the text has a mark. The body's sites are at most sites, at most deep
--- invocations open inside one another, and the on-span numbers fit.
-pub record OnLent (s : List ℕ) (n row deep : ℕ) (m rows : List ℕ) : Type 0 where
-  pub sites : ℕ
+-- an open invocation: its row, and what is left of its body
+pub record Left : Type 0 where
+  pub row : ℕ
   pub body : Body
-  pub stands : Stands s n (linesOf body)
+
+abbrev pub left : ℕ → Body → Left
+left s b = record { row = s; body = b }
+
+-- All open invocations are a list, the innermost first. What is left of each stands behind what is left of those inside it, from line n on.
+abbrev pub AllStand : List ℕ → ℕ → List Left → Type 0
+AllStand s n [] = Unit {0}
+AllStand s n (x ∷ k) = Stands s n (linesOf (x .body)) × AllStand s (n + size (x .body)) k
+
+-- how many lines are left
+abbrev pub linesLeft : List Left → ℕ
+linesLeft [] = 0
+linesLeft (x ∷ k) = size (x .body) + linesLeft k
+
+-- by how much row number i grows over them
+abbrev pub onLeft : List ℕ → ℕ → List Left → ℕ → ℕ
+onLeft m n [] i = 0
+onLeft m n (x ∷ k) i = onGain m n (x .row) (x .body) i + onLeft m (n + size (x .body)) k i
+
+-- their rows and sites are at most sites, and there are never more than D
+abbrev pub AllWithin : ℕ → ℕ → List Left → Type 0
+AllWithin sites D [] = Unit {0}
+AllWithin sites D (x ∷ k) = (x .row ≤ sites) × (length (x ∷ k) ≤ D) × Within sites D (length (x ∷ k)) (x .body) × AllWithin sites D k
+
+-- behind the next line, where b is left of the innermost, whose row is s
+abbrev pub behind : ℕ → Body → List Left → List Left
+behind s done k = k
+behind s (spend v r) k = left s r ∷ k
+behind s (sync r) k = left s r ∷ k
+behind s (call j g r) k = left j g ∷ (left s r ∷ k)
+behind s (spawn j g r) k = left j g ∷ (left s r ∷ k)
+
+-- by how much row number i grows over this line
+abbrev pub onLine : List ℕ → ℕ → ℕ → Body → ℕ → ℕ
+onLine m n s done i = 0
+onLine m n s (spend v r) i = one (columns * s + 4) (marked (getD m n 0) v) i
+onLine m n s (sync r) i = 0
+onLine m n s (call j g r) i = 0
+onLine m n s (spawn j g r) i = 0
+
+-- the scratch z with the rows of open invocations at its front, the outermost's first
+abbrev pub stacked : List ℕ → List Left → List ℕ
+stacked z [] = z
+stacked z (x ∷ k) = set (stacked z k) (length k) (x .row)
+
+-- a is the innermost and t has the rows of those around it; the scratch is as it was where none is open
+abbrev pub Held : List ℕ → List Left → Present → List ℕ → Type 0
+Held z [] a t = t ≡ z
+Held z (x ∷ k) a t = (a .row ≡ x .row) × (a .around ≡ length k) × (t ≡ stacked z k)
+
+abbrev pub root : Present
+root = record { row = 0; around = 0 }
+
+-- an invocation of a site was entered
+abbrev pub entered : ℕ → Present → Present
+entered site a = record { row = site; around = a .around + 1 }
+
+-- an invocation was left: the root is the last, and the row of one around it is taken from the scratch
+pub record Returned (t : List ℕ) (a r : Present) (t′ : List ℕ) : Type 0 where
+  pub last : a .around ≡ 0 → (r ≡ a) × (t′ ≡ t)
+  pub inner : (d : ℕ) → a .around ≡ d + 1 → (r ≡ record { row = getD t d 0; around = d }) × (t′ ≡ set t d 0)
+
+-- What is left of the open invocations k stands from line n on, and each line of the text has a mark. z is the scratch where none is open: it is zero, and
+-- has room for all rows. The on-span numbers fit.
+pub record OnLent (s : List ℕ) (n : ℕ) (k : List Left) (z : List ℕ) (a : Present) (t m rows : List ℕ) : Type 0 where
+  pub sites : ℕ
   pub D : ℕ
-  pub d : ℕ
-  pub within : Within sites D d body
-  pub depth : d + deep ≡ D
-  pub row-in : row ≤ sites
+  pub stand : AllStand s n k
+  pub within : AllWithin sites D k
+  pub zero : Zero z
+  pub room : D ≤ length z
+  pub held : Held z k a t
   pub rows-long : columns * (sites + 1) ≤ length rows
   pub lines : length s ≤ 23 * length m
-  pub ends : n + size body ≤ 65536
-  pub fits : (j : ℕ) → j ≤ sites → getD rows (columns * j + 4) 0 + onGain m n row body (columns * j + 4) < 2 ^ 64
+  pub fits : (j : ℕ) → j ≤ sites → getD rows (columns * j + 4) 0 + onLeft m n k (columns * j + 4) < 2 ^ 64
 
--- the item reader: there is an item, whose first line is of this kind
-pub record OnItemAsks (s : List ℕ) (kind n row deep : ℕ) (m rows : List ℕ) : Type 0 where
-  pub lent : OnLent s n row deep m rows
-  pub kind-is : kind ≡ kindAt s n
-  pub more : More (lent .body)
+-- a line: at least one invocation is open
+pub record LineAsks (s : List ℕ) (n : ℕ) (a : Present) (t m rows : List ℕ) : Type 0 where
+  pub row : ℕ
+  pub body : Body
+  pub around : List Left
+  pub z : List ℕ
+  pub lent : OnLent s n (left row body ∷ around) z a t m rows
 
--- the next line, and the rows, whatever body stands here
-abbrev pub OnItemLeaves : (s : List ℕ) (n row : ℕ) (m rows : List ℕ) (r : ℕ) (rows′ : List ℕ) → Type 0
-OnItemLeaves s n row m rows r rows′ = (b : Body) → More b → Stands s n (linesOf b) → (r ≡ n + itemSize b) × ((i : ℕ) → i < length rows → getD rows′ i 0 ≡ getD rows i 0 + onItem m n row b i)
+-- whatever invocations are open
+abbrev pub LineLeaves : (s : List ℕ) (n : ℕ) (a : Present) (t m rows : List ℕ) (r : Present) (t′ rows′ : List ℕ) → Type 0
+LineLeaves s n a t m rows r t′ rows′ = (q : LineAsks s n a t m rows) → Held (q .z) (behind (q .row) (q .body) (q .around)) r t′ × Grown rows (onLine m n (q .row) (q .body)) rows′
 
-abbrev pub OnBodyLeaves : (s : List ℕ) (n row : ℕ) (m rows : List ℕ) (r : ℕ) (rows′ : List ℕ) → Type 0
-OnBodyLeaves s n row m rows r rows′ = (b : Body) → Stands s n (linesOf b) → (r ≡ n + size b) × ((i : ℕ) → i < length rows → getD rows′ i 0 ≡ getD rows i 0 + onGain m n row b i)
+-- the lines from line n on and before line e are those of the root's body
+pub record ColumnAsks (s : List ℕ) (n e : ℕ) (t m rows : List ℕ) : Type 0 where
+  pub body : Body
+  pub ends : n + size body ≡ e
+  pub lent : OnLent s n (left 0 body ∷ []) t root t m rows
+
+-- whatever body that is
+abbrev pub ColumnLeaves : (s : List ℕ) (n e : ℕ) (t m rows rows′ : List ℕ) → Type 0
+ColumnLeaves s n e t m rows rows′ = (q : ColumnAsks s n e t m rows) → Grown rows (onGain m n 0 (q .body)) rows′

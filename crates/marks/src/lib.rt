@@ -2,7 +2,7 @@
 // marks of each zone show its chain, and where a zone loses, its marks are cleared. A second reading takes column 5 from the marks.
 ghost use mathlib.Core.Path.{_≡_};
 ghost use Prim.Native.Nat.{_+_, _*_, _^_, _≤_, _<_};
-ghost use lib.ListN.{length, getD, replicate};
+ghost use lib.ListN.{length, getD, set, replicate};
 ghost use Rattle.trace.specs.Rows.{columns};
 ghost use Rattle.trace.specs.Promise.{Engine, Promise};
 ghost use Rattle.walk.specs.Gain.{one, Grown};
@@ -10,7 +10,7 @@ ghost use Rattle.marks.specs.Shown.{allPrefix, Wiped};
 ghost use Rattle.marks.specs.Steps.{Fits, Spent, Joined, Called, Spawned};
 ghost use Rattle.marks.specs.Park.{park, parked, blank};
 ghost use Rattle.marks.specs.Reader.{ItemAsks, ItemLeaves, BodyAsks, BodyLeaves};
-ghost use Rattle.marks.specs.Column.{marked, OnLent, OnItemAsks, OnItemLeaves, OnBodyLeaves};
+ghost use Rattle.marks.specs.Column.{marked, entered, Returned, LineAsks, LineLeaves, ColumnAsks, ColumnLeaves};
 ghost use Rattle.marks.specs.Root.{lent, Admitted};
 
 // An open invocation: its numbers, its row, and the lines at which the zones of its longest child and of its continuation begin.
@@ -250,50 +250,78 @@ fn add_marked(rows: &mut [u64], row: usize, v: u64, mark: u8)
     }
 }
 
-// Reads the items of an invocation of a row once more, from its first line up to and with its return, and answers the line behind it: each marked cost
-// is added to column 5 of the row that it stands in.
-fn on_body(
-    trace: &[u8],
-    from: usize,
+// The row of the invocation that a line stands in, and how many are open around it: their rows are at the front of the scratch, the root's first.
+struct Present {
     row: usize,
-    deep: usize,
-    marks: &[u8],
-    rows: &mut [u64],
-) -> usize
-    requires { ⌜ OnLent (now trace) from row deep (now marks) (now rows) ⌝ }
-    ensures { λ r. ⌜ OnBodyLeaves (now (trace .entry)) from row (now (marks .entry)) (now (rows .entry)) r (now (rows .exit)) ⌝ }
-{
-    let mut at = from;
-    let mut kind = line::kind_at(trace, from);
-    while kind != 5 {
-        at = on_item(trace, kind, at, row, deep, marks, rows);
-        kind = line::kind_at(trace, at);
-    }
-    at + 1
+    around: usize,
 }
 
-// Reads one item once more, whose first line is of this kind, with the whole body of a call or a spawn.
-fn on_item(
+// A call or a spawn of a site: the present row is stored.
+fn enter(t: &mut [u64], a: Present, site: usize) -> Present
+    requires { ⌜ a .around < length (now t) ⌝ }
+    ensures { λ r. ⌜ r ≡ entered site a ⌝ }
+    ensures { λ _. ⌜ now (t .exit) ≡ set (now (t .entry)) (a .around) (a .row) ⌝ }
+{
+    let d = a.around;
+    t[d] = a.row as u64;
+    Present {
+        row: site,
+        around: d + 1,
+    }
+}
+
+// A return: the row around is loaded again, and its number is cleared. The root's return is the last line.
+fn leave(t: &mut [u64], a: Present) -> Present
+    requires { ⌜ a .around ≤ length (now t) ⌝ }
+    ensures { λ r. ⌜ Returned (now (t .entry)) a r (now (t .exit)) ⌝ }
+{
+    if a.around == 0 {
+        return a;
+    }
+    let d = a.around - 1;
+    let row = t[d] as usize;
+    t[d] = 0;
+    Present { row, around: d }
+}
+
+// Reads a line once more: a marked cost is added to column 5 of the present row.
+fn on_line(
     trace: &[u8],
-    kind: u8,
     at: usize,
-    row: usize,
-    deep: usize,
+    a: Present,
+    t: &mut [u64],
     marks: &[u8],
     rows: &mut [u64],
-) -> usize
-    requires { ⌜ OnItemAsks (now trace) kind at row deep (now marks) (now rows) ⌝ }
-    ensures { λ r. ⌜ OnItemLeaves (now (trace .entry)) at row (now (marks .entry)) (now (rows .entry)) r (now (rows .exit)) ⌝ }
+) -> Present
+    requires { ⌜ LineAsks (now trace) at a (now t) (now marks) (now rows) ⌝ }
+    ensures { λ r. ⌜ LineLeaves (now (trace .entry)) at a (now (t .entry)) (now (marks .entry)) (now (rows .entry)) r (now (t .exit)) (now (rows .exit)) ⌝ }
 {
+    let kind = line::kind_at(trace, at);
     if kind == 6 {
-        add_marked(rows, row, line::value_at(trace, at) as u64, marks[at]);
-        return at + 1;
+        add_marked(rows, a.row, line::value_at(trace, at) as u64, marks[at]);
+        return a;
+    }
+    if kind == 5 {
+        return leave(t, a);
     }
     if kind == 4 {
-        return at + 1;
+        return a;
     }
-    let site = line::site_at(trace, at) as usize;
-    on_body(trace, at + 1, site, deep - 1, marks, rows)
+    enter(t, a, line::site_at(trace, at) as usize)
+}
+
+// Reads the root's lines once more, from its first line up to the end: each marked cost is added to column 5 of the row that it stands in.
+fn column(trace: &[u8], from: usize, lines: usize, t: &mut [u64], marks: &[u8], rows: &mut [u64])
+    requires { ⌜ ColumnAsks (now trace) from lines (now t) (now marks) (now rows) ⌝ }
+    ensures { λ _. ⌜ ColumnLeaves (now (trace .entry)) from lines (now (t .entry)) (now (marks .entry)) (now (rows .entry)) (now (rows .exit)) ⌝ }
+    ensures { λ _. ⌜ now (t .exit) ≡ now (t .entry) ⌝ }
+{
+    let mut a = Present { row: 0, around: 0 };
+    let mut at = from;
+    while at < lines {
+        a = on_line(trace, at, a, t, marks, rows);
+        at += 1;
+    }
 }
 
 // An accepted trace of count sites and lines lines: the room is cleared, and the root is read twice, once for all and once for column 5.
@@ -315,7 +343,7 @@ fn accepted(
     wipe_lines(marks, 0, count);
     let f = body(text, count, 0, depth - 1, scratch, marks, rows);
     walk::count(rows, 0, f.work, f.prefix);
-    on_body(text, count, 0, depth - 1, marks, rows);
+    column(text, count, lines, scratch, marks, rows);
     trace::Answer::Accepted(f.work, f.prefix, count, lines)
 }
 

@@ -49,26 +49,24 @@ count-requires c κs =
     let lr = r .kept .1 .1 .1 .1 .1 .1 .0 ∙ c .before .before .before .before .before .before .before .before .before .before .before .before .before .before .before .before .before .zero2 .kept .0 in
     count-asks h (c .before .before .before .before .before .before .before .before .before .before .before .before .before .wipe-lines .last .0) (c .before .before .before .before .before .before .before .before .before .before .before .before .before .wipe-lines .ensures) (c .before .before .before .before .before .before .before .before .before .before .before .before .before .before .before .before .before .zero2 .last .0) (c .before .before .before .before .before .before .before .before .before .before .before .before .before .before .before .before .before .zero2 .ensures) (r .result) m rows lm lr (r .ensures .0)
 
-sub-on-body : tie.Need-sub-on-body
-sub-on-body c =
-    bounds (c .before .before .before .before .before .before .before .before .before .before .before .before .before .before .before .before .before .before .before .before .before .before .before .before .before .before .before .before .before .before .pre) .0
-
-on-body-requires : tie.Need-on-body-requires
-on-body-requires c κs =
-    let a = c .before .before .before .before .before .before .before .before .before .before .before .before .before .before .before .before .before .before .before .before .before .before .before .before .before .before .before .before .before .before .before .before in
+column-requires : tie.Need-column-requires
+column-requires c κs =
+    let a = c .before .before .before .before .before .before .before .before .before .before .before .before .before .before .before .before .before .before .before .before .before .before .before .before .before .before .before .before .before .before .before .before .before in
     let h = a .pre in
-    let r = c .before .before .before .before .before .before .before .before .before .before .before .before .body in
+    let r = c .before .before .before .before .before .before .before .before .before .before .before .before .before .body in
+    let w = c .before .before .before .before .before .before .before .before .before .before .before .before .before .before .before .before .before .before .before .wipe-lines in
+    let z = c .before .before .before .before .before .before .before .before .before .before .before .before .before .before .before .before .before .before .before .before .before .before .before .zero2 in
+    let n = c .before .before .before .before .before .count in
     let m = r .last .1 .1 .1 .1 .1 .0 in
     let rows = r .last .1 .1 .1 .1 .1 .1 .0 in
-    let lm = r .kept .1 .1 .1 .1 .1 .0 ∙ c .before .before .before .before .before .before .before .before .before .before .before .before .before .before .before .before .before .before .wipe-lines .kept .0 in
-    let lr = r .kept .1 .1 .1 .1 .1 .1 .0 ∙ c .before .before .before .before .before .before .before .before .before .before .before .before .before .before .before .before .before .before .before .before .before .before .zero2 .kept .0 in
-    on-asks h (c .before .before .before .before .before .before .before .before .before .before .before .before .before .before .before .before .before .before .wipe-lines .last .0) (c .before .before .before .before .before .before .before .before .before .before .before .before .before .before .before .before .before .before .wipe-lines .ensures) (c .before .before .before .before .before .before .before .before .before .before .before .before .before .before .before .before .before .before .before .before .before .before .zero2 .last .0) (c .before .before .before .before .before .before .before .before .before .before .before .before .before .before .before .before .before .before .before .before .before .before .zero2 .ensures) (r .result) m rows lm lr (r .ensures .0) (c .before .before .before .before .count .last .0) (c .before .before .before .before .count .kept .0 ∙ lr) (c .before .before .before .before .count .ensures)
+    let lm = r .kept .1 .1 .1 .1 .1 .0 ∙ w .kept .0 in
+    let lr = r .kept .1 .1 .1 .1 .1 .1 .0 ∙ z .kept .0 in
+    let zero = r .ensures .1 ∙ c .before .before .before .before .before .before .before .before .before .before .before .before .before .before .before .before .before .before .before .before .before .before .before .before .before .before .before .zero .ensures ∙ cleared-all (a .args .scratch .now) in
+    on-asks h (w .last .0) (w .ensures) (z .last .0) (z .ensures) (r .result) m rows lm lr (r .ensures .0) (n .last .0) (n .kept .0 ∙ lr) (n .ensures) (r .last .1 .1 .1 .1 .0) zero
 
 same-length : tie.Need-same-length
 same-length c =
-    let a = c .before .before .before .before .before .before .before .before .before .before .before .before .before .before .before .before .before .before .before .before .before .before .before .before .before .before .before .before .before .before .before .before .before .before .before in
-    let h = a .pre in
-    ap length (c .before .before .before .before .before .before .before .before .before .before .before .before .before .before .before .body .ensures .1) ∙ c .before .before .before .before .before .before .before .before .before .before .before .before .before .before .before .before .before .before .before .before .before .before .before .before .before .before .before .before .before .zero .kept .0
+    ap length (c .before .before .before .before .column .ensures .1 ∙ c .before .before .before .before .before .before .before .before .before .before .before .before .before .before .before .before .before .before .body .ensures .1) ∙ c .before .before .before .before .before .before .before .before .before .before .before .before .before .before .before .before .before .before .before .before .before .before .before .before .before .before .before .before .before .before .before .before .zero .kept .0
 
 same-length-2 : tie.Need-same-length-2
 same-length-2 c = search needs
@@ -78,16 +76,19 @@ same-length-3 c = search needs
 
 returns : tie.Need-returns
 returns c =
-    let a = c .before .before .before .before .before .before .before .before .before .before .before .before .before .before .before .before .before .before .before .before .before .before .before .before .before .before .before .before .before .before .before .before .before .before .before in
+    let a = c .before .before .before .before .before .before .before .before .before .before .before .before .before .before .before .before .before .before .before .before .before .before .before .before .before .before .before .before .before .before .before .before .before .before .before .before .before .before in
     let h = a .pre in
-    let r = c .before .before .before .before .before .before .before .before .before .before .before .before .before .before .before .body in
+    let r = c .before .before .before .before .before .before .before .before .before .before .before .before .before .before .before .before .before .before .body in
+    let w = c .before .before .before .before .before .before .before .before .before .before .before .before .before .before .before .before .before .before .before .before .before .before .before .before .wipe-lines in
+    let z = c .before .before .before .before .before .before .before .before .before .before .before .before .before .before .before .before .before .before .before .before .before .before .before .before .before .before .before .before .zero2 in
+    let n = c .before .before .before .before .before .before .before .before .before .before .count in
     let m = r .last .1 .1 .1 .1 .1 .0 in
     let rows = r .last .1 .1 .1 .1 .1 .1 .0 in
-    let lm = r .kept .1 .1 .1 .1 .1 .0 ∙ c .before .before .before .before .before .before .before .before .before .before .before .before .before .before .before .before .before .before .before .before .before .wipe-lines .kept .0 in
-    let lr = r .kept .1 .1 .1 .1 .1 .1 .0 ∙ c .before .before .before .before .before .before .before .before .before .before .before .before .before .before .before .before .before .before .before .before .before .before .before .before .before .zero2 .kept .0 in
-    let zero = c .before .before .before .before .before .before .before .before .before .before .before .before .before .before .before .body .ensures .1 ∙ c .before .before .before .before .before .before .before .before .before .before .before .before .before .before .before .before .before .before .before .before .before .before .before .before .before .before .before .before .before .zero .ensures ∙ cleared-all (a .args .scratch .now) in
-    let on = c .before .before .on-body in
-    promised h (c .before .before .before .before .before .before .before .before .before .before .before .before .before .before .before .before .before .before .before .before .before .wipe-lines .last .0) (c .before .before .before .before .before .before .before .before .before .before .before .before .before .before .before .before .before .before .before .before .before .wipe-lines .ensures) (c .before .before .before .before .before .before .before .before .before .before .before .before .before .before .before .before .before .before .before .before .before .before .before .before .before .zero2 .last .0) (c .before .before .before .before .before .before .before .before .before .before .before .before .before .before .before .before .before .before .before .before .before .before .before .before .before .zero2 .ensures) (r .result) m rows lm lr (r .ensures .0) (c .before .before .before .before .before .before .before .count .last .0) (c .before .before .before .before .before .before .before .count .kept .0 ∙ lr) (c .before .before .before .before .before .before .before .count .ensures) (on .result) (r .last .1 .1 .1 .1 .0) (on .last .1 .1 .1 .1 .1 .0) zero (on .kept .1 .1 .1 .1 .1 .0 ∙ c .before .before .before .before .before .before .before .count .kept .0 ∙ lr) (on .ensures)
+    let lm = r .kept .1 .1 .1 .1 .1 .0 ∙ w .kept .0 in
+    let lr = r .kept .1 .1 .1 .1 .1 .1 .0 ∙ z .kept .0 in
+    let zero = r .ensures .1 ∙ c .before .before .before .before .before .before .before .before .before .before .before .before .before .before .before .before .before .before .before .before .before .before .before .before .before .before .before .before .before .before .before .before .zero .ensures ∙ cleared-all (a .args .scratch .now) in
+    let on = c .before .before .before .before .column in
+    promised h (w .last .0) (w .ensures) (z .last .0) (z .ensures) (r .result) m rows lm lr (r .ensures .0) (n .last .0) (n .kept .0 ∙ lr) (n .ensures) (r .last .1 .1 .1 .1 .0) zero (on .last .1 .1 .1 .0) (on .last .1 .1 .1 .1 .1 .0) (on .ensures .1) (on .kept .1 .1 .1 .1 .1 .0 ∙ n .kept .0 ∙ lr) (on .ensures .0)
 
 pub accepted-spec : {M : Type 1} → statement M
 accepted-spec =
@@ -101,8 +102,7 @@ accepted-spec =
     sub-body
     body-requires
     count-requires
-    sub-on-body
-    on-body-requires
+    column-requires
     same-length
     same-length-2
     same-length-3
