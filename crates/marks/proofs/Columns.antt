@@ -47,14 +47,14 @@ grown-off rows j x v e i l = omega (arith, ap (λ (y : ℕ). one j y i) (marked-
 
 -- What one line does to the open invocations.
 
--- lines that stand, and what they add, by equal numbers of the first line
+-- by equal numbers of the first line
 stand-same : (s : List ℕ) (k : List Left) (n e : ℕ) → n ≡ e → AllStand s n k → AllStand s e k
 stand-same s k n e q h = subst (λ (j : ℕ). AllStand s j k) q h
 
 on-same : (m : List ℕ) (k : List Left) (i n e : ℕ) → n ≡ e → onLeft m n k i ≡ onLeft m e k i
 on-same m k i n e q = ap (λ (j : ℕ). onLeft m j k i) q
 
--- a child's lines, and those of its invocation behind it
+-- a child's lines, and behind them those of the invocation that it was made in
 stand-two : (s : List ℕ) (n row j : ℕ) (g r : Body) (k : List Left) → Stands s (n + 1) (linesOf g ++ linesOf r) → AllStand s (n + suc (size g + size r)) k → AllStand s (n + 1) (left j g ∷ (left row r ∷ k))
 stand-two s n row j g r k h w =
     let e : n + 1 + length (linesOf g) ≡ n + 1 + size g = omega (arith, size-is g) in (
@@ -62,6 +62,7 @@ stand-two s n row j g r k h w =
       (subst (λ (i : ℕ). Stands s i (linesOf r)) e (stands-right s (linesOf g) (linesOf r) (n + 1) h), stand-same s k (n + suc (size g + size r)) (n + 1 + size g + size r) (omega arith) w),
     )
 
+-- behind a line the rest stands
 stand-behind : (s : List ℕ) (n row : ℕ) (b : Body) (k : List Left) → AllStand s n (left row b ∷ k) → AllStand s (n + 1) (behind row b k)
 stand-behind s n row done k h = h .1
 stand-behind s n row (spend v r) k h = (h .0 .1, stand-same s k (n + suc (size r)) (n + 1 + size r) (omega arith) (h .1))
@@ -69,6 +70,7 @@ stand-behind s n row (sync r) k h = (h .0 .1, stand-same s k (n + suc (size r)) 
 stand-behind s n row (call j g r) k h = stand-two s n row j g r k (h .0 .1) (h .1)
 stand-behind s n row (spawn j g r) k h = stand-two s n row j g r k (h .0 .1) (h .1)
 
+-- it stays within the limits
 within-behind : (sites D row : ℕ) (b : Body) (k : List Left) → AllWithin sites D (left row b ∷ k) → AllWithin sites D (behind row b k)
 within-behind sites D row done k h = h .3
 within-behind sites D row (spend v r) k h = (h .0, h .1, h .2 .2, h .3)
@@ -76,6 +78,7 @@ within-behind sites D row (sync r) k h = h
 within-behind sites D row (call j g r) k h = (h .2 .1, h .2 .2, h .2 .3, (h .0, h .1, h .2 .4, h .3))
 within-behind sites D row (spawn j g r) k h = (h .2 .1, h .2 .2, h .2 .3, (h .0, h .1, h .2 .4, h .3))
 
+-- it is one line less
 lines-behind : (row : ℕ) (b : Body) (k : List Left) → linesLeft (left row b ∷ k) ≡ 1 + linesLeft (behind row b k)
 lines-behind row done k = omega arith
 lines-behind row (spend v r) k = omega arith
@@ -83,11 +86,13 @@ lines-behind row (sync r) k = omega arith
 lines-behind row (call j g r) k = omega arith
 lines-behind row (spawn j g r) k = omega arith
 
+-- what a child adds, and behind it the invocation that it was made in
 on-two : (m : List ℕ) (n row j : ℕ) (g r : Body) (k : List Left) (i : ℕ) → onGain m (n + 1) j g i + onGain m (n + (1 + size g)) row r i + onLeft m (n + suc (size g + size r)) k i ≡ onLeft m (n + 1) (left j g ∷ (left row r ∷ k)) i
 on-two m n row j g r k i =
     let e : n + (1 + size g) ≡ n + 1 + size g = omega arith in
     omega (arith, ap (λ (x : ℕ). onGain m x row r i) e, on-same m k i (n + suc (size g + size r)) (n + 1 + size g + size r) (omega arith))
 
+-- what is added in all is what the line adds and what the rest does
 on-behind : (m : List ℕ) (n row : ℕ) (b : Body) (k : List Left) (i : ℕ) → onLeft m n (left row b ∷ k) i ≡ onLine m n row b i + onLeft m (n + 1) (behind row b k) i
 on-behind m n row done k i = omega arith
 on-behind m n row (spend v r) k i = omega (arith, on-same m k i (n + suc (size r)) (n + 1 + size r) (omega arith))
@@ -96,15 +101,18 @@ on-behind m n row (call j g r) k i = omega (arith, on-two m n row j g r k i)
 on-behind m n row (spawn j g r) k i = omega (arith, on-two m n row j g r k i)
 
 -- The rows in the scratch.
+
+-- it is as long
 stacked-length : (z : List ℕ) (k : List Left) → length (stacked z k) ≡ length z
 stacked-length z [] = refl
 stacked-length z (x ∷ k) = length-set (stacked z k) (length k) (x .row) ∙ stacked-length z k
 
+-- and zero behind the rows
 stacked-zero : (z : List ℕ) → Zero z → (k : List Left) (j : ℕ) → length k ≤ j → getD (stacked z k) j 0 ≡ 0
 stacked-zero z o [] j l = o j
 stacked-zero z o (x ∷ k) j l = getD-set-other (stacked z k) (length k) j (x .row) 0 (λ e. omega arith) ∙ stacked-zero z o k j (omega arith)
 
--- an invocation was left
+-- an invocation was left: the row around it is the present one, and its number is zero again
 held-left : (z : List ℕ) → Zero z → (k : List Left) (a r : Present) (t t′ : List ℕ) → length k ≤ length z → a .around ≡ length k → t ≡ stacked z k → Returned t a r t′ → Held z k r t′
 held-left z o [] a r t t′ l e h x = x .last e .1 ∙ h
 held-left z o (y ∷ k) a r t t′ l e h x =
@@ -117,14 +125,15 @@ held-left z o (y ∷ k) a r t t′ l e h x =
       p .1 ∙ ap (λ (y : List ℕ). set y d 0) h ∙ set-set u d (y .row) 0 ∙ clear,
     )
 
--- the return of the root, and that of another
+-- the root's return
 pub returned-last : (t : List ℕ) (a : Present) → a .around ≡ 0 → Returned t a a t
 returned-last t a e = record { last = λ q. (refl, refl); inner = λ d q. absurd (omega arith) }
 
+-- another's
 pub returned-inner : (t : List ℕ) (a : Present) → (a .around ≡ 0 → ⊥) → Returned t a (record { row = getD t (a .around - 1) 0; around = a .around - 1 }) (set t (a .around - 1) 0)
 returned-inner t a e = record { last = λ q. absurd (e q); inner = λ d q. let z : a .around - 1 ≡ d = omega arith in rw z (refl, refl) }
 
--- an invocation was entered
+-- an invocation was entered: the row around it is in the scratch
 held-entered : (z : List ℕ) (k : List Left) (a r : Present) (t t′ : List ℕ) (row site : ℕ) (b g : Body) → Held z (left row b ∷ k) a t → r ≡ entered site a → t′ ≡ set t (a .around) (a .row) → Held z (left site g ∷ (left row b ∷ k)) r t′
 held-entered z k a r t t′ row site b g h e q = (
   ap (λ (y : Present). y .row) e,
@@ -133,32 +142,33 @@ held-entered z k a r t t′ row site b g h e q = (
 )
 
 -- A line.
+
+-- what it asks for
 module _ {s : List ℕ} {n : ℕ} {a : Present} {t m rows : List ℕ} (q : LineAsks s n a t m rows) where
   abbrev l : OnLent s n (left (q .row) (q .body) ∷ q .around) (q .z) a t m rows
   l = q .lent
 
+  -- it has a mark
   pub mark-in : n < length m
   mark-in = omega (arith, l .lines, lines-in s (q .body) n (l .stand .0), size-some (q .body))
 
-  scratch-length : length t ≡ length (q .z)
-  scratch-length = ap length (l .held .2) ∙ stacked-length (q .z) (q .around)
+  -- there is room for the rows around
+  rows-fit : length (q .around) ≤ length (q .z)
+  rows-fit = omega (arith, l .within .1, l .room)
 
-  -- how many invocations are around
-  around-in : (length (q .around) ≤ length (q .z)) × (a .around < length t)
-  around-in = (omega (arith, l .within .1, l .room), omega (arith, l .held .1, l .within .1, l .room, scratch-length))
+  -- and for one more
+  pub enter-asks : a .around < length t
+  enter-asks = omega (arith, l .held .1, l .within .1, l .room, ap length (l .held .2), stacked-length (q .z) (q .around))
 
   pub leave-asks : a .around ≤ length t
-  leave-asks = omega (arith, around-in .1)
-
-  pub enter-asks : a .around < length t
-  enter-asks = around-in .1
+  leave-asks = omega (arith, enter-asks)
 
 -- what a line leaves, by its kind
 module _ {s : List ℕ} {n : ℕ} {a : Present} {t m rows : List ℕ} (p : LineAsks s n a t m rows) (kind : ℕ) (kind-is : kind ≡ kindAt s n) where
   says : Says kindOf s n kind
   says = kind-says s n n kind refl kind-is
 
-  -- whose next item is b
+  -- where b is left of the innermost invocation
   abbrev Leaves : (z : List ℕ) (row : ℕ) (k : List Left) (r : Present) (t′ rows′ : List ℕ) → Body → Type 0
   Leaves z row k r t′ rows′ b = Held z (behind row b k) r t′ × Grown rows (onLine m n row b) rows′
 
@@ -166,16 +176,18 @@ module _ {s : List ℕ} {n : ℕ} {a : Present} {t m rows : List ℕ} (p : LineA
   grown-none : Grown rows (λ i. 0) rows
   grown-none i l = omega arith
 
+  -- a sync
   pub sync-leaves : kind ≡ 4 → LineLeaves s n a t m rows a t rows
   sync-leaves k4 q =
       let e = is-sync s n kind says (q .body) (q .lent .stand .0) k4 in
       subst (Leaves (q .z) (q .row) (q .around) a t rows) (sym (e .1)) (q .lent .held, grown-none)
 
+  -- a return
   pub return-leaves : kind ≡ 5 → (r : Present) (t′ : List ℕ) → Returned t a r t′ → LineLeaves s n a t m rows r t′ rows
   return-leaves k5 r t′ x q =
       let l = q .lent in
       let e = is-done s n kind says (q .body) (l .stand .0) k5 in
-      subst (Leaves (q .z) (q .row) (q .around) r t′ rows) (sym e) (held-left (q .z) (l .zero) (q .around) a r t t′ (around-in q .0) (l .held .1) (l .held .2) x, grown-none)
+      subst (Leaves (q .z) (q .row) (q .around) r t′ rows) (sym e) (held-left (q .z) (l .zero) (q .around) a r t t′ (rows-fit q) (l .held .1) (l .held .2) x, grown-none)
 
   -- a cost of v
   module _ (k6 : kind ≡ 6) (v : ℕ) (value : v ≡ valueAt s n) where
@@ -211,17 +223,21 @@ module _ {s : List ℕ} {n : ℕ} {a : Present} {t m rows : List ℕ} (p : LineA
         go (inl e) = subst (Leaves (q .z) (q .row) (q .around) r t′ rows) (sym e) both
         go (inr e) = subst (Leaves (q .z) (q .row) (q .around) r t′ rows) (sym e) both
 
--- The loop has come to line n: the open invocations, and what they come to, are as from the first line of the root's body b on.
+-- The loop.
+
+-- it has come to line n: the open invocations, and what they come to, are as from the first line of the root's body b on
 pub record Turn (s : List ℕ) (from lines : ℕ) (z m rows₀ : List ℕ) (n : ℕ) (a : Present) (t rows : List ℕ) (b : Body) : Type 0 where
   pub opened : List Left
   pub ends : n + linesLeft opened ≡ lines
   pub lent : OnLent s n opened z a t m rows
   pub same-rows : (i : ℕ) → i < length rows₀ → getD rows i 0 + onLeft m n opened i ≡ getD rows₀ i 0 + onGain m from 0 b i
 
+-- the same of whatever body that is
 pub record Loop (s : List ℕ) (from lines : ℕ) (z m rows₀ : List ℕ) (n : ℕ) (a : Present) (t rows : List ℕ) : Type 0 where
   pub rows-long : length rows ≡ length rows₀
   pub turns : (q : ColumnAsks s from lines z m rows₀) → Turn s from lines z m rows₀ n a t rows (q .body)
 
+-- at the first line the root is open
 pub turn-start : (s : List ℕ) (from lines : ℕ) (z m rows : List ℕ) → Loop s from lines z m rows from root z rows
 turn-start s from lines z m rows = record { rows-long = refl; turns = λ q. record { opened = left 0 (q .body) ∷ []; ends = omega (arith, q .ends); lent = q .lent; same-rows = λ i h. omega arith } }
 
@@ -234,9 +250,11 @@ module _ {s : List ℕ} {from lines : ℕ} {z m rows₀ : List ℕ} {n : ℕ} {a
       go [] e l = absurd (omega arith)
       go (y ∷ k) e l = record { row = y .row; body = y .body; around = k; z = z; lent = l }
 
+  -- so it can be read
   pub turn-asks : n < lines → ColumnAsks s from lines z m rows₀ → LineAsks s n a t m rows
   turn-asks less q = line-of less (x .turns q)
 
+  -- it was read
   pub turn-again : n < lines → (r : Present) (t′ rows′ : List ℕ) → length rows′ ≡ length rows → LineLeaves s n a t m rows r t′ rows′ → Loop s from lines z m rows₀ (n + 1) r t′ rows′
   turn-again less r t′ rows′ len leaves = record { rows-long = len ∙ x .rows-long; turns = λ q. let u = x .turns q in go q (u .opened) (u .ends) (u .lent) (u .same-rows) }
     where
@@ -273,11 +291,13 @@ module _ {s : List ℕ} {from lines : ℕ} {z m rows₀ : List ℕ} {n : ℕ} {a
         go [] e = refl
         go (y ∷ k) e = absurd (omega (arith, size-some (y .body)))
 
+    -- so the scratch is as it was
     pub turn-zero : ColumnAsks s from lines z m rows₀ → t ≡ z
     turn-zero q =
         let u = x .turns q in
         subst (λ (k : List Left). Held z k a t) (none-left u) (u .lent .held)
 
+    -- and nothing is left to add
     pub turn-done : ColumnLeaves s from lines z m rows₀ rows
     turn-done q i h =
         let u = x .turns q in
