@@ -149,7 +149,7 @@ module _ {s : List ℕ} {n : ℕ} {a : Present} {t m rows : List ℕ} (q : LineA
   l = q .lent
 
   -- it has a mark
-  pub mark-in : n < length m
+  mark-in : n < length m
   mark-in = omega (arith, l .lines, lines-in s (q .body) n (l .stand .0), size-some (q .body))
 
   -- there is room for the rows around
@@ -190,17 +190,20 @@ module _ {s : List ℕ} {n : ℕ} {a : Present} {t m rows : List ℕ} (p : LineA
       subst (Leaves (q .z) (q .row) (q .around) r t′ rows) (sym e) (held-left (q .z) (l .zero) (q .around) a r t t′ (rows-fit q) (l .held .1) (l .held .2) x, grown-none)
 
   -- a cost of v
-  module _ (k6 : kind ≡ 6) (v : ℕ) (value : v ≡ valueAt s n) where
-    spend-is : (b : Body) → Stands s n (linesOf b) → (r : Body) × (b ≡ spend v r)
-    spend-is = cost-is s n kind says v (value-says s n n v refl value) k6
+  module _ (k6 : kind ≡ 6) where
+    abbrev v : ℕ
+    v = valueAt s n
 
-    pub add-asks : (columns * a .row + 4 < length rows) × (getD rows (columns * a .row + 4) 0 + marked (getD m n 0) v < 2 ^ 64)
+    spend-is : (b : Body) → Stands s n (linesOf b) → (r : Body) × (b ≡ spend v r)
+    spend-is = cost-is s n kind says v (value-says s n n v refl refl) k6
+
+    pub add-asks : (n < length m) × (columns * a .row + 4 < length rows) × (getD rows (columns * a .row + 4) 0 + marked (getD m n 0) v < 2 ^ 64)
     add-asks =
         let l = p .lent in
         let e = spend-is (p .body) (l .stand .0) in
         let f = l .fits (p .row) (l .within .0) in
         rw (l .held .0)
-        (omega (arith, l .within .0, l .rows-long), omega (arith, f, ap (λ (x : Body). onGain m n (p .row) x (columns * p .row + 4)) (e .1), one-same (columns * p .row + 4) (marked (getD m n 0) v)))
+        (mark-in p, omega (arith, l .within .0, l .rows-long), omega (arith, f, ap (λ (x : Body). onGain m n (p .row) x (columns * p .row + 4)) (e .1), one-same (columns * p .row + 4) (marked (getD m n 0) v)))
 
     pub cost-leaves : (rows′ : List ℕ) → Grown rows (one (columns * a .row + 4) (marked (getD m n 0) v)) rows′ → LineLeaves s n a t m rows a t rows′
     cost-leaves rows′ grown q =

@@ -3,6 +3,7 @@
 ghost use mathlib.Core.Path.{_≡_};
 ghost use Prim.Native.Nat.{_+_, _*_, _^_, _≤_, _<_};
 ghost use lib.ListN.{length, getD, set, replicate};
+ghost use Rattle.line.specs.At.{valueAt};
 ghost use Rattle.trace.specs.Rows.{columns};
 ghost use Rattle.trace.specs.Promise.{Engine, Promise};
 ghost use Rattle.walk.specs.Gain.{one, Grown};
@@ -240,13 +241,17 @@ fn item(
     spawned(marks, back, c)
 }
 
-// Column 5 of a row: a cost of v whose line has this mark.
-fn add_marked(rows: &mut [u64], row: usize, v: u64, mark: u8)
-    requires { ⌜ (columns * row + 4 < length (now rows)) × (getD (now rows) (columns * row + 4) 0 + marked mark v < 2 ^ 64) ⌝ }
-    ensures { λ _. ⌜ Grown (now (rows .entry)) (one (columns * row + 4) (marked mark v)) (now (rows .exit)) ⌝ }
+// Column 5 of a row: the cost of a line, where the line is marked.
+fn add_marked(trace: &[u8], at: usize, row: usize, marks: &[u8], rows: &mut [u64])
+    requires { ⌜ (at < length (now marks)) × (columns * row + 4 < length (now rows)) × (getD (now rows) (columns * row + 4) 0 + marked (getD (now marks) at 0) (valueAt (now trace) at) < 2 ^ 64) ⌝ }
+    ensures { λ _. ⌜ Grown (now (rows .entry)) (one (columns * row + 4) (marked (getD (now (marks .entry)) at 0) (valueAt (now (trace .entry)) at))) (now (rows .exit)) ⌝ }
 {
-    if mark == 1 {
-        walk::add(rows, trace::COLUMNS * row + 4, v);
+    if marks[at] == 1 {
+        walk::add(
+            rows,
+            trace::COLUMNS * row + 4,
+            line::value_at(trace, at) as u64,
+        );
     }
 }
 
@@ -298,7 +303,7 @@ fn on_line(
 {
     let kind = line::kind_at(trace, at);
     if kind == 6 {
-        add_marked(rows, a.row, line::value_at(trace, at) as u64, marks[at]);
+        add_marked(trace, at, a.row, marks, rows);
         return a;
     }
     if kind == 5 {

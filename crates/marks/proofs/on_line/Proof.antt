@@ -1,4 +1,4 @@
-use Rattle.marks.proofs.Columns.{mark-in, leave-asks, enter-asks, sync-leaves, return-leaves, add-asks, cost-leaves, child-leaves}
+use Rattle.marks.proofs.Columns.{leave-asks, enter-asks, sync-leaves, return-leaves, add-asks, cost-leaves, child-leaves}
 use borrow.Author.Needs.{needs}
 use Rattle.marks.proofs.on_line.Statement.{statement}
 use Rattle.marks.proofs.on_line.Tie as tie
@@ -6,25 +6,16 @@ use Rattle.marks.proofs.on_line.Tie as tie
 kind-at-requires : tie.Need-kind-at-requires
 kind-at-requires c κs = search needs
 
-value-at-requires : tie.Need-value-at-requires
-value-at-requires c κs = search needs
-
-cast-add-marked : tie.Need-cast-add-marked
-cast-add-marked c = search needs
-
-shared-slice-read-add-marked : tie.Need-shared-slice-read-add-marked
-shared-slice-read-add-marked c = mark-in (c .before .before .before .before .before .before .before .before .before .pre)
-
 add-marked-requires : tie.Need-add-marked-requires
-add-marked-requires c κs =
-    add-asks (c .before .before .before .before .before .before .before .before .before .pre) (c .before .before .before .before .kind-at .result) (c .before .before .before .before .kind-at .ensures) (c .before .before .before .if1 .taken) (c .before .value-at .result) (c .before .value-at .ensures)
+add-marked-requires c κs = add-asks (c .before .before .before .before .before .before .before .pre) (c .before .before .kind-at .result) (c .before .before .kind-at .ensures) (c .before .if1 .taken)
 
 same-length : tie.Need-same-length
 same-length c = search needs
 
 returns : tie.Need-returns
 returns c =
-    cost-leaves (c .before .before .before .before .before .before .before .before .before .before .before .before .pre) (c .before .before .before .before .before .before .before .kind-at .result) (c .before .before .before .before .before .before .before .kind-at .ensures) (c .before .before .before .before .before .before .if1 .taken) (c .before .before .before .before .value-at .result) (c .before .before .before .before .value-at .ensures) (c .before .before .add-marked .last .0) (c .before .before .add-marked .ensures)
+    let r = c .before .before .add-marked in
+    cost-leaves (c .before .before .before .before .before .before .before .before .before .before .pre) (c .before .before .before .before .before .kind-at .result) (c .before .before .before .before .before .kind-at .ensures) (c .before .before .before .before .if1 .taken) (r .last .1 .1 .1 .1 .0) (r .ensures)
 
 leave-requires : tie.Need-leave-requires
 leave-requires c κs = leave-asks (c .before .before .before .before .before .before .before .before .pre)
@@ -62,9 +53,6 @@ on-line-spec =
     tie.close
     (tie.spec
     kind-at-requires
-    value-at-requires
-    cast-add-marked
-    shared-slice-read-add-marked
     add-marked-requires
     same-length
     returns
