@@ -29,6 +29,7 @@ pub record Left : Type 0 where
   pub row : ℕ
   pub body : Body
 
+-- the same by its row and its body
 abbrev pub left : ℕ → Body → Left
 left s b = record { row = s; body = b }
 
@@ -78,6 +79,7 @@ abbrev pub Held : List ℕ → List Left → Present → List ℕ → Type 0
 Held z [] a t = t ≡ z
 Held z (x ∷ k) a t = (a .row ≡ x .row) × (a .around ≡ length k) × (t ≡ stacked z k)
 
+-- where none is around
 abbrev pub root : Present
 root = record { row = 0; around = 0 }
 
@@ -85,7 +87,7 @@ root = record { row = 0; around = 0 }
 abbrev pub entered : ℕ → Present → Present
 entered site a = record { row = site; around = a .around + 1 }
 
--- an invocation was left: the root is the last, and the row of one around it is taken from the scratch
+-- an invocation was left: the root is the last; of another, the row around it is taken from the scratch and its number is cleared
 pub record Returned (t : List ℕ) (a r : Present) (t′ : List ℕ) : Type 0 where
   pub last : a .around ≡ 0 → (r ≡ a) × (t′ ≡ t)
   pub inner : (d : ℕ) → a .around ≡ d + 1 → (r ≡ record { row = getD t d 0; around = d }) × (t′ ≡ set t d 0)
