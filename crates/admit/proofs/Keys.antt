@@ -2,10 +2,10 @@
 use mathlib.Core.Path.{_≡_, refl, sym, _∙_, ap}
 use mathlib.Core.Bool.{Bool, true, false, _&&_, _||_, or-true, or-false}
 use mathlib.Core.List.{List, [], _∷_, _++_, append-nil}
-use Prim.Native.Nat.{ℕ, suc, _+_, _≤_, _<_}
+use Prim.Native.Nat.{ℕ, zero, suc, _+_, _≤_, _<_}
 use native.Mathlib.Numerals.{add-one}
 use native.Mathlib.Omega.{arith}
-use lib.ListN.{length, take, drop, getD, length-set, drop-of-length-le}
+use lib.ListN.{length, take, drop, set, getD, length-map, length-set, drop-of-length-le}
 use lib.Seq.{drop-cons, take-suc-set}
 use lib.Dec.{eqb, ltb}
 use borrow.Author.Tests.{ltb-true, eqb-true, eqb-false, eq-eqb, ne-eqb}
@@ -21,9 +21,9 @@ use Rattle.line.specs.Seeing.{seenOf}
 use Rattle.line.proofs.RoundTrip.{read-write}
 use Rattle.trace.specs.Shape.{ifSite, has, sites}
 use Rattle.trace.specs.Refusals.{samePlace, placed, placeAgain}
-use Rattle.trace.proofs.Basics.{both}
+use Rattle.trace.proofs.Basics.{both, neither}
 use Rattle.trace.proofs.Sites.{sites-append}
-use Rattle.admit.specs.Step.{key, seen, kept}
+use Rattle.admit.specs.Step.{key, tag, tagsOf, seen, kept}
 
 -- a line that is seen at a glance declares no place
 pub none-seen : (ks : List ℕ) (n : ℕ) (f : Frame) → seenOf f ≡ Seen f → (seen ks n f ≡ false) × (kept ks n f ≡ ks)
@@ -53,6 +53,44 @@ module _ (x : ℕ) (ks : List ℕ) (i : ℕ) (f f′ : Bool) (l : i < length ks)
 
 pub found-all : (x : ℕ) (ks : List ℕ) (i : ℕ) (f : Bool) → length ks ≤ i → (f || has x (drop i ks)) ≡ f
 found-all x ks i f h = ap (λ (l : List ℕ). f || has x l) (drop-of-length-le ks h) ∙ or-false f
+
+-- ── the lookup by tags ──
+
+-- a key among the keys has its tag among theirs: where the tag is not there, neither is the key
+has-tag : (k : ℕ) (ks : List ℕ) → has (tag k) (tagsOf ks) ≡ false → has k ks ≡ false
+has-tag k [] e = refl
+has-tag k (x ∷ ks) e =
+    let n = neither (eqb (tag k) (tag x)) (has (tag k) (tagsOf ks)) e in
+    rw (ne-eqb k x (λ q. eqb-false (tag k) (tag x) (n .0) (ap tag q)), has-tag k ks (n .1))
+
+-- taking the first, and storing one, go through the tags
+take-tags : (n : ℕ) (ks : List ℕ) → take n (tagsOf ks) ≡ tagsOf (take n ks)
+take-tags zero ks = refl
+take-tags (suc n) [] = refl
+take-tags (suc n) (x ∷ ks) = ap (λ (l : List ℕ). tag x ∷ l) (take-tags n ks)
+
+set-tags : (ks : List ℕ) (n k : ℕ) → set (tagsOf ks) n (tag k) ≡ tagsOf (set ks n k)
+set-tags [] n k = refl
+set-tags (x ∷ ks) zero k = refl
+set-tags (x ∷ ks) (suc n) k = ap (λ (l : List ℕ). tag x ∷ l) (set-tags ks n k)
+
+-- ts are the tags of the keys ks
+module _ (ks ts : List ℕ) (are : ts ≡ tagsOf ks) where
+  -- as many as keys
+  pub tags-length : length ts ≡ length ks
+  tags-length = ap length are ∙ length-map ks tag
+
+  -- the first tags are those of the first keys
+  pub tags-first : (n : ℕ) → take n ts ≡ tagsOf (take n ks)
+  tags-first n = ap (take n) are ∙ take-tags n ks
+
+  -- with a key kept and its tag, they are still
+  pub tags-kept : (n k t : ℕ) → t ≡ tag k → set ts n t ≡ tagsOf (set ks n k)
+  tags-kept n k t e = rw (are, e) (set-tags ks n k)
+
+  -- a tag that is not among them is that of no key
+  pub tag-missing : (k t : ℕ) → t ≡ tag k → has t ts ≡ false → has k ks ≡ false
+  tag-missing k t e h = has-tag k ks (rw (← e, ← are) h)
 
 -- ── keys and places ──
 

@@ -24,7 +24,7 @@ use Rattle.admit.specs.declared.Verdict.the-variants.{Refused as Denied}
 use Rattle.admit.specs.declared.Tally.{Tally}
 use Rattle.admit.specs.declared.Tallied.{Tallied}
 use Rattle.admit.specs.Answer.{answerOf}
-use Rattle.admit.specs.Step.{tallyOf, refuse, next, judgedBy, keptBy, stepped, seen, kept, Limits, Within}
+use Rattle.admit.specs.Step.{tallyOf, tagsOf, refuse, next, judgedBy, keptBy, stepped, seen, kept, Limits, Within}
 use Rattle.admit.proofs.Keys.{NarrowSites, narrow-snoc, read-narrow, keysOf, seen-is, kept-is, kept-length}
 use Rattle.admit.proofs.Tallies.{Numbered, numbered-start, numbered-snoc, within-snoc, none-open, judgement, step-is}
 
@@ -144,13 +144,14 @@ module _ {D M : ℕ} {s ks : List ℕ} (limits : Limits D M s) where
 
   -- the same by the tally
   module _ {t : Tally} (r : Reached D M s ks t) where
-    pub reached-within : t .lines < lineCount s → Within D ks t
-    reached-within l =
+    pub reached-within : (ts : List ℕ) → ts ≡ tagsOf ks → t .lines < lineCount s → Within D ks ts t
+    reached-within ts e l =
         let a : t .lines ≡ length (r .before) = ap (λ (u : Tally). u .lines) (r .tally) in
         let b : t .sites ≡ sites (r .before) = ap (λ (u : Tally). u .sites) (r .tally) in
         record {
           small = (omega (arith, limits .lines-most), (omega (arith, sites-le (r .before)), limits .most));
           room = omega (arith, r .known .within, limits .sites-most, r .known .room);
+          tagged = e;
         }
 
     pub reached-end : lineCount s ≤ t .lines → answerOf (scan D M [] (reads s)) ≡ cond (eqb (t .depth) 0) (Accepted (t .sites) (t .lines)) (Denied 14 (t .lines))

@@ -1,7 +1,8 @@
--- For proofs, not for the reader of document 01: what the flat check does at each line, by the tally and the keys of the places so far.
-use Prim.Native.Nat.{ℕ, _+_, _*_, _-_, _≤_, _<_}
+-- For proofs, not for the reader of document 01: what the flat check does at each line, by the tally, and the keys of the places so far with their tags.
+use mathlib.Core.Path.{_≡_}
+use Prim.Native.Nat.{ℕ, _+_, _*_, _-_, _/_, _%_, _≤_, _<_}
 use mathlib.Core.Bool.{Bool, false, cond}
-use mathlib.Core.List.{List}
+use mathlib.Core.List.{List, map}
 use lib.ListN.{length, take, set}
 use lib.Dec.{eqb, ltb, leb}
 use Rattle.line.specs.declared.Place.{Place}
@@ -21,6 +22,14 @@ tallyOf before = record { lines = length before; sites = sites before; depth = l
 -- a place as one number
 abbrev pub key : Place → ℕ
 key p = p .file * 281474976710656 + p .line * 65536 + p .column
+
+-- a key's tag: the low 16 bits of the place's line
+abbrev pub tag : ℕ → ℕ
+tag k = k / 65536 % 65536
+
+-- the tags of the keys, in their order
+abbrev pub tagsOf : List ℕ → List ℕ
+tagsOf ks = map tag ks
 
 -- whether a site line's place is among the first n keys, and the keys with it behind these
 abbrev pub seen : List ℕ → ℕ → Frame → Bool
@@ -86,10 +95,11 @@ keptBy ks t (Line k f) = kept ks (t .sites) f
 abbrev pub Small : ℕ → Tally → Type 0
 Small D t = (t .lines < 65536) × ((t .sites ≤ t .lines) × (D ≤ 64))
 
--- and there is room for one key more
-pub record Within (D : ℕ) (ks : List ℕ) (t : Tally) : Type 0 where
+-- there is room for one key more, and the tags are those of the keys
+pub record Within (D : ℕ) (ks ts : List ℕ) (t : Tally) : Type 0 where
   pub small : Small D t
   pub room : t .sites < length ks
+  pub tagged : ts ≡ tagsOf ks
 
 -- what checks 1 to 3 leave
 pub record Limits (D M : ℕ) (s : List ℕ) : Type 0 where

@@ -13,7 +13,7 @@ ghost use Rattle.trace.specs.Shape.{has};
 ghost use Rattle.trace.specs.Refusals.{scan, reads};
 ghost use Rattle.trace.specs.Promise.{Engine, rowsRoom};
 ghost use Rattle.admit.specs.Answer.{answerOf, admission, opening};
-ghost use Rattle.admit.specs.Step.{key, seen, kept, refuse, onward, declaring, entering, stepped, judgedBy, keptBy, Small, Within, Limits};
+ghost use Rattle.admit.specs.Step.{key, tag, tagsOf, seen, kept, refuse, onward, declaring, entering, stepped, judgedBy, keptBy, Small, Within, Limits};
 
 // What acceptance answers: the numbers of sites and of lines, or a refusal's number and line.
 pub enum Verdict {
@@ -56,16 +56,50 @@ fn known(keys: &[u64], key: u64) -> bool
     found
 }
 
-// Whether a line declares a place again. The key of a site line's place is kept behind the `count` keys before it.
-fn again(keys: &mut [u64], count: usize, frame: Frame) -> bool
-    requires { ⌜ count < length (now keys) ⌝ }
-    ensures { λ r. ⌜ (r ≡ seen (now (keys .entry)) count frame) × (now (keys .exit) ≡ kept (now (keys .entry)) count frame) ⌝ }
+// A key's tag: the low 16 bits of the place's line.
+fn tag(key: u64) -> u16
+    ensures { λ r. ⌜ r ≡ tag key ⌝ }
+{
+    ((key / 65536) % 65536) as u16
+}
+
+// Whether a tag is among the tags. The loop has no early end either: it compares four times as many at once.
+fn known_tag(tags: &[u16], tag: u16) -> bool
+    ensures { λ r. ⌜ r ≡ has tag (now (tags .entry)) ⌝ }
+{
+    let mut found = false;
+    let mut i = 0;
+    while i < tags.len() {
+        if tags[i] == tag {
+            found = true;
+        }
+        i += 1;
+    }
+    found
+}
+
+// Whether a key is among the keys, of which these are the tags. It is looked for only where its tag is among the tags.
+fn known_by_tag(keys: &[u64], tags: &[u16], key: u64) -> bool
+    requires { ⌜ now tags ≡ tagsOf (now keys) ⌝ }
+    ensures { λ r. ⌜ r ≡ has key (now (keys .entry)) ⌝ }
+{
+    if known_tag(tags, tag(key)) {
+        return known(keys, key);
+    }
+    false
+}
+
+// Whether a line declares a place again. The key of a site line's place, and its tag, are kept behind the `count` before it.
+fn again(keys: &mut [u64], tags: &mut [u16], count: usize, frame: Frame) -> bool
+    requires { ⌜ (count < length (now keys)) × (now tags ≡ tagsOf (now keys)) ⌝ }
+    ensures { λ r. ⌜ (r ≡ seen (now (keys .entry)) count frame) × ((now (keys .exit) ≡ kept (now (keys .entry)) count frame) × (now (tags .exit) ≡ tagsOf (kept (now (keys .entry)) count frame))) ⌝ }
 {
     match frame {
         Frame::Site(_, place) => {
             let k = key(place);
-            let found = known(&keys[..count], k);
+            let found = known_by_tag(&keys[..count], &tags[..count], k);
             keys[count] = k;
+            tags[count] = tag(k);
             found
         }
         _ => false,
@@ -172,14 +206,21 @@ fn updated(t: Tally, frame: Frame, again: bool, depth: usize, sites: usize) -> T
     Tallied { refusal, tally }
 }
 
-// A line of the trace, read whole and judged with the lines before it: their tally, and the keys of their places.
-fn judge_whole(trace: &[u8], keys: &mut [u64], t: Tally, depth: usize, sites: usize) -> Tallied
-    requires { ⌜ Within depth (now keys) t ⌝ }
-    ensures { λ r. ⌜ (r ≡ judgedBy depth sites (now (keys .entry)) t (readAt (now (trace .entry)) (t .lines))) × (now (keys .exit) ≡ keptBy (now (keys .entry)) t (readAt (now (trace .entry)) (t .lines))) ⌝ }
+// A line of the trace, read whole and judged with the lines before it: their tally, and the keys and tags of their places.
+fn judge_whole(
+    trace: &[u8],
+    keys: &mut [u64],
+    tags: &mut [u16],
+    t: Tally,
+    depth: usize,
+    sites: usize,
+) -> Tallied
+    requires { ⌜ Within depth (now keys) (now tags) t ⌝ }
+    ensures { λ r. ⌜ (r ≡ judgedBy depth sites (now (keys .entry)) t (readAt (now (trace .entry)) (t .lines))) × ((now (keys .exit) ≡ keptBy (now (keys .entry)) t (readAt (now (trace .entry)) (t .lines))) × (now (tags .exit) ≡ tagsOf (keptBy (now (keys .entry)) t (readAt (now (trace .entry)) (t .lines))))) ⌝ }
 {
     match line::read_at(trace, t.lines) {
         Read::Line(_, frame) => {
-            let found = again(keys, t.sites, frame);
+            let found = again(keys, tags, t.sites, frame);
             updated(t, frame, found, depth, sites)
         }
         Read::Refused(number, _) => refuse(t, number),
@@ -187,13 +228,20 @@ fn judge_whole(trace: &[u8], keys: &mut [u64], t: Tally, depth: usize, sites: us
 }
 
 // The same, where a glance at the line is enough without reading it whole.
-fn judge(trace: &[u8], keys: &mut [u64], t: Tally, depth: usize, sites: usize) -> Tallied
-    requires { ⌜ Within depth (now keys) t ⌝ }
-    ensures { λ r. ⌜ (r ≡ judgedBy depth sites (now (keys .entry)) t (readAt (now (trace .entry)) (t .lines))) × (now (keys .exit) ≡ keptBy (now (keys .entry)) t (readAt (now (trace .entry)) (t .lines))) ⌝ }
+fn judge(
+    trace: &[u8],
+    keys: &mut [u64],
+    tags: &mut [u16],
+    t: Tally,
+    depth: usize,
+    sites: usize,
+) -> Tallied
+    requires { ⌜ Within depth (now keys) (now tags) t ⌝ }
+    ensures { λ r. ⌜ (r ≡ judgedBy depth sites (now (keys .entry)) t (readAt (now (trace .entry)) (t .lines))) × ((now (keys .exit) ≡ keptBy (now (keys .entry)) t (readAt (now (trace .entry)) (t .lines))) × (now (tags .exit) ≡ tagsOf (keptBy (now (keys .entry)) t (readAt (now (trace .entry)) (t .lines))))) ⌝ }
 {
     match line::glance(trace, t.lines) {
         Sight::Seen(frame) => updated(t, frame, false, depth, sites),
-        Sight::Other => judge_whole(trace, keys, t, depth, sites),
+        Sight::Other => judge_whole(trace, keys, tags, t, depth, sites),
     }
 }
 
@@ -204,13 +252,14 @@ fn lines(trace: &[u8], depth: usize, sites: usize) -> Verdict
 {
     let count = trace.len() / 23;
     let mut keys = [0u64; 256];
+    let mut tags = [0u16; 256];
     let mut tally = Tally {
         lines: 0,
         sites: 0,
         depth: 1,
     };
     while tally.lines < count {
-        let next = judge(trace, &mut keys, tally, depth, sites);
+        let next = judge(trace, &mut keys, &mut tags, tally, depth, sites);
         if next.refusal != 0 {
             return Verdict::Refused(next.refusal, tally.lines);
         }

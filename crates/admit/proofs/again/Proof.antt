@@ -1,5 +1,5 @@
--- `admit::again` meets its contract: a site line's key is looked for among those before it, and is kept behind them.
-use mathlib.Core.Path.{_≡_, refl, sym}
+-- `admit::again` meets its contract: a site line's key is looked for among those before it, and is kept behind them with its tag.
+use mathlib.Core.Path.{_≡_, refl, sym, ap, _∙_}
 use mathlib.Core.Logic.{inl, inr}
 use mathlib.Core.Bool.{false}
 use mathlib.Core.List.{List, [], _∷_}
@@ -12,7 +12,8 @@ use denote.Enum.Declared.{tagOf}
 use Rattle.line.proofs.Frame.{the-type}
 use Rattle.line.specs.declared.Frame.{Frame}
 use Rattle.line.specs.declared.Frame.the-variants.{Site, Call, Spawn, Sync, Return, Cost}
-use Rattle.admit.specs.Step.{seen, kept}
+use Rattle.admit.specs.Step.{seen, kept, tagsOf}
+use Rattle.admit.proofs.Keys.{tags-length, tags-first, tags-kept}
 use Rattle.admit.proofs.again.Statement.{statement}
 use Rattle.admit.proofs.again.Tie as tie
 
@@ -38,14 +39,20 @@ enum-known-frame c = search needs
 key-requires : tie.Need-key-requires
 key-requires c κs = search needs
 
-slice-reshare-prefix-known : tie.Need-slice-reshare-prefix-known
-slice-reshare-prefix-known c = search needs
+slice-reshare-prefix-known-by-tag : tie.Need-slice-reshare-prefix-known-by-tag
+slice-reshare-prefix-known-by-tag c = search needs
 
-slice-aggregate-known : tie.Need-slice-aggregate-known
-slice-aggregate-known c = sym (length-take-le _ (c .before .before .before .before .before .before .args .keys .now) (omega arith))
+slice-aggregate-known-by-tag : tie.Need-slice-aggregate-known-by-tag
+slice-aggregate-known-by-tag c = sym (length-take-le _ (c .before .before .before .before .before .before .before .args .keys .now) (omega arith))
 
-known-requires : tie.Need-known-requires
-known-requires c κs = search needs
+slice-reshare-prefix-known-by-tag-2 : tie.Need-slice-reshare-prefix-known-by-tag-2
+slice-reshare-prefix-known-by-tag-2 c = omega (arith, tags-length (c .before .before .before .before .before .before .before .args .keys .now) (c .before .before .before .before .before .before .before .args .tags .now) (c .before .before .before .before .before .before .before .pre .1))
+
+slice-aggregate-known-by-tag-2 : tie.Need-slice-aggregate-known-by-tag-2
+slice-aggregate-known-by-tag-2 c = sym (length-take-le _ (c .before .before .before .before .before .before .before .before .args .tags .now) (omega (arith, tags-length (c .before .before .before .before .before .before .before .before .args .keys .now) (c .before .before .before .before .before .before .before .before .args .tags .now) (c .before .before .before .before .before .before .before .before .pre .1))))
+
+known-by-tag-requires : tie.Need-known-by-tag-requires
+known-by-tag-requires c κs = tags-first (c .before .before .before .before .before .before .before .before .args .keys .now) (c .before .before .before .before .before .before .before .before .args .tags .now) (c .before .before .before .before .before .before .before .before .pre .1) (c .before .before .before .before .before .before .before .before .args .count)
 
 mul-keys : tie.Need-mul-keys
 mul-keys c = search needs
@@ -53,16 +60,33 @@ mul-keys c = search needs
 slice-write-keys : tie.Need-slice-write-keys
 slice-write-keys c = search needs
 
+tag-requires : tie.Need-tag-requires
+tag-requires c κs = search needs
+
+mul-tags : tie.Need-mul-tags
+mul-tags c = search needs
+
+slice-write-tags : tie.Need-slice-write-tags
+slice-write-tags c = omega (arith, tags-length (c .before .before .before .before .before .before .before .before .before .before .args .keys .now) (c .before .before .before .before .before .before .before .before .before .before .args .tags .now) (c .before .before .before .before .before .before .before .before .before .before .pre .1))
+
 same-length : tie.Need-same-length
 same-length c = search needs
 
+same-length-2 : tie.Need-same-length-2
+same-length-2 c = search needs
+
 returns : tie.Need-returns
 returns c =
-    let k = c .before .before .key .ensures in
-    rw (c .before .before .before .before .frame .given .1, ← k) (c .known .ensures, refl)
+    let a = c .before .before .before .before .before .before .before .before .before .before .args in
+    let k = c .before .before .before .before .key in
+    rw (c .before .before .before .before .before .before .frame .given .1, ← (k .ensures))
+    (c .before .known-by-tag .ensures, (refl, tags-kept (a .keys .now) (a .tags .now) (c .before .before .before .before .before .before .before .before .before .before .pre .1) (a .count) (k .result) (c .tag .result) (c .tag .ensures)))
 
 returns-2 : tie.Need-returns-2
-returns-2 c = other (c .before .before .args .keys .now) (c .before .before .args .count) (c .before .before .args .frame) (c .match .keys2)
+returns-2 c =
+    let a = c .before .before .before .args in
+    let o = other (a .keys .now) (a .count) (a .frame) (c .match .keys2) in
+    (o .0, (o .1, c .before .before .before .pre .1 ∙ ap tagsOf (o .1)))
 
 pub again-spec : {M : Type 1} → statement M
 again-spec =
@@ -70,11 +94,17 @@ again-spec =
     (tie.spec
     enum-known-frame
     key-requires
-    slice-reshare-prefix-known
-    slice-aggregate-known
-    known-requires
+    slice-reshare-prefix-known-by-tag
+    slice-aggregate-known-by-tag
+    slice-reshare-prefix-known-by-tag-2
+    slice-aggregate-known-by-tag-2
+    known-by-tag-requires
     mul-keys
     slice-write-keys
+    tag-requires
+    mul-tags
+    slice-write-tags
     same-length
+    same-length-2
     returns
     returns-2)

@@ -29,18 +29,22 @@ refuse-requires c κs = search needs
 same-length : tie.Need-same-length
 same-length c = search needs
 
+same-length-2 : tie.Need-same-length-2
+same-length-2 c = search needs
+
 returns : tie.Need-returns
 returns c =
-    let a = c .before .before .before .before .before .before .before .before .before .before .before .args in
-    let g = c .before .before .before .before .before .before .frame .given in
-    let e : readAt (a .trace .now) (a .t .lines) ≡ Line (g .0 .0) (g .0 .1 .0) = sym (c .before .before .before .before .before .before .before .before .read-at .ensures) ∙ g .1 in
-    rw e (c .updated .ensures ∙ ap (λ (b : Bool). stepped (a .depth) (a .sites) b (a .t) (g .0 .1 .0)) (c .before .before .before .again .ensures .0), c .before .before .before .again .ensures .1)
+    let a = c .before .before .before .before .before .before .before .before .before .before .before .before .before .before .before .args in
+    let g = c .before .before .before .before .before .before .before .before .before .frame .given in
+    let o = c .before .before .before .before .before .again .ensures in
+    let e : readAt (a .trace .now) (a .t .lines) ≡ Line (g .0 .0) (g .0 .1 .0) = sym (c .before .before .before .before .before .before .before .before .before .before .before .read-at .ensures) ∙ g .1 in
+    rw e (c .updated .ensures ∙ ap (λ (b : Bool). stepped (a .depth) (a .sites) b (a .t) (g .0 .1 .0)) (o .0), o .1)
 
 returns-2 : tie.Need-returns-2
 returns-2 c =
-    let a = c .before .before .before .before .before .before .before .args in
+    let a = c .before .before .before .before .before .before .before .before .args in
     let e : readAt (a .trace .now) (a .t .lines) ≡ Refused _ _ = sym (c .before .before .before .before .read-at .ensures) ∙ c .before .before .number .given .1 in
-    rw e (c .refuse .ensures, refl)
+    rw e (c .refuse .ensures, (refl, c .before .before .before .before .before .before .before .before .pre .tagged))
 
 pub judge-whole-spec : {M : Type 1} → statement M
 judge-whole-spec =
@@ -53,5 +57,6 @@ judge-whole-spec =
     enum-known-number
     refuse-requires
     same-length
+    same-length-2
     returns
     returns-2)
