@@ -63,6 +63,7 @@ command -v rt >/dev/null || fail "rt, the command of the Rattle kit, is not on t
 
 program=target/bin/profile
 stamp=target/profile.stamp
+log=target/profile.log
 
 # all that the program is made of, and the program itself
 state() {
@@ -74,12 +75,19 @@ state() {
     } | sha256sum
 }
 
+# proves and builds the program and says which crate is done; all that rt says stands in the log
+build() {
+    mkdir -p target
+    { rt check profile 2>&1 </dev/null && echo built; } | while IFS= read -r said; do
+        case $said in 'rt: '*) printf 'profile: %s\n' "${said#rt: }" >&2 ;; esac
+        printf '%s\n' "$said"
+    done >"$log"
+    [ "$(tail -n 1 "$log")" = built ]
+}
+
 if ! [ -x "$program" ] || ! [ -f "$stamp" ] || [ "$(state)" != "$(cat "$stamp")" ]; then
-    echo 'profile: proving and building the program' >&2
-    if ! log=$(rt check profile 2>&1 </dev/null); then
-        printf '%s\n' "$log" >&2
-        fail 'the program cannot be built'
-    fi
+    echo 'profile: proving and building the program: some minutes, once' >&2
+    build || fail "the program cannot be built: $PWD/$log says why"
     state >"$stamp"
 fi
 
