@@ -150,3 +150,11 @@ fn code(result: Result<(), Refusal>) -> u64 {
 fn at_0(result: Result<(), Ground>) -> u64 {
     code(result.map_err(|ground| ground.at(0)))
 }
+
+/// The proved library, if it is linked.
+pub fn proved() -> Option<&'static dyn Library> {
+    #[cfg(nyolifuwe)]
+    return Some(&crate::sys::Proved);
+    #[cfg(not(nyolifuwe))]
+    None
+}

@@ -9,7 +9,7 @@ use second::bench::table::{csv, goals, head, Measured};
 use second::bench::timing::{medians, Run};
 use second::bench::traces::{Shape, DEPTH, SHAPES};
 use second::check::{Lent, Limits};
-use second::library::Library;
+use second::library::{proved, Library};
 use second::plain;
 use second::rows::Profile;
 use std::env::args;
@@ -46,14 +46,6 @@ fn main() -> Result<(), Box<dyn Error>> {
     fs::write(folder.join("bench.csv"), csv(&all))?;
     print!("{}", goals(&all));
     Ok(())
-}
-
-/// The proved library, if it is linked.
-fn proved() -> Option<&'static dyn Library> {
-    #[cfg(nyolifuwe)]
-    return Some(&second::sys::Proved);
-    #[cfg(not(nyolifuwe))]
-    None
 }
 
 /// A trace, what is lent to each engine for it, and what they are to give.

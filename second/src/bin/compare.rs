@@ -7,7 +7,7 @@
 
 use second::compare::case::Case;
 use second::compare::{compare, fixed, generate};
-use second::library::{Library, Second};
+use second::library::{proved, Library, Second};
 use std::env::args;
 use std::process::ExitCode;
 use std::time::{Duration, Instant};
@@ -36,14 +36,6 @@ fn main() -> ExitCode {
             ExitCode::from(2)
         }
     }
-}
-
-/// The proved library, if it is linked.
-fn proved() -> Option<&'static dyn Library> {
-    #[cfg(nyolifuwe)]
-    return Some(&second::sys::Proved);
-    #[cfg(not(nyolifuwe))]
-    None
 }
 
 /// What the command line asks for.
