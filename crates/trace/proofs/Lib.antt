@@ -22,6 +22,7 @@ pub mod OnChain
 pub mod AtMost
 pub mod Small
 pub mod Outcome
+pub mod Unseen
 pub mod Places
 pub mod Declared
 pub mod Interval

@@ -138,7 +138,7 @@ marked-unique marks n c before a d h k =
     ext-getD 0 a d (h .same-length ∙ sym (k .same-length))
     (λ i l. elim (below n i) [ inl g ↦ h .marks-are i g ∙ sym (k .marks-are i g) | inr w ↦ h .rest i (omega (arith, w .1)) ∙ sym (k .rest i (omega (arith, w .1))) ])
 
-by-tree-unique : (e : Engine) (m : ℕ) (b : Body) (before : Lent) (r q : Answer) (x y : Lent) → ProfileBy e m b before r x → ProfileBy e m b before q y → (r ≡ q) × (x ≡ y)
+pub by-tree-unique : (e : Engine) (m : ℕ) (b : Body) (before : Lent) (r q : Answer) (x y : Lent) → ProfileBy e m b before r x → ProfileBy e m b before q y → (r ≡ q) × (x ≡ y)
 by-tree-unique e m b before r q x y h k = (
   h .answer ∙ sym (k .answer),
   lent-same x y (h .scratch ∙ sym (k .scratch)) (rows-unique m b (before .rows) (x .rows) (y .rows) (h .rows) (k .rows))

@@ -1,8 +1,9 @@
--- Two accepted traces that differ only in places get the same answer and rows, from either engine; so with one trace the two engines agree,
--- and what the room held makes no difference.
+-- Two texts that differ only in places get the same outcome from an engine, unless one is refused with 10. Where both
+-- are accepted, either engine gives one answer and rows; so the engines agree, and what the room held makes no difference.
 use mathlib.Core.Path.{_≡_, refl, sym, _∙_, ap, subst}
+use mathlib.Core.Bool.{Bool}
 use mathlib.Core.List.{List, [], _∷_, _++_}
-use Prim.Native.Nat.{ℕ, suc, _+_, _*_, _/_, _%_, _≤_, _<_}
+use Prim.Native.Nat.{ℕ, _+_, _*_, _/_, _%_, _≤_, _<_}
 use native.Mathlib.Omega.{arith}
 use lib.ListN.{length, getD}
 use Rattle.line.specs.declared.Frame.{Frame}
@@ -11,38 +12,15 @@ use Rattle.trace.specs.declared.Answer.{Answer}
 use Rattle.trace.specs.Shape.{sites}
 use Rattle.trace.specs.Rows.{columns}
 use Rattle.trace.specs.Refusals.{Verdict, accepted, refused, verdict}
-use Rattle.trace.specs.Promise.{Engine, Lent, enough, Promise}
+use Rattle.trace.specs.Promise.{Engine, tables, marks, Lent, marksRoom, enough, refusal, Promise}
+use Rattle.trace.specs.Places.{OnlyPlaces, RefusedWith}
 use Rattle.trace.specs.Tree.{Body, done, spend, sync, call, spawn, linesOf, AllSites, Parts}
 use Rattle.trace.specs.ByTree.{ProfileBy}
 use Rattle.trace.proofs.Tree.{IsSite, parts-one}
 use Rattle.trace.proofs.Parse.{accepted-parts}
 use Rattle.trace.proofs.Invocations.{sites-are}
-use Rattle.trace.proofs.Outcome.{profile-tree}
-
--- a frame without its place
-abbrev pub blank : Frame → Frame
-blank (Site s p) = Site s (record { file = 0; line = 0; column = 0 })
-blank (Call s) = Call s
-blank (Spawn s) = Spawn s
-blank Sync = Sync
-blank Return = Return
-blank (Cost v) = Cost v
-
-abbrev pub blanks : List Frame → List Frame
-blanks [] = []
-blanks (e ∷ t) = blank e ∷ blanks t
-
--- "two traces that differ only in places"
-abbrev pub ButPlaces : List Frame → List Frame → Type 0
-ButPlaces t u = blanks t ≡ blanks u
-
-blanks-append : (u v : List Frame) → blanks (u ++ v) ≡ blanks u ++ blanks v
-blanks-append [] v = refl
-blanks-append (e ∷ u) v = ap (λ (l : List Frame). blank e ∷ l) (blanks-append u v)
-
-blanks-length : (u : List Frame) → length (blanks u) ≡ length u
-blanks-length [] = refl
-blanks-length (e ∷ u) = ap suc (blanks-length u)
+use Rattle.trace.proofs.Outcome.{profile-tree, by-tree-unique}
+use Rattle.trace.proofs.Unseen.{blank, blanks, ButPlaces, blanks-append, blanks-length, SameVerdict, verdict-same}
 
 blanks-lines : (b : Body) → blanks (linesOf b) ≡ linesOf b
 blanks-lines done = refl
@@ -89,9 +67,9 @@ agree-by D t p e f b c r q x y h k = record { answers = h .answer ∙ sym (k .an
         subst (λ (j : ℕ). getD (x .rows) j 0 ≡ getD (y .rows) j 0) z (h .rows .cells (i / columns) (i % columns) a d ∙ sym (k .rows .cells (i / columns) (i % columns) a d))
 
 module _ (s z : List ℕ) (D M E N : ℕ) (e f : Engine) (b c : Lent) (r q : Answer) (x y : Lent) (h : Promise e s D M b r x) (k : Promise f z E N c q y) where
-  -- LAW: "two traces that differ only in places, both accepted, get the same answer", and the same rows
-  pub places : (t u : List Frame) → verdict s D M (enough e s D M b) ≡ accepted t → verdict z E N (enough f z E N c) ≡ accepted u → ButPlaces t u → Agree t r q x y
-  places t u i j d =
+  -- LAW: "two traces that differ only in places, both accepted, get the same answer", and rows, from either engine
+  pub accepted-agree : (t u : List Frame) → verdict s D M (enough e s D M b) ≡ accepted t → verdict z E N (enough f z E N c) ≡ accepted u → ButPlaces t u → Agree t r q x y
+  accepted-agree t u i j d =
       let p = accepted-parts s D M (enough e s D M b) t i in
       let o = accepted-parts z E N (enough f z E N c) u j in
       let w = same-parts D E t u p o d in
@@ -102,7 +80,7 @@ module _ (s z : List ℕ) (D M E N : ℕ) (e f : Engine) (b c : Lent) (r q : Ans
 -- LAW: the two engines agree, with any room
 pub engines-agree : (s : List ℕ) (D M : ℕ) (e f : Engine) (b c : Lent) (r q : Answer) (x y : Lent) → Promise e s D M b r x → Promise f s D M c q y
     → (t : List Frame) → verdict s D M (enough e s D M b) ≡ accepted t → verdict s D M (enough f s D M c) ≡ accepted t → Agree t r q x y
-engines-agree s D M e f b c r q x y h k t i j = places s s D M D M e f b c r q x y h k t t i j refl
+engines-agree s D M e f b c r q x y h k t i j = accepted-agree s s D M D M e f b c r q x y h k t t i j refl
 
 -- LAW: "What the room held before makes no difference."
 pub room-held : (s : List ℕ) (D M : ℕ) (e : Engine) (b c : Lent) (r q : Answer) (x y : Lent) → Promise e s D M b r x → Promise e s D M c q y
@@ -118,3 +96,44 @@ room-held s D M e b c r q x y h k i j l = go (verdict s D M (enough e s D M b)) 
     go : (v : Verdict) → verdict s D M (enough e s D M b) ≡ v → r ≡ q
     go (accepted t) a = engines-agree s D M e e b c r q x y h k t a (also (accepted t) a) .answers
     go (refused n o) a = h .when-refused n o a .0 ∙ sym (k .when-refused n o (also (refused n o) a) .0)
+
+-- LAW: "Places decide refusals 6 and 10 and nothing else": two runs of an engine, on texts that differ only in places, with
+-- the same limits and room, neither refused with 10, give the same answer and leave the same scratch, rows and marks
+pub places : (e : Engine) (s z : List ℕ) (D M : ℕ) (before : Lent) (r q : Answer) (x y : Lent)
+    → Promise e s D M before r x → Promise e z D M before q y
+    → OnlyPlaces s z → ¬ RefusedWith 10 r → ¬ RefusedWith 10 q → (r ≡ q) × (x ≡ y)
+places e s z D M before r q x y h k d a b =
+    go (verdict s D M room) (verdict z D M room) refl refl
+    (verdict-same s z D M room d (λ n i. a (n, h .when-refused 10 n i .0))
+    (λ n i. b (n, k .when-refused 10 n (lent (refused 10 n) i) .0)))
+  where
+    room : Bool
+    room = enough e s D M before
+
+    marks-same : (e : Engine) → marksRoom e s ≡ marksRoom e z
+    marks-same tables = refl
+    marks-same marks = ap (λ (n : ℕ). n / 23) (d .same-length)
+
+    -- the other text asks for the same room
+    same-room : enough e z D M before ≡ room
+    same-room = rw (marks-same e)
+
+    lent : (v : Verdict) → verdict z D M room ≡ v → verdict z D M (enough e z D M before) ≡ v
+    lent v i = ap (verdict z D M) same-room ∙ i
+
+    go : (v w : Verdict) → verdict s D M room ≡ v → verdict z D M room ≡ w → SameVerdict v w → (r ≡ q) × (x ≡ y)
+    go (accepted t) (accepted u) i j c =
+        let p = accepted-parts s D M room t i in
+        let o = accepted-parts z D M room u j in
+        let w = same-parts D D t u p o c in
+        let f = profile-tree D t p e before r x (h .when-accepted t i) in
+        let g = profile-tree D u o e before q y (k .when-accepted u (lent (accepted u) j)) in
+        by-tree-unique e (length (p .heads)) (p .body) before r q x y f
+        (subst (λ (n : ℕ). ProfileBy e n (p .body) before q y) (sym (w .0))
+        (subst (λ (b : Body). ProfileBy e (length (o .heads)) b before q y) (sym (w .1)) g))
+    go (accepted t) (refused n l) i j c = absurd c
+    go (refused n l) (accepted u) i j c = absurd c
+    go (refused n l) (refused m o) i j c =
+        let f = h .when-refused n l i in
+        let g = k .when-refused m o (lent (refused m o) j) in
+        (f .0 ∙ ap (λ (a : ℕ). refusal a l) (c .0) ∙ ap (refusal m) (c .1) ∙ sym (g .0), f .1 ∙ sym (g .1))

@@ -3,6 +3,7 @@ pub mod Series
 pub mod Rows
 pub mod Refusals
 pub mod Promise
+pub mod Places
 pub mod Tree
 pub mod Fold
 pub mod ByTree

@@ -1,3 +1,4 @@
+-- `line::around` meets its contract: the eight characters behind the value are tested as one word.
 use mathlib.Core.Bool.{Bool, _&&_}
 use mathlib.Core.Path.{ap}
 use lib.Dec.{eqb}

@@ -1,3 +1,4 @@
+-- `line::bare` meets its contract: what is around, no site, and no value.
 use borrow.Author.Needs.{needs}
 use Rattle.line.proofs.bare.Statement.{statement}
 use Rattle.line.proofs.bare.Tie as tie

@@ -1,3 +1,4 @@
+-- `line::cost` meets its contract: what is around, no site, and a value of digits that are not all 0.
 use borrow.Author.Needs.{needs}
 use Rattle.line.proofs.cost.Statement.{statement}
 use Rattle.line.proofs.cost.Tie as tie

@@ -1,3 +1,4 @@
+-- `line::eight_plainly` meets its contract: the number in the word is that of the eight characters (`Packs`).
 use Prim.Native.Nat.{ℕ}
 use mathlib.Core.Path.{ap, _∙_}
 use Rattle.digits.specs.Word.{plainly, chars}

@@ -1,3 +1,4 @@
+-- `line::four_plainly` meets its contract: the number in the word is that of the four characters, below 2 ^ 16 (`Packs`).
 use Prim.Native.Nat.{ℕ, _<_}
 use mathlib.Core.Path.{ap, _∙_, sym, subst}
 use Rattle.digits.specs.Word.{plainly, chars}

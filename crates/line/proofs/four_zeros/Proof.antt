@@ -1,3 +1,4 @@
+-- `line::four_zeros` meets its contract: the word of four characters tells whether they are all 0 (`Packs`).
 use Prim.Native.Nat.{ℕ}
 use mathlib.Core.Path.{ap, _∙_}
 use lib.Dec.{eqb}

@@ -1,3 +1,4 @@
+-- `line::glance` meets its contract: the line's part is looked at, and past the last whole line nothing is seen.
 use mathlib.Core.Path.{_≡_, ap, _∙_, sym}
 use Prim.Native.Nat.{ℕ, _+_, _*_, _-_}
 use native.Mathlib.Omega.{arith}

@@ -1,3 +1,4 @@
+-- `line::kind_at` meets its contract: the kind of the line's part, and 0 past the last whole line (`At`).
 use mathlib.Core.Path.{_≡_, ap, _∙_, sym}
 use mathlib.Core.List.{List}
 use Prim.Native.Nat.{ℕ, _+_, _*_, _-_, _%_}

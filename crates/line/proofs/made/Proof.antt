@@ -1,3 +1,4 @@
+-- `line::made` meets its contract: what is around, a site of digits, and no value.
 use borrow.Author.Needs.{needs}
 use Rattle.line.proofs.made.Statement.{statement}
 use Rattle.line.proofs.made.Tie as tie

@@ -1,3 +1,4 @@
+-- `line::read_as` meets its contract: another length than 23 is refusal 2, and 23 characters are read whole.
 use mathlib.Core.Path.{sym}
 use Rattle.line.proofs.Lines.{read-long}
 use borrow.Author.Needs.{needs}

@@ -1,3 +1,4 @@
+-- `line::seen` meets its contract: a case for each answer.
 use borrow.Author.Needs.{needs}
 use Rattle.line.proofs.seen.Statement.{statement}
 use Rattle.line.proofs.seen.Tie as tie

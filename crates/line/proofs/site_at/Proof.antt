@@ -1,3 +1,4 @@
+-- `line::site_at` meets its contract: the site of the line's part, and 0 past the last whole line (`At`).
 use mathlib.Core.Path.{_≡_, ap, _∙_, sym}
 use mathlib.Core.List.{List}
 use Prim.Native.Nat.{ℕ, _+_, _*_, _-_}

@@ -1,3 +1,4 @@
+-- `walk::spend` meets its contract: one number of the rows is added to.
 use Rattle.walk.proofs.Rows.{grown-one}
 use Prim.Native.Nat.{_+_, _*_}
 use borrow.Author.Needs.{needs}

@@ -1,3 +1,4 @@
+-- `walk::zero` meets its contract. The invariant: the first `i` numbers are cleared. The measure is what is left.
 use borrow.Author.Needs.{needs}
 use borrow.Author.Fill.{fill-none, fill-more}
 use mathlib.Core.Path.{_≡_, refl, _∙_, ap}

@@ -1,0 +1,362 @@
+-- No rule but refusal 10 sees a place: texts that differ only in places have one verdict, unless one is refused with 10.
+use mathlib.Core.Path.{_≡_, refl, sym, _∙_, ap, subst}
+use mathlib.Core.Logic.{inl, inr}
+use mathlib.Core.Bool.{Bool, true, false, not, cond, _||_}
+use mathlib.Core.List.{List, [], _∷_, _++_}
+use Prim.Native.Nat.{ℕ, zero, suc, _+_, _/_, _%_, _≤_, _<_}
+use native.Mathlib.Omega.{arith}
+use lib.ListN.{length}
+use lib.Dec.{eqb, ltb}
+use Rattle.line.specs.declared.Frame.{Frame}
+use Rattle.line.specs.declared.Frame.the-variants.{Site, Call, Spawn, Sync, Return, Cost}
+use Rattle.line.specs.declared.Read.{Read}
+use Rattle.line.specs.declared.Read.the-variants.{Line, Refused}
+use Rattle.line.specs.Read.{readAt}
+use Rattle.trace.specs.Shape.{ifMakes, root, step, walk, openAt, has, firstIs, sites}
+use Rattle.trace.specs.Series.{value}
+use Rattle.trace.specs.Rows.{makes, made, ofRow, sumOf, costsWhere, total, sum, calls, work, local}
+use Rattle.trace.specs.Refusals.{outOfRange, broken, lineCount, tooMany, openNow, empty, afterRoot, allSites, lastSite, misplaced, aboveM, placeAgain, declared, undeclared, tooDeep, wide, wideRows, beyond, fault, Verdict, accepted, refused, judged, scan, readsFrom, reads, verdict}
+use Rattle.trace.specs.Places.{Alike, OnlyPlaces}
+use Rattle.trace.proofs.Basics.{no-way}
+use Rattle.trace.proofs.Sums.{sum-same}
+
+-- a frame without its place
+abbrev pub blank : Frame → Frame
+blank (Site s p) = Site s (record { file = 0; line = 0; column = 0 })
+blank (Call s) = Call s
+blank (Spawn s) = Spawn s
+blank Sync = Sync
+blank Return = Return
+blank (Cost v) = Cost v
+
+abbrev pub blanks : List Frame → List Frame
+blanks [] = []
+blanks (e ∷ t) = blank e ∷ blanks t
+
+-- the frames of two traces that differ only in places
+abbrev pub ButPlaces : List Frame → List Frame → Type 0
+ButPlaces t u = blanks t ≡ blanks u
+
+pub blanks-append : (u v : List Frame) → blanks (u ++ v) ≡ blanks u ++ blanks v
+blanks-append [] v = refl
+blanks-append (e ∷ u) v = ap (λ (l : List Frame). blank e ∷ l) (blanks-append u v)
+
+pub blanks-length : (u : List Frame) → length (blanks u) ≡ length u
+blanks-length [] = refl
+blanks-length (e ∷ u) = ap suc (blanks-length u)
+
+-- ── what a line says without its place ──
+
+step-blank : (n : ℕ) (f : Frame) (o : List ℕ) → step n (blank f) o ≡ step n f o
+step-blank n (Site s p) o = refl
+step-blank n (Call s) o = refl
+step-blank n (Spawn s) o = refl
+step-blank n Sync o = refl
+step-blank n Return o = refl
+step-blank n (Cost v) o = refl
+
+value-blank : (f : Frame) → value (blank f) ≡ value f
+value-blank (Site s p) = refl
+value-blank (Call s) = refl
+value-blank (Spawn s) = refl
+value-blank Sync = refl
+value-blank Return = refl
+value-blank (Cost v) = refl
+
+makes-blank : {A : Type 0} (a : ℕ → A) (b : A) (f : Frame) → ifMakes a b (blank f) ≡ ifMakes a b f
+makes-blank a b (Site s p) = refl
+makes-blank a b (Call s) = refl
+makes-blank a b (Spawn s) = refl
+makes-blank a b Sync = refl
+makes-blank a b Return = refl
+makes-blank a b (Cost v) = refl
+
+-- ── what all lines say without their places ──
+
+walk-blank : (n : ℕ) (o : List ℕ) (t : List Frame) (j : ℕ) → walk n o (blanks t) j ≡ walk n o t j
+walk-blank n o [] j = refl
+walk-blank n o (e ∷ t) zero = refl
+walk-blank n o (e ∷ t) (suc j) =
+    ap (λ (p : List ℕ). walk (suc n) p (blanks t) j) (step-blank n e o)
+    ∙ walk-blank (suc n) (step n e o) t j
+
+now-blank : (t : List Frame) → openNow (blanks t) ≡ openNow t
+now-blank t = ap (openAt (blanks t)) (blanks-length t) ∙ walk-blank 0 (root ∷ []) t (length t)
+
+sites-blank : (t : List Frame) → sites (blanks t) ≡ sites t
+sites-blank [] = refl
+sites-blank (Site s p ∷ t) = ap suc (sites-blank t)
+sites-blank (Call s ∷ t) = sites-blank t
+sites-blank (Spawn s ∷ t) = sites-blank t
+sites-blank (Sync ∷ t) = sites-blank t
+sites-blank (Return ∷ t) = sites-blank t
+sites-blank (Cost v ∷ t) = sites-blank t
+
+last-blank : (n : ℕ) (t : List Frame) → lastSite n (blanks t) ≡ lastSite n t
+last-blank n [] = refl
+last-blank n (Site s p ∷ t) = last-blank s t
+last-blank n (Call s ∷ t) = last-blank n t
+last-blank n (Spawn s ∷ t) = last-blank n t
+last-blank n (Sync ∷ t) = last-blank n t
+last-blank n (Return ∷ t) = last-blank n t
+last-blank n (Cost v ∷ t) = last-blank n t
+
+declared-blank : (s : ℕ) (t : List Frame) → declared s (blanks t) ≡ declared s t
+declared-blank s [] = refl
+declared-blank s (Site i p ∷ t) = ap (λ (b : Bool). eqb s i || b) (declared-blank s t)
+declared-blank s (Call i ∷ t) = declared-blank s t
+declared-blank s (Spawn i ∷ t) = declared-blank s t
+declared-blank s (Sync ∷ t) = declared-blank s t
+declared-blank s (Return ∷ t) = declared-blank s t
+declared-blank s (Cost v ∷ t) = declared-blank s t
+
+made-blank : (n : ℕ) (t : List Frame) (s : ℕ) → made n (blanks t) s ≡ made n t s
+made-blank n [] s = refl
+made-blank n (e ∷ t) s =
+    ap (λ (l : List ℕ). cond (makes s (blank e)) (suc n ∷ l) l) (made-blank (suc n) t s)
+    ∙ ap (λ (b : Bool). cond b (suc n ∷ made (suc n) t s) (made (suc n) t s)) (makes-blank (λ i. eqb i s) false e)
+
+row-blank : (t : List Frame) (s : ℕ) → ofRow (blanks t) s ≡ ofRow t s
+row-blank t zero = refl
+row-blank t (suc s) = made-blank 0 t (suc s)
+
+costs-blank : (p : ℕ → List ℕ → Bool) (n : ℕ) (o : List ℕ) (t : List Frame) → sumOf p n o (blanks t) ≡ sumOf p n o t
+costs-blank p n o [] = refl
+costs-blank p n o (e ∷ t) =
+    ap (λ (v : ℕ). cond (p n o) v 0 + sumOf p (suc n) (step n (blank e) o) (blanks t)) (value-blank e)
+    ∙ ap (λ (q : List ℕ). cond (p n o) (value e) 0 + sumOf p (suc n) q (blanks t)) (step-blank n e o)
+    ∙ ap (λ (v : ℕ). cond (p n o) (value e) 0 + v) (costs-blank p (suc n) (step n e o) t)
+
+sum-blank : (pick : ℕ → ℕ → List ℕ → Bool) (t : List Frame) (s : ℕ)
+    → sum (λ F. costsWhere (blanks t) (pick F)) (ofRow (blanks t) s) ≡ sum (λ F. costsWhere t (pick F)) (ofRow t s)
+sum-blank pick t s =
+    sum-same (λ F. costsWhere (blanks t) (pick F)) (λ F. costsWhere t (pick F))
+    (λ F. costs-blank (pick F) 0 (root ∷ []) t) (ofRow (blanks t) s)
+    ∙ ap (sum (λ F. costsWhere t (pick F))) (row-blank t s)
+
+-- some of the three numbers is beyond 64 bits
+abbrev wideOne : ℕ → ℕ → ℕ → Bool
+wideOne a b c = wide a || wide b || wide c
+
+wide-row : (t : List Frame) (s : ℕ)
+    → wideOne (calls (blanks t) s) (work (blanks t) s) (local (blanks t) s) ≡ wideOne (calls t s) (work t s) (local t s)
+wide-row t s =
+    ap (λ (n : ℕ). wideOne n (work (blanks t) s) (local (blanks t) s)) (ap length (row-blank t s))
+    ∙ ap (λ (n : ℕ). wideOne (calls t s) n (local (blanks t) s)) (sum-blank (λ F k o. has F o) t s)
+    ∙ ap (λ (n : ℕ). wideOne (calls t s) (work t s) n) (sum-blank (λ F k o. firstIs F o) t s)
+
+wide-rows : (t : List Frame) (s : ℕ) → wideRows (blanks t) s ≡ wideRows t s
+wide-rows t zero = wide-row t 0
+wide-rows t (suc s) =
+    ap (λ (b : Bool). b || wideRows (blanks t) s) (wide-row t (suc s))
+    ∙ ap (λ (b : Bool). wideOne (calls t (suc s)) (work t (suc s)) (local t (suc s)) || b) (wide-rows t s)
+
+-- refusal 13, of the lines up to the one it is asked of
+abbrev beyondIn : List Frame → Bool
+beyondIn t = wide (total t) || wideRows t (sites t)
+
+beyond-blank : (t : List Frame) → beyondIn (blanks t) ≡ beyondIn t
+beyond-blank t =
+    ap (λ (n : ℕ). wide n || wideRows (blanks t) (sites (blanks t))) (costs-blank (λ k o. true) 0 (root ∷ []) t)
+    ∙ ap (λ (n : ℕ). wide (total t) || wideRows (blanks t) n) (sites-blank t)
+    ∙ ap (λ (b : Bool). wide (total t) || b) (wide-rows t (sites t))
+
+misplaced-blank : (t : List Frame) (f : Frame) → misplaced (blanks t) (blank f) ≡ misplaced t f
+misplaced-blank t (Site s p) =
+    ap (λ (n : ℕ). not (eqb n (length (blanks t))) || not (eqb s (suc (lastSite 0 (blanks t))))) (sites-blank t)
+    ∙ ap (λ (n : ℕ). not (eqb (sites t) n) || not (eqb s (suc (lastSite 0 (blanks t))))) (blanks-length t)
+    ∙ ap (λ (n : ℕ). not (allSites t) || not (eqb s (suc n))) (last-blank 0 t)
+misplaced-blank t (Call s) = refl
+misplaced-blank t (Spawn s) = refl
+misplaced-blank t Sync = refl
+misplaced-blank t Return = refl
+misplaced-blank t (Cost v) = refl
+
+above-blank : (M : ℕ) (f : Frame) → aboveM M (blank f) ≡ aboveM M f
+above-blank M (Site s p) = refl
+above-blank M (Call s) = refl
+above-blank M (Spawn s) = refl
+above-blank M Sync = refl
+above-blank M Return = refl
+above-blank M (Cost v) = refl
+
+undeclared-blank : (t : List Frame) (f : Frame) → undeclared (blanks t) (blank f) ≡ undeclared t f
+undeclared-blank t (Site s p) = refl
+undeclared-blank t (Call s) = ap (λ (b : Bool). eqb s 0 || not b) (declared-blank s t)
+undeclared-blank t (Spawn s) = ap (λ (b : Bool). eqb s 0 || not b) (declared-blank s t)
+undeclared-blank t Sync = refl
+undeclared-blank t Return = refl
+undeclared-blank t (Cost v) = refl
+
+deep-blank : (D : ℕ) (t : List Frame) (f : Frame) → tooDeep D (blanks t) (blank f) ≡ tooDeep D t f
+deep-blank D t f =
+    ap (λ (o : List ℕ). ifMakes (λ s. ltb D (suc (length o))) false (blank f)) (now-blank t)
+    ∙ makes-blank (λ s. ltb D (suc (length (openNow t)))) false f
+
+-- ── the refusals of a line ──
+
+-- the smallest number from 7 to 13 that applies, by what applies
+abbrev least : Bool → Bool → Bool → Bool → Bool → Bool → Bool → ℕ
+least a b c d e f g = cond a 7 (cond b 8 (cond c 9 (cond d 10 (cond e 11 (cond f 12 (cond g 13 0))))))
+
+least-but-ten : (a b c d k e f g : Bool) → ¬ (least a b c d e f g ≡ 10) → ¬ (least a b c k e f g ≡ 10)
+    → least a b c d e f g ≡ least a b c k e f g
+least-but-ten true b c d k e f g h i = refl
+least-but-ten false true c d k e f g h i = refl
+least-but-ten false false true d k e f g h i = refl
+least-but-ten false false false true k e f g h i = absurd (h refl)
+least-but-ten false false false false true e f g h i = absurd (i refl)
+least-but-ten false false false false false e f g h i = refl
+
+module _ (D M : ℕ) (t u : List Frame) (f g : Frame) (d : ButPlaces t u) (e : blank f ≡ blank g) where
+  snoc-alike : ButPlaces (t ++ f ∷ []) (u ++ g ∷ [])
+  snoc-alike =
+      blanks-append t (f ∷ [])
+      ∙ ap (λ (l : List Frame). l ++ blank f ∷ []) d
+      ∙ ap (λ (h : Frame). blanks u ++ h ∷ []) e
+      ∙ sym (blanks-append u (g ∷ []))
+
+  -- what is the same of lines and a line without their places is the same of both
+  of-both : {A : Type 0} (s : List Frame → Frame → A)
+      → ((v : List Frame) (h : Frame) → s (blanks v) (blank h) ≡ s v h) → s t f ≡ s u g
+  of-both s k = sym (k t f) ∙ ap (λ (v : List Frame). s v (blank f)) d ∙ ap (s (blanks u)) e ∙ k u g
+
+  seven-alike : afterRoot t ≡ afterRoot u
+  seven-alike = of-both (λ v h. afterRoot v) (λ v h. ap empty (now-blank v))
+
+  eight-alike : misplaced t f ≡ misplaced u g
+  eight-alike = of-both misplaced misplaced-blank
+
+  nine-alike : aboveM M f ≡ aboveM M g
+  nine-alike = of-both (λ v h. aboveM M h) (λ v h. above-blank M h)
+
+  eleven-alike : undeclared t f ≡ undeclared u g
+  eleven-alike = of-both undeclared undeclared-blank
+
+  twelve-alike : tooDeep D t f ≡ tooDeep D u g
+  twelve-alike = of-both (tooDeep D) (deep-blank D)
+
+  thirteen-alike : beyond t f ≡ beyond u g
+  thirteen-alike = sym (beyond-blank (t ++ f ∷ [])) ∙ ap beyondIn snoc-alike ∙ beyond-blank (u ++ g ∷ [])
+
+  -- the smallest number of both lines, where 10 applies to both or to neither
+  least-alike : (k : Bool)
+      → least (afterRoot t) (misplaced t f) (aboveM M f) k (undeclared t f) (tooDeep D t f) (beyond t f)
+      ≡ least (afterRoot u) (misplaced u g) (aboveM M g) k (undeclared u g) (tooDeep D u g) (beyond u g)
+  least-alike k = rw (seven-alike, eight-alike, nine-alike, eleven-alike, twelve-alike, thirteen-alike)
+
+  -- LAW: but for 10, the same refusal applies to both lines
+  fault-alike : ¬ (fault D M t f ≡ 10) → ¬ (fault D M u g ≡ 10) → fault D M t f ≡ fault D M u g
+  fault-alike h i =
+      let one = least-alike (placeAgain u g) in
+      least-but-ten (afterRoot t) (misplaced t f) (aboveM M f) (placeAgain t f) (placeAgain u g) (undeclared t f) (tooDeep D t f)
+      (beyond t f) h (λ q. i (sym one ∙ q))
+      ∙ one
+
+-- ── the verdict ──
+
+-- both accepted, with frames that differ only in places, or one refusal
+abbrev pub SameVerdict : Verdict → Verdict → Type 0
+SameVerdict (accepted t) (accepted u) = ButPlaces t u
+SameVerdict (accepted t) (refused n k) = ⊥
+SameVerdict (refused n k) (accepted u) = ⊥
+SameVerdict (refused n k) (refused m l) = (n ≡ m) × (k ≡ l)
+
+abbrev pub NotTen : Verdict → Type 0
+NotTen v = (line : ℕ) → ¬ (v ≡ refused 10 line)
+
+-- two readings that are the same but for a site's place
+abbrev SameRead : Read → Read → Type 0
+SameRead (Line n f) (Line m g) = (n ≡ m) × (blank f ≡ blank g)
+SameRead (Line n f) (Refused k m) = ⊥
+SameRead (Refused k n) (Line m g) = ⊥
+SameRead (Refused k n) (Refused l m) = (k ≡ l) × (n ≡ m)
+
+same-self : (r : Read) → SameRead r r
+same-self (Line n f) = (refl, refl)
+same-self (Refused k n) = (refl, refl)
+
+alike-same : (s z : List ℕ) (n : ℕ) → Alike s z n → SameRead (readAt s n) (readAt z n)
+alike-same s z n (inl e) = subst (SameRead (readAt s n)) e (same-self (readAt s n))
+alike-same s z n (inr w) =
+    subst (λ (r : Read). SameRead r (readAt z n)) (sym (w .reads-one))
+    (subst (SameRead (Line n (Site (w .number) (w .place)))) (sym (w .reads-other)) (refl, refl))
+
+-- what comes of line n with this fault, where v is the verdict without one
+abbrev faulted : ℕ → ℕ → Verdict → Verdict
+faulted n a v = cond (eqb a 0) v (refused a n)
+
+faulted-same : (n m a c : ℕ) (v w : Verdict) → n ≡ m → a ≡ c → (NotTen v → NotTen w → SameVerdict v w)
+    → NotTen (faulted n a v) → NotTen (faulted m c w) → SameVerdict (faulted n a v) (faulted m c w)
+faulted-same n m a c v w e q k h =
+    subst (λ (x : ℕ). NotTen (faulted m x w) → SameVerdict (faulted n a v) (faulted m x w)) q (go (eqb a 0) h)
+  where
+    go : (b : Bool) → NotTen (cond b v (refused a n)) → NotTen (cond b w (refused a m))
+        → SameVerdict (cond b v (refused a n)) (cond b w (refused a m))
+    go true h i = k h i
+    go false h i = (refl, e)
+
+-- one line of both texts, and those behind it
+judged-same : (D M : ℕ) (t u : List Frame) (on on′ : Frame → Verdict) → ButPlaces t u
+    → ((f g : Frame) → blank f ≡ blank g → NotTen (on f) → NotTen (on′ g) → SameVerdict (on f) (on′ g))
+    → (r q : Read) → SameRead r q → NotTen (judged D M t r on) → NotTen (judged D M u q on′)
+    → SameVerdict (judged D M t r on) (judged D M u q on′)
+judged-same D M t u on on′ d rec (Refused k n) (Refused l m) e h i = e
+judged-same D M t u on on′ d rec (Refused k n) (Line m g) e h i = absurd e
+judged-same D M t u on on′ d rec (Line n f) (Refused l m) e h i = absurd e
+judged-same D M t u on on′ d rec (Line n f) (Line m g) e h i =
+    let c = fault-alike D M t u f g d (e .1)
+    (λ a. h n (ap (λ (j : ℕ). faulted n j (on f)) a)) (λ a. i m (ap (λ (j : ℕ). faulted m j (on′ g)) a)) in
+    faulted-same n m (fault D M t f) (fault D M u g) (on f) (on′ g) (e .0) c (rec f g (e .1)) h i
+
+scan-same : (D M : ℕ) (s z : List ℕ) (t u : List Frame) (n count : ℕ) → ButPlaces t u
+    → ((i : ℕ) → n ≤ i → i < n + count → Alike s z i)
+    → NotTen (scan D M t (readsFrom s n count)) → NotTen (scan D M u (readsFrom z n count))
+    → SameVerdict (scan D M t (readsFrom s n count)) (scan D M u (readsFrom z n count))
+scan-same D M s z t u n zero d l h i =
+    go (afterRoot t) (afterRoot u) (sym (ap empty (now-blank t)) ∙ ap afterRoot d ∙ ap empty (now-blank u))
+  where
+    go : (a b : Bool) → a ≡ b
+        → SameVerdict (cond a (accepted t) (refused 14 (length t))) (cond b (accepted u) (refused 14 (length u)))
+    go true true e = d
+    go true false e = no-way (sym e)
+    go false true e = no-way e
+    go false false e = (refl, sym (blanks-length t) ∙ ap length d ∙ blanks-length u)
+scan-same D M s z t u n (suc count) d l h i =
+    judged-same D M t u
+    (λ f. scan D M (t ++ f ∷ []) (readsFrom s (suc n) count)) (λ f. scan D M (u ++ f ∷ []) (readsFrom z (suc n) count)) d
+    (λ f g e. scan-same D M s z (t ++ f ∷ []) (u ++ g ∷ []) (suc n) count
+    (snoc-alike D M t u f g d e) (λ j a b. l j (omega arith) (omega arith)))
+    (readAt s n) (readAt z n) (alike-same s z n (l n (omega arith) (omega arith))) h i
+
+-- checks 1 to 4, by what applies, before the lines
+abbrev checks : Bool → Bool → Bool → Bool → Verdict → Verdict
+checks a b c room v =
+    cond a (refused 1 0)
+    (cond b (refused 2 0)
+    (cond c (refused 3 0)
+    (cond (not room) (refused 4 0)
+    v)))
+
+checks-same : (a b c room : Bool) (v w : Verdict) → (NotTen v → NotTen w → SameVerdict v w)
+    → NotTen (checks a b c room v) → NotTen (checks a b c room w)
+    → SameVerdict (checks a b c room v) (checks a b c room w)
+checks-same true b c room v w k h i = (refl, refl)
+checks-same false true c room v w k h i = (refl, refl)
+checks-same false false true room v w k h i = (refl, refl)
+checks-same false false false false v w k h i = (refl, refl)
+checks-same false false false true v w k h i = k h i
+
+-- LAW: two texts that differ only in places have one verdict, unless one is refused with 10
+pub verdict-same : (s z : List ℕ) (D M : ℕ) (room : Bool) → OnlyPlaces s z
+    → NotTen (verdict s D M room) → NotTen (verdict z D M room) → SameVerdict (verdict s D M room) (verdict z D M room)
+verdict-same s z D M room d h =
+    subst (λ (v : Verdict). NotTen v → SameVerdict (verdict s D M room) v) (ap of-length (d .same-length))
+    (checks-same (outOfRange D M) (broken s) (tooMany s) room
+    (scan D M [] (reads s)) (scan D M [] (readsFrom z 0 (lineCount s)))
+    (scan-same D M s z [] [] 0 (lineCount s) refl (λ n a b. d .lines n (omega arith))) h)
+  where
+    -- the verdict on z, were it of this length
+    of-length : ℕ → Verdict
+    of-length k =
+        checks (outOfRange D M) (not (eqb (k % 23) 0)) (ltb 65536 (k / 23)) room (scan D M [] (readsFrom z 0 (k / 23)))
