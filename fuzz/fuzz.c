@@ -206,7 +206,7 @@ static void print_refusal(uint64_t number, uint64_t line, Input *in) {
         MUST((given == 1 || given == 4) && kept_from(&out, 0) && kept_from(&written, 0));
     } else {
         char expected[NYO_REFUSAL_CHARS + 1];
-        snprintf(expected, sizeof expected, "ff%02x%08x\n", (unsigned)number, (unsigned)line);
+        snprintf(expected, sizeof expected, "ff%02x%08x\n", (uint8_t)number, (unsigned)line);
         MUST(numbers(&written)[0] == NYO_REFUSAL_CHARS && kept_from(&written, 8));
         MUST(!memcmp(out.at, expected, NYO_REFUSAL_CHARS) && kept_from(&out, NYO_REFUSAL_CHARS));
     }

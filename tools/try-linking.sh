@@ -23,7 +23,7 @@ tried() {
     status=0
     sh -eu -c "$3" >said 2>&1 || status=$?
     if [ "$status" != "$1" ] || ! grep -q "$2" said; then
-        echo "$3: status $status, not $1, or not '$2' but: $(cat said)"
+        echo "$3: wanted status $1 and '$2'; came status $status and: $(cat said)"
         exit 1
     fi
     passed=$((passed + 1))
