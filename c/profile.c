@@ -1,6 +1,6 @@
 /* profile [-d DEPTH] [-s SITES] [FILE]: prints the report of a trace, and on standard error a summary with the chosen
- * chain. Without FILE it reads standard input. The limits are 32 and 31 if not said, at most 64 and 255. Ends with status 0
- * for a report, 1 for a refusal, 2 for wrong usage, 3 where input or output failed. */
+ * chain. Without FILE it reads standard input. The limits are 32 and 31 if not said, at most 64 and 255. Ends with
+ * status 0 for a report, 1 for a refusal, 2 for wrong usage, 3 where input or output failed. */
 #include <errno.h>
 #include <inttypes.h>
 #include <stdio.h>
@@ -71,7 +71,8 @@ static int refuse(uint64_t answer) {
     uint64_t written = 0;
     nyo_refusal(NYO_NUMBER(answer), NYO_LINE(answer), text, sizeof text, &written, 1);
     print(text, written);
-    fprintf(stderr, "profile: refusal %u, line %" PRIu64 ": %s\n", NYO_NUMBER(answer), NYO_LINE(answer), why[NYO_NUMBER(answer)]);
+    fprintf(stderr, "profile: refusal %u, line %" PRIu64 ": %s\n", NYO_NUMBER(answer), NYO_LINE(answer),
+            why[NYO_NUMBER(answer)]);
     return REFUSED;
 }
 
@@ -83,7 +84,8 @@ static void show(const uint64_t *rows, const uint64_t *answer, const uint8_t *ma
     nyo_report(rows, NYO_ROWS(answer[2]), answer[2], text, most, &written, 1);
     print(text, written);
     free(text);
-    fprintf(stderr, "work %" PRIu64 ", span %" PRIu64 ", %" PRIu64 " sites, %" PRIu64 " lines; on the chosen chain:", answer[0], answer[1], answer[2], answer[3]);
+    fprintf(stderr, "work %" PRIu64 ", span %" PRIu64 ", %" PRIu64 " sites, %" PRIu64 " lines; on the chosen chain:",
+            answer[0], answer[1], answer[2], answer[3]);
     for (size_t line = 0; line < answer[3]; line++)
         if (marks[line]) fprintf(stderr, " %zu", line);
     fputc('\n', stderr);

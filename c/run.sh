@@ -40,7 +40,8 @@ tried() {
     status=0
     sh -c "$3" </dev/null >"$out/printed" 2>"$out/said" || status=$?
     if [ "$status" != "$1" ] || ! cmp "$wanted" "$out/printed" || ! grep -q -- "$2" "$out/said"; then
-        echo "$3: wanted status $1, what $wanted holds, and '$2'; came status $status, what $out/printed holds, and: $(cat "$out/said")"
+        echo "$3: wanted status $1, what $wanted holds, and '$2'"
+        echo "came status $status, what $out/printed holds, and: $(cat "$out/said")"
         exit 1
     fi
     passed=$((passed + 1))

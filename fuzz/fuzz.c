@@ -184,7 +184,8 @@ static uint64_t read_and_write(const uint8_t *line, size_t len, Input *in) {
     } else {
         MUST(kept_from(&frame, 8 * NYO_FRAME));
     }
-    uint64_t back = nyo_write_line(numbers(&frame), frame.bytes / 8, out.at, out.bytes, numbers(&written), written.bytes / 8);
+    uint64_t back = nyo_write_line(numbers(&frame), frame.bytes / 8, out.at, out.bytes, numbers(&written),
+                                   written.bytes / 8);
     count(2, back);
     if (back) {
         MUST((back == 4 || back == 6) && kept_from(&out, 0) && kept_from(&written, 0));

@@ -1,6 +1,6 @@
-/* plain INPUTS SEED SECONDS FILE: feeds generated inputs to the fuzz target, for a machine without libFuzzer. Each input of
- * a seed is always the same. Ends after so many inputs, or after so many seconds unless they are 0, and prints how many were
- * tried; or leaves the input that failed in FILE and ends with status 1, or 3 where it cannot. */
+/* plain INPUTS SEED SECONDS FILE: feeds generated inputs to the fuzz target, for a machine without libFuzzer. Each
+ * input of a seed is always the same. Ends after so many inputs, or after so many seconds unless they are 0, and prints
+ * how many were tried; or leaves the input that failed in FILE and ends with status 1, or 3 where it cannot. */
 #include <fcntl.h>
 #include <inttypes.h>
 #include <signal.h>
@@ -62,7 +62,8 @@ static void make(void) {
         while (lines-- > 0) put(below(256));
     else
         put_good(lines);
-    for (unsigned wrong = how == 1 ? 1 + below(3) : 0; wrong > 0; wrong--) input[HEAD + below(length - HEAD)] = (uint8_t)below(256);
+    for (unsigned wrong = how == 1 ? 1 + below(3) : 0; wrong > 0; wrong--)
+        input[HEAD + below(length - HEAD)] = (uint8_t)below(256);
 }
 
 int main(int argc, char **argv) {

@@ -1,7 +1,7 @@
 #!/bin/sh
-# run.sh [INPUTS [SEED]]: fuzzes every exported function with the address sanitizer, 200,000 inputs of seed 1 if not said:
-# by clang's libFuzzer or, where there is none, by generated inputs (fuzz/plain.c). FUZZ_SECONDS=60 ends it after a minute;
-# CLANG and CC name other compilers. A failing input is left in target/fuzz, and its path printed.
+# run.sh [INPUTS [SEED]]: fuzzes every exported function with the address sanitizer, 200,000 inputs of seed 1 if not
+# said: by clang's libFuzzer or, where there is none, by generated inputs (fuzz/plain.c). FUZZ_SECONDS=60 ends it after a
+# minute; CLANG and CC name other compilers. A failing input is left in target/fuzz, and its path printed.
 set -eu
 cd "$(dirname "$0")/.."
 . tools/usage.sh

@@ -122,7 +122,8 @@ fn tell(wrote: Wrote, written: &mut [u64]) -> u64
 // Writes one line from the five numbers of its frame: 23 characters go to `out`, or refusal 4 or 6.
 #[no_mangle]
 pub extern "C" fn nyo_write_line(frame: &[u64], out: &mut [u8], written: &mut [u64]) -> u64
-    ensures { λ r. ⌜ Tells (writeFrame (now (frame .entry)) (length (now (out .entry))) (length (now (written .entry)))) r (now (out .entry)) (now (out .exit)) (now (written .entry)) (now (written .exit)) ⌝ }
+    ensures { λ r. ⌜ Tells (writeFrame (now (frame .entry)) (length (now (out .entry))) (length (now (written .entry)))) r
+        (now (out .entry)) (now (out .exit)) (now (written .entry)) (now (written .exit)) ⌝ }
 {
     if frame.len() < FIELDS {
         return 4;
