@@ -3,6 +3,8 @@
 # The table is printed, and the CSV file, the traces and the picture are left in target/bench.
 set -eu
 cd "$(dirname "$0")/.."
+. tools/usage.sh
+numbers 'bench/run.sh [SAMPLES]' 1 "$@"
 out=$PWD/target/bench
 tools/native-lib.sh
 for tool in gnuplot python3; do

@@ -1,5 +1,6 @@
 /* profile [-d DEPTH] [-s SITES] [FILE]: prints the report of a trace, and on standard error a summary with the chosen
- * chain. Without FILE it reads standard input. Ends with status 1 where the trace is refused, 2 where it cannot be read. */
+ * chain. Without FILE it reads standard input. The limits are 32 and 31 if not said, at most 64 and 255. Ends with
+ * status 0 for a report, 1 for a refusal, 2 for wrong usage, 3 where input or output failed. */
 #include <errno.h>
 #include <inttypes.h>
 #include <stdio.h>
@@ -8,9 +9,16 @@
 
 #include "nyolifuwe.h"
 
+enum { REPORTED, REFUSED, MISUSED, FAILED };
+
 static void fail(const char *what) {
     fprintf(stderr, "profile: %s: %s\n", what, strerror(errno));
-    exit(2);
+    exit(FAILED);
+}
+
+static void misuse(const char *word, const char *fault) {
+    fprintf(stderr, "profile: %s: %s\nusage: profile [-d DEPTH] [-s SITES] [FILE]\n", word, fault);
+    exit(MISUSED);
 }
 
 /* Memory for n elements of a size; never null. */
@@ -36,6 +44,11 @@ static uint8_t *read_all(FILE *file, const char *name, size_t *len) {
     return text;
 }
 
+/* Prints a text, the only one that goes to standard output: all of it has arrived, or the program fails. */
+static void print(const uint8_t *text, size_t len) {
+    if (fwrite(text, 1, len, stdout) != len || fclose(stdout)) fail("standard output");
+}
+
 /* Prints a refusal as the report program does, and says on standard error what it is. */
 static int refuse(uint64_t answer) {
     static const char *const why[] = {
@@ -57,9 +70,10 @@ static int refuse(uint64_t answer) {
     uint8_t text[NYO_REFUSAL_CHARS];
     uint64_t written = 0;
     nyo_refusal(NYO_NUMBER(answer), NYO_LINE(answer), text, sizeof text, &written, 1);
-    fwrite(text, 1, written, stdout);
-    fprintf(stderr, "profile: refusal %u, line %" PRIu64 ": %s\n", NYO_NUMBER(answer), NYO_LINE(answer), why[NYO_NUMBER(answer)]);
-    return 1;
+    print(text, written);
+    fprintf(stderr, "profile: refusal %u, line %" PRIu64 ": %s\n", NYO_NUMBER(answer), NYO_LINE(answer),
+            why[NYO_NUMBER(answer)]);
+    return REFUSED;
 }
 
 /* Prints the rows of an accepted trace, then what is on its chosen chain. */
@@ -68,12 +82,21 @@ static void show(const uint64_t *rows, const uint64_t *answer, const uint8_t *ma
     uint8_t *text = room(most, 1);
     uint64_t written = 0;
     nyo_report(rows, NYO_ROWS(answer[2]), answer[2], text, most, &written, 1);
-    fwrite(text, 1, written, stdout);
+    print(text, written);
     free(text);
-    fprintf(stderr, "work %" PRIu64 ", span %" PRIu64 ", %" PRIu64 " sites, %" PRIu64 " lines; on the chosen chain:", answer[0], answer[1], answer[2], answer[3]);
+    fprintf(stderr, "work %" PRIu64 ", span %" PRIu64 ", %" PRIu64 " sites, %" PRIu64 " lines; on the chosen chain:",
+            answer[0], answer[1], answer[2], answer[3]);
     for (size_t line = 0; line < answer[3]; line++)
         if (marks[line]) fprintf(stderr, " %zu", line);
     fputc('\n', stderr);
+}
+
+/* The limit that follows a flag. */
+static uint64_t limit(const char *flag, const char *word) {
+    char *end = NULL;
+    uint64_t n = word && *word >= '0' && *word <= '9' ? strtoull(word, &end, 10) : 0;
+    if (!end || *end) misuse(flag, "a number must follow");
+    return n;
 }
 
 int main(int argc, char **argv) {
@@ -81,16 +104,16 @@ int main(int argc, char **argv) {
     const char *name = "standard input";
     FILE *file = stdin;
     for (int i = 1; i < argc; i++) {
-        int limit = !strcmp(argv[i], "-d") || !strcmp(argv[i], "-s");
-        if (limit && i + 1 < argc) {
-            *(argv[i][1] == 'd' ? &depth : &sites) = strtoull(argv[i + 1], NULL, 10);
-            i++;
-        } else if (argv[i][0] == '-' || file != stdin) {
-            fprintf(stderr, "usage: profile [-d DEPTH] [-s SITES] [FILE]\n");
-            return 2;
-        } else if (!(file = fopen(name = argv[i], "rb"))) {
+        if (!strcmp(argv[i], "-d"))
+            depth = limit("-d", argv[i + 1]), i++;
+        else if (!strcmp(argv[i], "-s"))
+            sites = limit("-s", argv[i + 1]), i++;
+        else if (argv[i][0] == '-')
+            misuse(argv[i], "no such flag");
+        else if (file != stdin)
+            misuse(argv[i], "a second file");
+        else if (!(file = fopen(name = argv[i], "rb")))
             fail(name);
-        }
     }
     size_t len, lines;
     uint8_t *trace = read_all(file, name, &len);
@@ -100,7 +123,7 @@ int main(int argc, char **argv) {
     uint8_t *marks = room(lines, 1);
     uint64_t given = nyo_marks(trace, len, depth, sites, scratch, NYO_MARKS_SCRATCH(depth), marks, lines, rows,
                                NYO_ROWS(sites), answer, NYO_ANSWER);
-    int status = 0;
+    int status = REPORTED;
     if (given)
         status = refuse(given);
     else

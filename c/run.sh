@@ -1,8 +1,11 @@
 #!/bin/sh
-# run.sh: builds the archive, the C test and the C example for this machine with the system's C compiler, runs both,
-# and holds what the example prints against the example traces' page. CC names another compiler.
+# run.sh: builds the archive, the C example and the C test for this machine with the system's C compiler and runs both.
+# What the example prints is held, whole and with its status, against the page of the example traces. CC names another
+# compiler.
 set -eu
 cd "$(dirname "$0")/.."
+. tools/usage.sh
+numbers c/run.sh 0 "$@"
 cc=${CC:-cc} out=target/c lib=${NYO_LIB_DIR:-target/native}
 [ -n "${NYO_LIB_DIR:-}" ] || tools/native-lib.sh
 mkdir -p "$out"
@@ -15,9 +18,63 @@ if command -v c++ >/dev/null; then
 else
     echo "no c++ here: the header was not tried as C++"
 fi
-for trace in case-i proxy; do
-    echo "profile examples/$trace.trace:"
-    "$out/profile" "examples/$trace.trace" | tee "$out/report"
-    while read -r line; do grep -qxF "$line" examples/README.md || { echo "examples/README.md has no such line: $line"; exit 1; }; done <"$out/report"
+
+# All that the archive that is shipped wants of its caller's C library, as docs/LINKING.md says.
+wants=$(nm -u "$lib/libnyolifuwe.a" | sed -n 's/^ *U //p' | sort -u)
+if [ "$(uname -m)" = x86_64 ] && [ "$wants" != memset ]; then
+    echo "the archive wants other functions than memset: $wants"
+    exit 1
+fi
+
+# What the page says of an example: the report below the trace's heading, or the refusal in the trace's row.
+shown() {
+    awk -v name="\`$1\`" '/^## / { here = index($0, name) } /^```/ { inside = here && !inside; next } inside
+        index($0, "| " name " |") == 1 { n = split($0, cell, "`"); print cell[n - 1] }' examples/README.md
+}
+
+# tried STATUS SAID COMMAND: the command ends with this status, says so on standard error, and has printed, to the byte,
+# what stands in the file `wanted`.
+passed=0 profile=$out/profile wanted=$out/wanted
+export profile
+tried() {
+    status=0
+    sh -c "$3" </dev/null >"$out/printed" 2>"$out/said" || status=$?
+    if [ "$status" != "$1" ] || ! cmp "$wanted" "$out/printed" || ! grep -q -- "$2" "$out/said"; then
+        echo "$3: wanted status $1, what $wanted holds, and '$2'"
+        echo "came status $status, what $out/printed holds, and: $(cat "$out/said")"
+        exit 1
+    fi
+    passed=$((passed + 1))
+}
+
+for trace in examples/*.trace; do
+    shown "${trace#examples/}" >"$wanted"
+    case $trace in
+    */refusal-*) tried 1 '^profile: refusal [0-9]*, line [0-9]*: ' "\$profile $trace" ;;
+    *) tried 0 '^work [0-9]*, span [0-9]*, ' "\$profile $trace" ;;
+    esac
 done
+shown case-i.trace >"$wanted"
+tried 0 '^work 10, span 9, 2 sites, 10 lines; on the chosen chain: 4 8$' '$profile <examples/case-i.trace'
+tried 0 '^work 10, span 9' '$profile -d 64 -s 255 examples/case-i.trace'
+echo ff0100000000 >"$wanted"
+tried 1 'refusal 1, line 0: ' '$profile -d 65 examples/case-i.trace'
+tried 1 'refusal 1, line 0: ' '$profile -d 0 examples/case-i.trace'
+tried 1 'refusal 1, line 0: ' '$profile -s 256 examples/case-i.trace'
+echo ff0900000001 >"$wanted"
+tried 1 'refusal 9, line 1: ' '$profile -s 1 examples/case-i.trace'
+echo ff0c00000003 >"$wanted"
+tried 1 'refusal 12, line 3: ' '$profile -d 2 examples/case-i.trace'
+: >"$wanted"
+for words in '-d' '-d many' '-s 7x' '-s -1' '-x' 'examples/case-i.trace examples/case-i.trace'; do
+    tried 2 '^usage: profile ' "\$profile $words"
+done
+for words in '<include' 'include' 'no-such-file' '<&-'; do
+    tried 3 '^profile: ' "\$profile $words"
+done
+for trace in case-i refusal-14; do
+    tried 3 '^profile: standard output: ' "\$profile examples/$trace.trace >/dev/full"
+    tried 3 '^profile: standard output: ' "\$profile examples/$trace.trace >&-"
+done
+echo "the C example: $passed passed, 0 failed"
 "$out/test"

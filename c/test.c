@@ -1,6 +1,6 @@
 /* Each exported function from C: what it answers, what it writes, and that nothing else that was lent or lies beside it
  * changes. Expected numbers and texts are the rules' own. The last line printed is `N passed, 0 failed`. */
-#include <inttypes.h>
+#include <assert.h>
 #include <stdio.h>
 #include <string.h>
 
@@ -19,8 +19,9 @@ static void check(int holds, const char *what, int line) {
 
 #define CHECK(holds) check(holds, #holds, __LINE__)
 
-/* Lent numbers or characters between two strips that are not lent, with what all of it held before. */
-enum { STRIP = 8, MOST = 4096 };
+/* Lent numbers or characters between two strips that are not lent, with what all of it held before. A case that would
+ * lend more than the most is a fault of this test. */
+enum { STRIP = 8, MOST = NYO_TABLES_SCRATCH(4, 256) };
 
 typedef struct {
     size_t len;
@@ -39,12 +40,14 @@ static uint64_t rubbish(void) {
 }
 
 static uint64_t *lend_numbers(Numbers *r, size_t len) {
+    assert(len <= MOST);
     r->len = len;
     for (size_t i = 0; i < STRIP + MOST + STRIP; i++) r->now[i] = r->before[i] = rubbish();
     return r->now + STRIP;
 }
 
 static uint8_t *lend_chars(Chars *r, size_t len) {
+    assert(len <= MOST);
     r->len = len;
     for (size_t i = 0; i < STRIP + MOST + STRIP; i++) r->now[i] = r->before[i] = (uint8_t)rubbish();
     return r->now + STRIP;
@@ -90,22 +93,26 @@ static void lines_are_read(void) {
     CHECK(read_line(TEXT("0600000000000000000000\n"), 5) == 6 && numbers_unchanged(&frame));
 }
 
-static uint64_t write_line(const uint64_t *numbers, size_t n, size_t room) {
+static int nothing_written(void) { return chars_unchanged(&out) && numbers_unchanged(&written); }
+
+static uint64_t write_line(const uint64_t *numbers, size_t n, size_t room, size_t count_room) {
     uint8_t *to = lend_chars(&out, room);
-    return nyo_write_line(numbers, n, to, room);
+    uint64_t *count = lend_numbers(&written, count_room);
+    return nyo_write_line(numbers, n, to, room, count, count_room);
 }
 
 static void lines_are_written(void) {
-    CHECK(write_line((const uint64_t[]){1, 2, 20, 1, 9}, 5, 23) == 0);
-    CHECK(chars_are(&out, "0100020000001400010009\n", 23));
-    CHECK(write_line((const uint64_t[]){3, 65535, 0, 0, 0, 77}, 6, 30) == 0);
-    CHECK(chars_are(&out, "03ffff0000000000000000\n", 23));
-    CHECK(write_line((const uint64_t[]){9, 0, 0, 0}, 4, 23) == 4 && chars_unchanged(&out));
-    CHECK(write_line((const uint64_t[]){9, 0, 0, 0, 0}, 5, 22) == 4 && chars_unchanged(&out));
-    CHECK(write_line((const uint64_t[]){2, 65536, 0, 0, 0}, 5, 23) == 6 && chars_unchanged(&out));
-    CHECK(write_line((const uint64_t[]){256 + 5, 0, 0, 0, 0}, 5, 23) == 6 && chars_unchanged(&out));
-    CHECK(write_line((const uint64_t[]){6, 0, UINT64_C(1) << 32, 0, 0}, 5, 23) == 6 && chars_unchanged(&out));
-    CHECK(write_line((const uint64_t[]){1, 1, 1, 1, 0}, 5, 23) == 6 && chars_unchanged(&out));
+    CHECK(write_line((const uint64_t[]){1, 2, 20, 1, 9}, 5, 23, 1) == 0);
+    CHECK(chars_are(&out, "0100020000001400010009\n", 23) && numbers_are(&written, (const uint64_t[]){23}, 1));
+    CHECK(write_line((const uint64_t[]){3, 65535, 0, 0, 0, 77}, 6, 30, 3) == 0);
+    CHECK(chars_are(&out, "03ffff0000000000000000\n", 23) && numbers_are(&written, (const uint64_t[]){23}, 1));
+    CHECK(write_line((const uint64_t[]){9, 0, 0, 0}, 4, 23, 1) == 4 && nothing_written());
+    CHECK(write_line((const uint64_t[]){9, 0, 0, 0, 0}, 5, 22, 1) == 4 && nothing_written());
+    CHECK(write_line((const uint64_t[]){9, 0, 0, 0, 0}, 5, 23, 0) == 4 && nothing_written());
+    CHECK(write_line((const uint64_t[]){2, 65536, 0, 0, 0}, 5, 23, 1) == 6 && nothing_written());
+    CHECK(write_line((const uint64_t[]){256 + 5, 0, 0, 0, 0}, 5, 23, 1) == 6 && nothing_written());
+    CHECK(write_line((const uint64_t[]){6, 0, UINT64_C(1) << 32, 0, 0}, 5, 23, 1) == 6 && nothing_written());
+    CHECK(write_line((const uint64_t[]){1, 1, 1, 1, 0}, 5, 23, 1) == 6 && nothing_written());
 }
 
 /* The example of the rules: call 1 {spawn 2 {7}, 1}, 2. */
@@ -133,8 +140,6 @@ static uint64_t report(size_t n, uint64_t count, size_t room, size_t count_room)
     uint64_t *to = lend_numbers(&written, count_room);
     return nyo_report(case_i_rows, n, count, text, room, to, count_room);
 }
-
-static int nothing_written(void) { return chars_unchanged(&out) && numbers_unchanged(&written); }
 
 static void reports_are_written(void) {
     CHECK(report(15, 2, 255, 1) == 0);

@@ -175,6 +175,7 @@ static size_t enough(size_t elements, size_t size, Input *in) {
 /* A line that is read is written as it stood, and a refused one leaves the frame alone. */
 static uint64_t read_and_write(const uint8_t *line, size_t len, Input *in) {
     Room frame = lend(&of_frame, enough(NYO_FRAME, 8, in), in), out = lend(&of_out, enough(NYO_LINE_CHARS, 1, in), in);
+    Room written = lend(&of_written, enough(1, 8, in), in);
     uint64_t given = nyo_read_line(line, len, numbers(&frame), frame.bytes / 8);
     count(1, given);
     if (given) {
@@ -183,13 +184,15 @@ static uint64_t read_and_write(const uint8_t *line, size_t len, Input *in) {
     } else {
         MUST(kept_from(&frame, 8 * NYO_FRAME));
     }
-    uint64_t back = nyo_write_line(numbers(&frame), frame.bytes / 8, out.at, out.bytes);
+    uint64_t back = nyo_write_line(numbers(&frame), frame.bytes / 8, out.at, out.bytes, numbers(&written),
+                                   written.bytes / 8);
     count(2, back);
     if (back) {
-        MUST((back == 4 || back == 6) && kept_from(&out, 0));
-        MUST(given || out.bytes < NYO_LINE_CHARS);
+        MUST((back == 4 || back == 6) && kept_from(&out, 0) && kept_from(&written, 0));
+        MUST((back == 4) == (frame.bytes < 8 * NYO_FRAME || out.bytes < NYO_LINE_CHARS || written.bytes < 8));
+        MUST(given || back == 4);
     } else {
-        MUST(kept_from(&out, NYO_LINE_CHARS));
+        MUST(numbers(&written)[0] == NYO_LINE_CHARS && kept_from(&written, 8) && kept_from(&out, NYO_LINE_CHARS));
         MUST(given || !memcmp(out.at, line, NYO_LINE_CHARS));
     }
     return !given && numbers(&frame)[0] == 6 ? numbers(&frame)[2] : 0;
@@ -204,7 +207,7 @@ static void print_refusal(uint64_t number, uint64_t line, Input *in) {
         MUST((given == 1 || given == 4) && kept_from(&out, 0) && kept_from(&written, 0));
     } else {
         char expected[NYO_REFUSAL_CHARS + 1];
-        snprintf(expected, sizeof expected, "ff%02x%08x\n", (unsigned)number, (unsigned)line);
+        snprintf(expected, sizeof expected, "ff%02x%08x\n", (uint8_t)number, (unsigned)line);
         MUST(numbers(&written)[0] == NYO_REFUSAL_CHARS && kept_from(&written, 8));
         MUST(!memcmp(out.at, expected, NYO_REFUSAL_CHARS) && kept_from(&out, NYO_REFUSAL_CHARS));
     }

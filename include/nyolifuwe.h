@@ -99,9 +99,13 @@ uint64_t nyo_marks(const uint8_t *trace, size_t trace_len, uint64_t depth, uint6
  * Refusals, each with line 0: 2 unless it is lent exactly 23 characters, 4, 5, 6. */
 uint64_t nyo_read_line(const uint8_t *line, size_t line_len, uint64_t *frame, size_t frame_len);
 
-/* Writes a frame, the first five numbers lent, as a line of NYO_LINE_CHARS characters.
- * Refusals, each with line 0: 4 for fewer than five numbers or too little room, then 6 where a field breaks the table. */
-uint64_t nyo_write_line(const uint64_t *frame, size_t frame_len, uint8_t *out, size_t out_len);
+/* Writes a frame, the first five numbers lent, as a line, and into written[0] how many characters it is.
+ *   frame    NYO_FRAME
+ *   out      NYO_LINE_CHARS
+ *   written  1
+ * Refusals, each with line 0: 4, then 6 where a field breaks the table. */
+uint64_t nyo_write_line(const uint64_t *frame, size_t frame_len, uint8_t *out, size_t out_len, uint64_t *written,
+                        size_t written_len);
 
 /* Writes the report of the root and count sites: of each row a line, and into written[0] how many characters they are.
  *   rows     NYO_ROWS(count)

@@ -4,6 +4,12 @@
 # compiled for Arm by the kit's clang: good for tests, fuzzing and timings, and not what is shipped.
 set -eu
 cd "$(dirname "$0")/.."
+. tools/usage.sh
+numbers tools/native-lib.sh 0 "$@"
+if ! command -v rt >/dev/null; then
+    echo "tools/native-lib.sh: rt, the command of the Rattle kit, is not on the path" >&2
+    exit 1
+fi
 name=nyolifuwe machine=$(uname -m) kit=$(dirname "$(dirname "$(rt doc)")")
 own=$kit/on/$machine out=target/native
 

@@ -3,6 +3,8 @@
 # of a seed made from the date, if not said), and a minute of fuzzing. The seed is printed, so that a night can be repeated.
 set -eu
 cd "$(dirname "$0")/.."
+. tools/usage.sh
+numbers 'tools/nightly.sh [CASES [SEED]]' 2 "$@"
 cases=${1:-1000000} seed=${2:-$(date +%Y%m%d)}
 tools/native-lib.sh
 c/run.sh

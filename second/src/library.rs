@@ -31,7 +31,7 @@ pub trait Library {
     /// The line reader.
     fn read_line(&self, line: &[u8], frame: &mut [u64]) -> u64;
     /// The line writer.
-    fn write_line(&self, frame: &[u64], out: &mut [u8]) -> u64;
+    fn write_line(&self, frame: &[u64], out: &mut [u8], written: &mut [u64]) -> u64;
     /// The report writer.
     fn report(&self, rows: &[u64], count: u64, out: &mut [u8], written: &mut [u64]) -> u64;
     /// The writer of a refusal.
@@ -102,14 +102,14 @@ impl Library for Second {
         at_0(line::read(line).map(|line| put(frame, &line.fields())))
     }
 
-    fn write_line(&self, frame: &[u64], out: &mut [u8]) -> u64 {
-        let Some(fields) = frame.first_chunk() else {
+    fn write_line(&self, frame: &[u64], out: &mut [u8], written: &mut [u64]) -> u64 {
+        let (Some(fields), true, Some(count)) = (frame.first_chunk(), out.len() >= CHARS, written.first_mut()) else {
             return code(Err(Ground::Room.at(0)));
         };
-        if out.len() < CHARS {
-            return code(Err(Ground::Room.at(0)));
-        }
-        at_0(line::write(fields).map(|chars| put(out, &chars)))
+        at_0(line::write(fields).map(|chars| {
+            put(out, &chars);
+            *count = chars.len() as u64;
+        }))
     }
 
     fn report(&self, rows: &[u64], count: u64, out: &mut [u8], written: &mut [u64]) -> u64 {

@@ -33,7 +33,14 @@ extern "C" {
         answer_len: usize,
     ) -> u64;
     fn nyo_read_line(line: *const u8, line_len: usize, frame: *mut u64, frame_len: usize) -> u64;
-    fn nyo_write_line(frame: *const u64, frame_len: usize, out: *mut u8, out_len: usize) -> u64;
+    fn nyo_write_line(
+        frame: *const u64,
+        frame_len: usize,
+        out: *mut u8,
+        out_len: usize,
+        written: *mut u64,
+        written_len: usize,
+    ) -> u64;
     fn nyo_report(
         rows: *const u64,
         rows_len: usize,
@@ -100,8 +107,10 @@ impl Library for Proved {
         unsafe { nyo_read_line(line.as_ptr(), line.len(), frame.as_mut_ptr(), frame.len()) }
     }
 
-    fn write_line(&self, frame: &[u64], out: &mut [u8]) -> u64 {
-        unsafe { nyo_write_line(frame.as_ptr(), frame.len(), out.as_mut_ptr(), out.len()) }
+    fn write_line(&self, frame: &[u64], out: &mut [u8], written: &mut [u64]) -> u64 {
+        let (out_len, written_len) = (out.len(), written.len());
+        let (out, written) = (out.as_mut_ptr(), written.as_mut_ptr());
+        unsafe { nyo_write_line(frame.as_ptr(), frame.len(), out, out_len, written, written_len) }
     }
 
     fn report(&self, rows: &[u64], count: u64, out: &mut [u8], written: &mut [u64]) -> u64 {

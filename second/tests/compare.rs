@@ -177,8 +177,8 @@ impl Library for Wrong {
         Second::by_paths().read_line(line, frame)
     }
 
-    fn write_line(&self, frame: &[u64], out: &mut [u8]) -> u64 {
-        Second::by_paths().write_line(frame, out)
+    fn write_line(&self, frame: &[u64], out: &mut [u8], written: &mut [u64]) -> u64 {
+        Second::by_paths().write_line(frame, out, written)
     }
 
     fn report(&self, rows: &[u64], count: u64, out: &mut [u8], written: &mut [u64]) -> u64 {

@@ -16,8 +16,8 @@ use Rattle.line.specs.Table.{Fields, Entry, frame, none, table, fieldsOf}
 use Rattle.line.specs.Read.{tabled, readLine}
 use Rattle.line.specs.Write.{chars, narrow, isFrame, writable, writeChars}
 use Rattle.line.proofs.Cases.{Case, long, wrongs, unlisted, listed, line-case}
-use Rattle.line.proofs.RoundTrip.{written, table-fields}
-use Rattle.report.specs.Room.{Decision, write, refuse, answer, leave, Writes}
+use Rattle.line.proofs.RoundTrip.{written as written-as, table-fields}
+use Rattle.report.specs.Room.{Decision, write, refuse, fitting, answer, leave, Writes}
 use Rattle.trace.specs.Rows.{columns}
 use Rattle.report.specs.Rows.{width}
 use Rattle.report.specs.Report.{text, report}
@@ -85,36 +85,40 @@ pub framed-wide : (x : Fields) → narrow x ≡ false → Refused 6 0 ≡ framed
 framed-wide x e = sym (ap (λ (b : Bool). cond b (tabled (table x) 0) (Refused 6 0)) e)
 
 -- the line writer
-module _ (n : List ℕ) (room : ℕ) where
-  pub write-4-frame : length n < 5 → writeFrame n room ≡ refuse 4 0
+module _ (n : List ℕ) (room written : ℕ) where
+  pub write-4-frame : length n < 5 → writeFrame n room written ≡ refuse 4 0
   write-4-frame h = simp (lt-ltb _ _ h)
 
   module _ (five : 5 ≤ length n) where
-    pub write-4-out : room < 23 → writeFrame n room ≡ refuse 4 0
+    pub write-4-out : room < 23 → writeFrame n room written ≡ refuse 4 0
     write-4-out h = simp (le-ltb _ _ five, lt-ltb _ _ h)
 
     module _ (enough : 23 ≤ room) where
-      on : {b : Bool} → (narrow (fieldsIn n) && isFrame (table (fieldsIn n))) ≡ b → writeFrame n room ≡ cond b (write (chars (fieldsIn n))) (refuse 6 0)
-      on e = simp (le-ltb _ _ five, le-ltb _ _ enough) (ap (λ (b : Bool). cond b (write (chars (fieldsIn n))) (refuse 6 0)) e)
+      pub write-4-count : written < 1 → writeFrame n room written ≡ refuse 4 0
+      write-4-count h = simp (le-ltb _ _ five, le-ltb _ _ enough, lt-ltb _ _ h)
 
-      pub write-refused : (number line : ℕ) → framedBy (fieldsIn n) ≡ Refused number line → writeFrame n room ≡ refuse number line
-      write-refused number line e = go (framed-case (fieldsIn n))
-        where
-          go : Framed (fieldsIn n) (framedBy (fieldsIn n)) → writeFrame n room ≡ refuse number line
-          go (as-none h r) = let d = on h in cc
-          go (as-frame f h t r) = absurd (let z : _≡_ {A = ℕ} 0 1 = cc in omega arith)
+      module _ (counts : 1 ≤ written) where
+        on : {b : Bool} → (narrow (fieldsIn n) && isFrame (table (fieldsIn n))) ≡ b → writeFrame n room written ≡ cond b (write (chars (fieldsIn n))) (refuse 6 0)
+        on e = simp (le-ltb _ _ five, le-ltb _ _ enough, le-ltb _ _ counts) (ap (λ (b : Bool). cond b (write (chars (fieldsIn n))) (refuse 6 0)) e)
 
-      pub write-framed : (k : ℕ) (f : Frame) → framedBy (fieldsIn n) ≡ Line k f → writeFrame n room ≡ write (writeChars f)
-      write-framed k f e = go (framed-case (fieldsIn n))
-        where
-          go : Framed (fieldsIn n) (framedBy (fieldsIn n)) → writeFrame n room ≡ write (writeChars f)
-          go (as-none h r) = absurd (let z : _≡_ {A = ℕ} 0 1 = cc in omega arith)
-          go (as-frame g h t r) =
-              let same : g ≡ f = cc in
-              let x = table-fields (fieldsIn n) f (t ∙ ap frame same) in
-              let is : (narrow (fieldsIn n) && isFrame (table (fieldsIn n))) ≡ true = simp (h, t) in
-              let w : writable f ≡ true = ap (λ (y : Fields). narrow y && isFrame (table y)) x ∙ is in
-              on is ∙ ap write (ap chars (sym x) ∙ sym (written f w))
+        pub write-refused : (number line : ℕ) → framedBy (fieldsIn n) ≡ Refused number line → writeFrame n room written ≡ refuse number line
+        write-refused number line e = go (framed-case (fieldsIn n))
+          where
+            go : Framed (fieldsIn n) (framedBy (fieldsIn n)) → writeFrame n room written ≡ refuse number line
+            go (as-none h r) = let d = on h in cc
+            go (as-frame f h t r) = absurd (let z : _≡_ {A = ℕ} 0 1 = cc in omega arith)
+
+        pub write-framed : (k : ℕ) (f : Frame) → framedBy (fieldsIn n) ≡ Line k f → writeFrame n room written ≡ write (writeChars f)
+        write-framed k f e = go (framed-case (fieldsIn n))
+          where
+            go : Framed (fieldsIn n) (framedBy (fieldsIn n)) → writeFrame n room written ≡ write (writeChars f)
+            go (as-none h r) = absurd (let z : _≡_ {A = ℕ} 0 1 = cc in omega arith)
+            go (as-frame g h t r) =
+                let same : g ≡ f = cc in
+                let x = table-fields (fieldsIn n) f (t ∙ ap frame same) in
+                let is : (narrow (fieldsIn n) && isFrame (table (fieldsIn n))) ≡ true = simp (h, t) in
+                let w : writable f ≡ true = ap (λ (y : Fields). narrow y && isFrame (table y)) x ∙ is in
+                on is ∙ ap write (ap chars (sym x) ∙ sym (written-as f w))
 
 pub framed-at-0 : (x : Fields) (number line : ℕ) → framedBy x ≡ Refused number line → line ≤ 65536
 framed-at-0 x number line e = go (framed-case x)
@@ -147,6 +151,13 @@ counted-is (refuse number line) room h = refl
 pub tells : (d : Decision) {r : Wrote} {given : ℕ} {text text′ written written′ : List ℕ} → Writes d r text text′ → given ≡ told r → written′ ≡ noted r written → Tells d given text text′ written written′
 tells (write s) {written = written} w g n = record { answered = g ∙ ap told (w .answered); text-left = w .left; count-left = n ∙ ap (λ (r : Wrote). noted r written) (w .answered) }
 tells (refuse number line) {written = written} w g n = record { answered = g ∙ ap told (w .answered); text-left = w .left; count-left = n ∙ ap (λ (r : Wrote). noted r written) (w .answered) }
+
+pub fitting-at-0 : (s : List ℕ) (room : ℕ) {r : Wrote} → r ≡ answer (fitting s room) → lineOf r ≤ 65536
+fitting-at-0 s room e = let z = ap lineOf e ∙ go (ltb room (length s)) in omega arith
+  where
+    go : (b : Bool) → lineOf (answer (cond b (refuse 4 0) (write s))) ≡ 0
+    go true = refl
+    go false = refl
 
 -- the report
 module _ (rows : List ℕ) (number room : ℕ) where

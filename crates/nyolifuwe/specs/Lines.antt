@@ -27,9 +27,10 @@ framed (Refused number line) = refuse number line
 abbrev pub readFrame : List ℕ → ℕ → Decision
 readFrame s room = cond (eqb (length s) 23) (cond (ltb room 5) (refuse 4 0) (framed (readLine s 0))) (refuse 2 0)
 
--- 4 where fewer than five numbers or less room than 23 characters are lent, then "23 characters, or refusal 6 with line 0 where a field breaks the table"
-abbrev pub writeFrame : List ℕ → ℕ → Decision
-writeFrame n room =
-    cond (ltb (length n) 5 || ltb room 23) (refuse 4 0)
+-- 4 where fewer than five numbers, less room than 23 characters or no room for their count are lent, then
+-- "23 characters, or refusal 6 with line 0 where a field breaks the table"
+abbrev pub writeFrame : List ℕ → ℕ → ℕ → Decision
+writeFrame n room written =
+    cond (ltb (length n) 5 || ltb room 23 || ltb written 1) (refuse 4 0)
     (cond (narrow (fieldsIn n) && isFrame (table (fieldsIn n))) (write (chars (fieldsIn n)))
     (refuse 6 0))

@@ -1,4 +1,4 @@
--- What the exported report writers decide. They write two lent slices: the text, and how many characters it has.
+-- What the exported writers give and leave. They write two lent slices: the text, and how many characters it has.
 use Prim.Native.Nat.{ℕ}
 use mathlib.Core.Bool.{Bool, cond}
 use mathlib.Core.List.{List, [], _∷_}
@@ -8,7 +8,7 @@ use lib.ListN.{length}
 use Rattle.report.specs.Room.{Decision, write, refuse, leave}
 use Rattle.nyolifuwe.specs.Code.{code}
 
--- 4 too where there is no room for the number of characters, behind the refusals 1 and 4 of the text
+-- 4 too where there is no room for the number of characters, behind a report's or a refusal's own refusals, 1 and 4
 abbrev pub counted : Decision → ℕ → Decision
 counted (write s) room = cond (ltb room 1) (refuse 4 0) (write s)
 counted (refuse number line) room = refuse number line

@@ -105,28 +105,6 @@ fn frame_of(kind: u64, site: u64, value: u64, file: u64, column: u64) -> Read
     )
 }
 
-// Writes one line from the five numbers of its frame: 23 characters go to `out`, or refusal 4 or 6.
-#[no_mangle]
-pub extern "C" fn nyo_write_line(frame: &[u64], out: &mut [u8]) -> u64
-    ensures { λ r. ⌜ Gives (writeFrame (now (frame .entry)) (length (now (out .entry)))) r (now (out .entry)) (now (out .exit)) ⌝ }
-{
-    if frame.len() < FIELDS {
-        return 4;
-    }
-    if out.len() < 23 {
-        return 4;
-    }
-    match frame_of(frame[0], frame[1], frame[2], frame[3], frame[4]) {
-        Read::Line(_, f) => {
-            let written = line::write_line(f);
-            let chars = written.chars;
-            report::put_text(&chars, out);
-            0
-        }
-        Read::Refused(number, at) => code(number, at),
-    }
-}
-
 // What a writer of text answered, in one number; how many characters it wrote goes to `written`.
 fn tell(wrote: Wrote, written: &mut [u64]) -> u64
     requires { ⌜ (lineOf wrote ≤ 65536) × (1 ≤ length (now written)) ⌝ }
@@ -138,6 +116,31 @@ fn tell(wrote: Wrote, written: &mut [u64]) -> u64
             0
         }
         Wrote::Refused(number, at) => code(number, at),
+    }
+}
+
+// Writes one line from the five numbers of its frame: 23 characters go to `out`, or refusal 4 or 6.
+#[no_mangle]
+pub extern "C" fn nyo_write_line(frame: &[u64], out: &mut [u8], written: &mut [u64]) -> u64
+    ensures { λ r. ⌜ Tells (writeFrame (now (frame .entry)) (length (now (out .entry))) (length (now (written .entry)))) r
+        (now (out .entry)) (now (out .exit)) (now (written .entry)) (now (written .exit)) ⌝ }
+{
+    if frame.len() < FIELDS {
+        return 4;
+    }
+    if out.len() < 23 {
+        return 4;
+    }
+    if written.len() < 1 {
+        return 4;
+    }
+    match frame_of(frame[0], frame[1], frame[2], frame[3], frame[4]) {
+        Read::Line(_, f) => {
+            let line = line::write_line(f);
+            let chars = line.chars;
+            tell(report::put_text(&chars, out), written)
+        }
+        Read::Refused(number, at) => code(number, at),
     }
 }
 

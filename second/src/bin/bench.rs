@@ -17,7 +17,7 @@ use std::error::Error;
 use std::fs;
 use std::hint::black_box;
 use std::path::Path;
-use std::process::Command;
+use std::process::{Command, ExitCode};
 
 const LINES: [usize; 3] = [1_000, 8_000, 65_536];
 const SITES: [u64; 3] = [2, 31, 255];
@@ -25,13 +25,28 @@ const SITES: [u64; 3] = [2, 31, 255];
 /// Those that are timed in turn; the script is timed by itself.
 const TIMED: usize = 4;
 
-fn main() -> Result<(), Box<dyn Error>> {
+fn main() -> ExitCode {
     let words: Vec<String> = args().skip(1).collect();
-    let (folder, samples) = match &words[..] {
-        [folder] => (Path::new(folder), 101),
-        [folder, samples] => (Path::new(folder), samples.parse()?),
-        _ => return Err("usage: bench DIR [SAMPLES]".into()),
+    let asked = match &words[..] {
+        [folder] => Some((folder, 101)),
+        [folder, samples] => samples.parse().ok().filter(|samples| *samples > 0).map(|samples| (folder, samples)),
+        _ => None,
     };
+    let Some((folder, samples)) = asked else {
+        eprintln!("usage: bench DIR [SAMPLES], where SAMPLES is a number from 1 on");
+        return ExitCode::from(2);
+    };
+    match measure(Path::new(folder), samples) {
+        Ok(()) => ExitCode::SUCCESS,
+        Err(error) => {
+            eprintln!("bench: {error}");
+            ExitCode::FAILURE
+        }
+    }
+}
+
+/// Times everything, prints the table and the goals, and writes the file.
+fn measure(folder: &Path, samples: usize) -> Result<(), Box<dyn Error>> {
     let library = proved().ok_or("the proved library is not linked: run tools/native-lib.sh and build again")?;
     let mut cases = cases();
     let seconds = seconds(library, &mut cases, samples);

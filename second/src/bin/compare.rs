@@ -19,9 +19,12 @@ const EVERY: Duration = Duration::from_secs(2);
 type Named<'a> = (&'static str, &'a dyn Library);
 
 fn main() -> ExitCode {
-    let Some(asked) = Asked::read(args().skip(1)) else {
-        eprintln!("usage: compare [CASES [SEED]] [--every LINES] [--stand-in]");
-        return ExitCode::from(2);
+    let asked = match Asked::read(args().skip(1)) {
+        Ok(asked) => asked,
+        Err(word) => {
+            eprintln!("compare: not understood: {word}\nusage: compare [CASES [SEED]] [--every LINES] [--stand-in]");
+            return ExitCode::from(2);
+        }
     };
     let by_paths = Second::by_paths();
     let stand_in: Named = ("the way by paths", &by_paths);
@@ -47,22 +50,19 @@ struct Asked {
 }
 
 impl Asked {
-    /// Nothing if a word is not understood.
-    fn read(mut words: impl Iterator<Item = String>) -> Option<Asked> {
+    /// The first word that is not understood, otherwise.
+    fn read(mut words: impl Iterator<Item = String>) -> Result<Asked, String> {
         let (mut numbers, mut every, mut stand_in) = (vec![], 6, false);
         while let Some(word) = words.next() {
             match word.as_str() {
                 "--stand-in" => stand_in = true,
-                "--every" => every = words.next()?.parse().ok()?,
-                number => numbers.push(number.replace(['_', ','], "").parse().ok()?),
+                "--every" => every = words.next().and_then(|lines| lines.parse().ok()).ok_or(word)?,
+                number if numbers.len() < 2 => numbers.push(number.replace(['_', ','], "").parse().map_err(|_| word)?),
+                _ => return Err(word),
             }
         }
-        match numbers[..] {
-            [] => Some(Asked { cases: 10_000, seed: 1, every, stand_in }),
-            [cases] => Some(Asked { cases, seed: 1, every, stand_in }),
-            [cases, seed] => Some(Asked { cases, seed, every, stand_in }),
-            _ => None,
-        }
+        let (cases, seed) = (*numbers.first().unwrap_or(&10_000), *numbers.get(1).unwrap_or(&1));
+        Ok(Asked { cases, seed, every, stand_in })
     }
 
     /// Compares case after case up to the first difference.

@@ -20,7 +20,7 @@ pub enum Question {
     /// Characters, for the line reader.
     ReadLine { line: Vec<u8>, frame: usize },
     /// A frame, for the line writer.
-    WriteLine { frame: Vec<u64>, out: usize },
+    WriteLine { frame: Vec<u64>, out: usize, written: usize },
     /// Rows, for the report writer.
     Report { rows: Vec<u64>, count: u64, out: usize, written: usize },
     /// A number and a line, for the writer of a refusal.
@@ -61,7 +61,7 @@ impl Case {
         match &self.question {
             Question::Engines { trace, limits, spare } => lender.engines(library, trace, *limits, *spare),
             Question::ReadLine { line, frame } => lender.read_line(library, line, *frame),
-            Question::WriteLine { frame, out } => lender.write_line(library, frame, *out),
+            Question::WriteLine { frame, out, written } => lender.write_line(library, frame, [*out, *written]),
             Question::Report { rows, count, out, written } => lender.report(library, rows, *count, [*out, *written]),
             Question::Refusal { number, line, out, written } => {
                 lender.refusal(library, [*number, *line], [*out, *written])
@@ -110,11 +110,12 @@ impl Lender {
         Outcome { codes: vec![("line reader", code)], bytes: vec![line], numbers: vec![frame] }
     }
 
-    fn write_line(&mut self, library: &dyn Library, frame: &[u64], out: usize) -> Outcome {
+    fn write_line(&mut self, library: &dyn Library, frame: &[u64], [out, written]: [usize; 2]) -> Outcome {
         let mut frame = self.numbers("frame", frame.len()).holding(frame);
         let mut out = self.bytes("output", out);
-        let code = library.write_line(frame.lent(), out.lent());
-        Outcome { codes: vec![("line writer", code)], bytes: vec![out], numbers: vec![frame] }
+        let mut written = self.numbers("count of characters", written);
+        let code = library.write_line(frame.lent(), out.lent(), written.lent());
+        Outcome { codes: vec![("line writer", code)], bytes: vec![out], numbers: vec![frame, written] }
     }
 
     fn report(&mut self, library: &dyn Library, rows: &[u64], count: u64, [out, written]: [usize; 2]) -> Outcome {

@@ -107,7 +107,7 @@ fn write_line(rng: &mut Rng) -> Question {
         frame[field] = rng.pick(&[0, 1, 0xff, 0x100, 0xffff, 0x1_0000, 0xffff_ffff, 0x1_0000_0000, u64::MAX]);
     }
     frame.resize(near(rng, 5), 0);
-    Question::WriteLine { frame, out: near(rng, CHARS) }
+    Question::WriteLine { frame, out: near(rng, CHARS), written: near(rng, 1) }
 }
 
 /// Fields that mostly keep to the table.

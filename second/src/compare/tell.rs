@@ -27,7 +27,9 @@ impl Display for Case {
                 trace.chunks(CHARS).enumerate().try_for_each(|(n, line)| writeln!(f, "{n:6}  {}", shown(line)))
             }
             Question::ReadLine { line, frame } => writeln!(f, "read {}; frame of {frame}", shown(line)),
-            Question::WriteLine { frame, out } => writeln!(f, "write {frame:x?}; output of {out}"),
+            Question::WriteLine { frame, out, written } => {
+                writeln!(f, "write {frame:x?}; output of {out}, count of {written}")
+            }
             Question::Report { rows, count, out, written } => {
                 let (given, room) = (rows.len(), format!("output of {out}, count of {written}"));
                 writeln!(f, "report of {count} sites from {given} row numbers; {room}\nrows: {rows:x?}")

@@ -1,27 +1,31 @@
 -- `nyolifuwe::nyo_write_line` meets its contract: each answer is what is decided by the tests that led to it. Assumes nothing.
-use Prim.Native.Nat.{ℕ, _≤_}
-use mathlib.Core.List.{List, _++_}
+use Prim.Native.Nat.{_≤_}
 use mathlib.Core.Path.{_≡_, ap, _∙_, sym}
 use native.Mathlib.Omega.{arith}
-use lib.ListN.{length, drop}
+use lib.ListN.{length}
 use Rattle.line.specs.Write.{writeChars}
-use Rattle.report.specs.Room.{Decision, leave}
+use Rattle.report.specs.Room.{write, fitting}
 use Rattle.report.proofs.Decisions.{fitting-text}
 use Rattle.nyolifuwe.specs.Lines.{fieldsIn}
-use Rattle.nyolifuwe.proofs.Decided.{refused, given, write-4-frame, write-4-out, write-framed, write-refused, framed-at-0, chars-length}
+use Rattle.nyolifuwe.proofs.Decided.{untold, tells, fitting-at-0, write-4-frame, write-4-out, write-4-count, write-framed, write-refused, framed-at-0, chars-length}
 use borrow.Author.Needs.{needs}
 use Rattle.nyolifuwe.proofs.nyo_write_line.Statement.{statement}
 use Rattle.nyolifuwe.proofs.nyo_write_line.Tie as tie
 
 returns : tie.Need-returns
 returns c =
-    let a = c .before .before .before .args in
-    refused 4 0 (a .out .now) (write-4-frame (a .frame .now) (length (a .out .now)) (c .if1 .taken))
+    let a = c .before .before .before .before .args in
+    untold 4 0 (a .out .now) (a .written .now) (write-4-frame (a .frame .now) (length (a .out .now)) (length (a .written .now)) (c .if1 .taken))
 
 returns-2 : tie.Need-returns-2
 returns-2 c =
-    let a = c .before .before .before .before .args in
-    refused 4 0 (a .out .now) (write-4-out (a .frame .now) (length (a .out .now)) (c .before .if1 .left) (c .if2 .taken))
+    let a = c .before .before .before .before .before .args in
+    untold 4 0 (a .out .now) (a .written .now) (write-4-out (a .frame .now) (length (a .out .now)) (length (a .written .now)) (c .before .if1 .left) (c .if2 .taken))
+
+returns-3 : tie.Need-returns-3
+returns-3 c =
+    let a = c .before .before .before .before .before .before .args in
+    untold 4 0 (a .out .now) (a .written .now) (write-4-count (a .frame .now) (length (a .out .now)) (length (a .written .now)) (c .before .before .if1 .left) (c .before .if2 .left) (c .if3 .taken))
 
 shared-slice-read-frame-of : tie.Need-shared-slice-read-frame-of
 shared-slice-read-frame-of c = search needs
@@ -53,32 +57,42 @@ slice-aggregate-put-text c = search needs
 put-text-requires : tie.Need-put-text-requires
 put-text-requires c κs = search needs
 
+tell-requires : tie.Need-tell-requires
+tell-requires c κs =
+    let a = c .before .before .before .before .before .before .before .before .before .before .before .before .before .before .before .before .before .before .before .before .before .before .before .args in
+    (fitting-at-0 (c .before .before .before .before .before .before .before .write-line .result .chars) (length (a .out .now)) (c .before .before .before .put-text .ensures .answered), c .before .before .before .before .before .before .before .before .before .before .before .before .before .before .before .before .before .if3 .left)
+
 enum-known-number : tie.Need-enum-known-number
 enum-known-number c = search needs
 
 code-requires : tie.Need-code-requires
-code-requires c κs = framed-at-0 (fieldsIn (c .before .before .before .before .before .before .before .before .before .before .before .before .before .args .frame .now)) _ _ (sym (c .before .before .before .frame-of .ensures) ∙ c .before .number .given .1)
+code-requires c κs =
+    let a = c .before .before .before .before .before .before .before .before .before .before .before .before .before .before .before .args in
+    framed-at-0 (fieldsIn (a .frame .now)) _ _ (sym (c .before .before .before .frame-of .ensures) ∙ c .before .number .given .1)
 
 same-length : tie.Need-same-length
 same-length c = search needs
 
-returns-3 : tie.Need-returns-3
-returns-3 c =
-    let a = c .before .before .before .before .before .before .before .before .before .before .before .before .before .before .before .before .before .before .before .before .args in
-    let v = c .before .before .before .before .before .before .before .before .f .given in
-    let f = v .0 .1 .0 in
-    let decided = write-framed (a .frame .now) (length (a .out .now)) (c .before .before .before .before .before .before .before .before .before .before .before .before .before .before .before .before .before .if1 .left) (c .before .before .before .before .before .before .before .before .before .before .before .before .before .before .before .before .if2 .left) _ f (sym (c .before .before .before .before .before .before .before .before .before .before .frame-of .ensures) ∙ v .1) in
-    let s = c .before .before .before .before .before .before .write-line .result .chars in
-    let is : s ≡ writeChars f = c .before .before .before .before .before .before .write-line .ensures .1 in
-    let fit : length s ≤ length (a .out .now) = omega (arith, ap length is, chars-length f) in
-    given (writeChars f) (a .out .now) _ decided
-    (c .before .before .put-text .ensures .left ∙ ap (λ (d : Decision). leave d (a .out .now)) (fitting-text s (length (a .out .now)) fit) ∙ ap (λ (l : List ℕ). l ++ drop (length l) (a .out .now)) is)
+same-length-2 : tie.Need-same-length-2
+same-length-2 c = search needs
 
 returns-4 : tie.Need-returns-4
 returns-4 c =
-    let a = c .before .before .before .before .before .before .before .before .before .before .before .before .before .before .args in
-    let decided = write-refused (a .frame .now) (length (a .out .now)) (c .before .before .before .before .before .before .before .before .before .before .before .if1 .left) (c .before .before .before .before .before .before .before .before .before .before .if2 .left) _ _ (sym (c .before .before .before .before .frame-of .ensures) ∙ c .before .before .number .given .1) in
-    rw (c .code .ensures) (refused _ _ (a .out .now) decided)
+    let a = c .before .before .before .before .before .before .before .before .before .before .before .before .before .before .before .before .before .before .before .before .before .before .before .before .before .before .args in
+    let v = c .before .before .before .before .before .before .before .before .before .before .before .before .f .given in
+    let f = v .0 .1 .0 in
+    let decided = write-framed (a .frame .now) (length (a .out .now)) (length (a .written .now)) (c .before .before .before .before .before .before .before .before .before .before .before .before .before .before .before .before .before .before .before .before .before .before .if1 .left) (c .before .before .before .before .before .before .before .before .before .before .before .before .before .before .before .before .before .before .before .before .before .if2 .left) (c .before .before .before .before .before .before .before .before .before .before .before .before .before .before .before .before .before .before .before .before .if3 .left) _ f (sym (c .before .before .before .before .before .before .before .before .before .before .before .before .before .before .frame-of .ensures) ∙ v .1) in
+    let s = c .before .before .before .before .before .before .before .before .before .before .write-line .result .chars in
+    let is : s ≡ writeChars f = c .before .before .before .before .before .before .before .before .before .before .write-line .ensures .1 in
+    let fit : length s ≤ length (a .out .now) = omega (arith, ap length is, chars-length f) in
+    rw (decided ∙ ap write (sym is) ∙ sym (fitting-text s (length (a .out .now)) fit))
+    (tells (fitting s (length (a .out .now))) (c .before .before .before .before .before .before .put-text .ensures) (c .before .before .tell .ensures .0) (c .before .before .tell .ensures .1))
+
+returns-5 : tie.Need-returns-5
+returns-5 c =
+    let a = c .before .before .before .before .before .before .before .before .before .before .before .before .before .before .before .before .args in
+    let decided = write-refused (a .frame .now) (length (a .out .now)) (length (a .written .now)) (c .before .before .before .before .before .before .before .before .before .before .before .before .if1 .left) (c .before .before .before .before .before .before .before .before .before .before .before .if2 .left) (c .before .before .before .before .before .before .before .before .before .before .if3 .left) _ _ (sym (c .before .before .before .before .frame-of .ensures) ∙ c .before .before .number .given .1) in
+    rw (c .code .ensures) (untold _ _ (a .out .now) (a .written .now) decided)
 
 pub nyo-write-line-spec : {M : Type 1} → statement M
 nyo-write-line-spec =
@@ -86,6 +100,7 @@ nyo-write-line-spec =
     (tie.spec
     returns
     returns-2
+    returns-3
     shared-slice-read-frame-of
     shared-slice-read-frame-of-2
     shared-slice-read-frame-of-3
@@ -96,8 +111,10 @@ nyo-write-line-spec =
     write-line-requires
     slice-aggregate-put-text
     put-text-requires
+    tell-requires
     enum-known-number
     code-requires
     same-length
-    returns-3
-    returns-4)
+    same-length-2
+    returns-4
+    returns-5)
