@@ -9,7 +9,8 @@ usage() {
 usage: profile [FILE]
        profile --help | --version
 
-Prints the report of the trace in FILE; FILE is -, or left out, for standard input.
+Prints the report of the trace in FILE, or of the one on standard input where FILE is -
+or, away from a terminal, left out.
 A report has a line for the root and for each site: its row, then calls, work, span,
 local and on span, in hexadecimal. A trace that breaks a rule gets one line instead:
 ff, the number of the refusal, and the line of the trace, from 0. Standard error then
@@ -88,7 +89,7 @@ esac
 
 program=target/bin/profile
 log=target/profile.log
-# what was built: no younger than the sources that were read, it holds the emulator's folder, where one is needed
+# made as a build begins and kept where it succeeds; holds the emulator's folder, where one is needed
 stamp=target/profile.stamp
 
 # whether the program is there and can be started, and no source is newer
@@ -114,7 +115,8 @@ build() {
 
 # builds where that is needed; of two runs at once the second waits, and finds the program built
 if ! is_built; then
-    command -v rt >/dev/null || fail 'the program cannot be built: rt, the command of the Rattle kit, is not on the path'
+    command -v rt >/dev/null ||
+        fail 'the program cannot be built: rt, the command of the Rattle kit, is not on the path'
     mkdir -p target 2>/dev/null && { command exec 9>target/profile.lock; } 2>/dev/null ||
         fail "the program cannot be built: $PWD/target cannot be written"
     if command -v flock >/dev/null && ! flock -n 9; then

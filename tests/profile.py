@@ -174,7 +174,8 @@ def the_rules_traces():
     for letter, (words, work, span, on_span) in TWELVE.items():
         trace = PLACES + events(words) + RETURN
         rows = columns(printed(trace.encode()))
-        expect(letter, ([numbers[1:3] for numbers in rows[:1]], [numbers[4] for numbers in rows]), ([[work, span]], on_span))
+        totals, column_5 = [numbers[1:3] for numbers in rows[:1]], [numbers[4] for numbers in rows]
+        expect(letter, (totals, column_5), ([[work, span]], on_span))
         if letter == "I":
             expect("I's lines", trace, CASE_I)
         if letter == "K":
@@ -190,7 +191,8 @@ def the_examples():
     reports = dict(re.findall(r"^## `([^`]+)`.*?^```\n(0000.*?)^```$", page, re.M | re.S))
     expect("case I on the page", reports.get("case-i.trace"), CASE_I_REPORT)
     shown = sorted([*refusals, *reports])
-    expect("every example is on the page", shown, sorted(path.name for path in EXAMPLES.iterdir() if path.name != "README.md"))
+    there = sorted(path.name for path in EXAMPLES.iterdir() if path.name != "README.md")
+    expect("every example is on the page", shown, there)
     for name in shown:
         path = EXAMPLES / name
         trace = subprocess.run(["sh", path], capture_output=True).stdout if path.suffix == ".sh" else path.read_bytes()
@@ -208,7 +210,7 @@ def the_limits():
     expect("call 0", printed((sites(1) + call(0) + RETURN + RETURN).encode()), refusal(11, 1))
     expect("cost 0", printed((cost(0) + RETURN).encode()), refusal(6, 0))
 
-    # 31 calls in one another and the root are 32 open; each call's work is the innermost cost of 5, so row 1 has 31 times 5
+    # 31 calls in one another and the root are 32 open; each call's work is the innermost cost of 5, so row 1 has 155
     deepest = sites(1) + 31 * call(1) + cost(5) + 31 * RETURN + RETURN
     expect("D invocations open", printed(deepest.encode()), row(0, 1, 5, 5, 0, 0) + row(1, 31, 155, 155, 5, 5))
     deeper = sites(1) + 32 * call(1) + 32 * RETURN + RETURN
@@ -311,8 +313,8 @@ def the_card():
     too_long = said(
         "refusal 3, line 0: more than 65,536 lines; for the report program more than 65,527 bytes, which are 2,849 "
         "lines",
-        'what to do: up to 65,536 lines use the library or its C example (README.md, "Larger traces"), beyond that trace a '
-        "shorter run; a trace cannot be split, since a chain crosses the cut",
+        'what to do: up to 65,536 lines use the library or its C example (README.md, "Larger traces"), beyond that '
+        "trace a shorter run; a trace cannot be split, since a chain crosses the cut",
     )
     expect("the card's words for 3", run(b"?" * 65528), (REFUSAL, refusal(3, 0), too_long))
 
