@@ -1,11 +1,19 @@
 #!/usr/bin/env python3
-"""Runs ./profile on the examples, on the rules' own traces and on traces at each limit, and holds what it prints to what the rules say.
+"""Runs ./profile on the examples, on the rules' own traces, on traces at each limit and where input or output fails,
+and holds what it prints to what the rules say, and its status and words to docs/CARD.md.
 
-The expected output is typed from the rules and from examples/README.md, or worked out by hand where a comment says how; nothing is taken from a
-program. The last line is 'N passed, 0 failed'; the exit status is 1 where a test fails.
+The expected output is typed from the rules and from the pages, or worked out by hand where a comment says how; nothing
+is taken from a program. The last line is 'N passed, 0 failed'; the exit status is 1 where a test fails.
 """
 
+import fcntl
+import os
+import platform
+import pty
 import re
+import shutil
+import signal
+import socket
 import subprocess
 import sys
 import tempfile
@@ -15,6 +23,9 @@ from pathlib import Path
 TOP = Path(__file__).resolve().parent.parent
 PROFILE = TOP / "profile"
 EXAMPLES = TOP / "examples"
+CARD = (TOP / "docs" / "CARD.md").read_text()
+
+REPORT, REFUSAL, USAGE, FAILED = 0, 1, 2, 3
 
 passed = failed = 0
 
@@ -28,16 +39,33 @@ def expect(name, got, wanted):
         print(f"{name}: got {got!r}, wanted {wanted!r}")
 
 
-def run(trace=b"", words=(), folder=TOP, program=PROFILE):
-    return subprocess.run([program, *words], input=trace, capture_output=True, cwd=folder)
+def run(trace=b"", words=(), folder=TOP, program=(PROFILE,), **more):
+    """What came of a run: its status, standard output and standard error; nothing, where it does not end."""
+    try:
+        done = subprocess.run([*program, *words], input=trace, capture_output=True, cwd=folder, timeout=60, **more)
+    except subprocess.TimeoutExpired:
+        return None, "", ""
+    return done.returncode, done.stdout.decode(), done.stderr.decode()
+
+
+def said(*sentences):
+    """Sentences on standard error."""
+    return "".join(f"profile: {sentence}\n" for sentence in sentences)
+
+
+def words_of(number, line):
+    """What the card has the program say of a refusal."""
+    rows = re.findall(r"^\| (\d+) \| [^|]*\| ([^|]+) \| ([^|]+) \|", CARD, re.M)
+    ((says, todo),) = [row[1:] for row in rows if int(row[0]) == number]
+    return said(f"refusal {number}, line {line}: {says}", f"what to do: {todo}")
 
 
 def printed(trace):
-    """What is printed for a trace, which is a normal answer: status 0 and no message."""
-    done = run(trace)
-    if done.returncode or done.stderr:
-        return done
-    return done.stdout.decode()
+    """What is printed for a trace, where status and words are right for it."""
+    status, out, err = run(trace)
+    refused = re.fullmatch("ff([0-9a-f]{2})([0-9a-f]{8})\n", out)
+    wanted = (REFUSAL, words_of(int(refused[1], 16), int(refused[2], 16))) if refused else (REPORT, "")
+    return out if (status, err) == wanted else (status, out, err)
 
 
 # ---- traces as the rules write them
@@ -146,7 +174,8 @@ def the_rules_traces():
     for letter, (words, work, span, on_span) in TWELVE.items():
         trace = PLACES + events(words) + RETURN
         rows = columns(printed(trace.encode()))
-        expect(letter, ([numbers[1:3] for numbers in rows[:1]], [numbers[4] for numbers in rows]), ([[work, span]], on_span))
+        totals, column_5 = [numbers[1:3] for numbers in rows[:1]], [numbers[4] for numbers in rows]
+        expect(letter, (totals, column_5), ([[work, span]], on_span))
         if letter == "I":
             expect("I's lines", trace, CASE_I)
         if letter == "K":
@@ -162,7 +191,8 @@ def the_examples():
     reports = dict(re.findall(r"^## `([^`]+)`.*?^```\n(0000.*?)^```$", page, re.M | re.S))
     expect("case I on the page", reports.get("case-i.trace"), CASE_I_REPORT)
     shown = sorted([*refusals, *reports])
-    expect("every example is on the page", shown, sorted(path.name for path in EXAMPLES.iterdir() if path.name != "README.md"))
+    there = sorted(path.name for path in EXAMPLES.iterdir() if path.name != "README.md")
+    expect("every example is on the page", shown, there)
     for name in shown:
         path = EXAMPLES / name
         trace = subprocess.run(["sh", path], capture_output=True).stdout if path.suffix == ".sh" else path.read_bytes()
@@ -180,7 +210,7 @@ def the_limits():
     expect("call 0", printed((sites(1) + call(0) + RETURN + RETURN).encode()), refusal(11, 1))
     expect("cost 0", printed((cost(0) + RETURN).encode()), refusal(6, 0))
 
-    # 31 calls in one another and the root are 32 open; each call's work is the innermost cost of 5, so row 1 has 31 times 5
+    # 31 calls in one another and the root are 32 open; each call's work is the innermost cost of 5, so row 1 has 155
     deepest = sites(1) + 31 * call(1) + cost(5) + 31 * RETURN + RETURN
     expect("D invocations open", printed(deepest.encode()), row(0, 1, 5, 5, 0, 0) + row(1, 31, 155, 155, 5, 5))
     deeper = sites(1) + 32 * call(1) + 32 * RETURN + RETURN
@@ -202,41 +232,214 @@ def the_limits():
 
 # ---- the command
 
+SHELLS = [shell for shell in ("sh", "dash", "bash") if shutil.which(shell)]
+MORE = "usage: profile [FILE]; profile --help says more"
+UNWRITTEN = (FAILED, "", said("standard output cannot be written"))
+CLOSED = (FAILED, "", said("standard input is closed"))
+UNREAD = (FAILED, "", said("the input cannot be read"))
+CASE_I_REPORTED = (REPORT, CASE_I_REPORT, "")
+REFUSED_14 = (
+    REFUSAL,
+    refusal(14, 4),
+    said(
+        "refusal 14, line 4: the lines end before the root's return",
+        "what to do: the trace was cut at a line's end; send it again",
+    ),
+)
+UNHEARD_14 = (REFUSAL, refusal(14, 4), "")
+
+# the words and redirections of a command line, and what comes of it with nothing on standard input
+COMMANDS = {
+    "examples/case-i.trace": CASE_I_REPORTED,
+    "-- examples/case-i.trace": CASE_I_REPORTED,
+    "- <examples/case-i.trace": CASE_I_REPORTED,
+    "examples/case-i.trace <&-": CASE_I_REPORTED,
+    "examples/case-i.trace 2>&-": CASE_I_REPORTED,
+    "examples/refusal-14.trace": REFUSED_14,
+    "examples/refusal-14.trace 2>&-": UNHEARD_14,
+    "examples/refusal-14.trace 2>/dev/full": UNHEARD_14,
+    "--version": (0, "profile 0.1\n", ""),
+    "-x": (USAGE, "", said("-x: no such option", MORE)),
+    "--depth 64": (USAGE, "", said("--depth: no such option", MORE)),
+    "one two": (USAGE, "", said("one FILE at a time, not 2: one two", MORE)),
+    "-x 2>&-": (USAGE, "", ""),
+    "missing.trace": (FAILED, "", said("missing.trace: no such file")),
+    "-- -x": (FAILED, "", said("-x: no such file")),
+    "missing.trace 2>&-": (FAILED, "", ""),
+    "examples": (FAILED, "", said("examples: is a folder")),
+    "/proc/self/mem": UNREAD,
+    "<examples": UNREAD,
+    "- <examples": UNREAD,
+    "<&-": CLOSED,
+    "- <&-": CLOSED,
+    "<&- 2>&-": (FAILED, "", ""),
+    "examples/case-i.trace >/dev/full": UNWRITTEN,
+    "examples/refusal-14.trace >/dev/full": UNWRITTEN,
+    "examples/case-i.trace >&-": UNWRITTEN,
+    "examples/case-i.trace <&- >&-": UNWRITTEN,
+    "--help >/dev/full": UNWRITTEN,
+    "--version >&-": UNWRITTEN,
+}
+
 
 def the_command():
-    told = run(words=["--help"])
-    expect("--help", (told.returncode, told.stdout[:21], told.stderr), (0, b"usage: profile [FILE]", b""))
-    wrong = run(words=["one", "two"])
-    expect("two files", (wrong.returncode, wrong.stdout, wrong.stderr), (2, b"", told.stdout))
-    missing = run(words=["missing.trace"])
-    expect("a missing file", (missing.returncode, missing.stdout, missing.stderr), (1, b"", b"profile: missing.trace: no such file\n"))
-    folder = run(words=["examples"])
-    expect("a folder", (folder.returncode, folder.stdout, folder.stderr), (1, b"", b"profile: examples: is a folder\n"))
-    refused = run(words=["examples/refusal-14.trace"])
-    expect("a refusal", (refused.returncode, refused.stdout, refused.stderr), (0, refusal(14, 4).encode(), b""))
-    near = run(words=["case-i.trace"], folder=EXAMPLES)
-    expect("a file of another folder", (near.returncode, near.stdout, near.stderr), (0, CASE_I_REPORT.encode(), b""))
+    for shell in SHELLS:
+        for words, wanted in COMMANDS.items():
+            program = ("sh", "-c", f'exec "$@" {words}', "sh", shell, PROFILE)
+            expect(f"{shell} profile {words}", run(program=program), wanted)
+    status, help_text, err = run(words=["--help"])
+    expect("--help", (status, help_text[:21], err), (0, "usage: profile [FILE]", ""))
+    expect("--help has each status", re.findall(r"^  (\d)  ", help_text, re.M), ["0", "1", "2", "3"])
+    expect("the card has each status", re.findall(r"^- (\d): ", CARD, re.M), ["0", "1", "2", "3"])
+    expect("a file of another folder", run(words=["case-i.trace"], folder=EXAMPLES), CASE_I_REPORTED)
     with tempfile.TemporaryDirectory() as room:
-        trace = Path(room) / "a trace"
-        trace.write_text(CASE_I)
-        link = Path(room) / "link"
-        link.symlink_to(PROFILE)
-        far = run(words=["a trace"], folder=room, program=link)
-        expect("through a link", (far.returncode, far.stdout, far.stderr), (0, CASE_I_REPORT.encode(), b""))
+        (Path(room) / "a trace").write_text(CASE_I)
+        (Path(room) / "link").symlink_to(PROFILE)
+        (Path(room) / "far").symlink_to("link")
+        expect("through links", run(words=["a trace"], folder=room, program=(f"{room}/far",)), CASE_I_REPORTED)
+        os.mkfifo(f"{room}/pipe")
+        feed = ("sh", "-c", 'cat "$1" >"$2" & exec "$3" "$2"', "sh", f"{room}/a trace", f"{room}/pipe", PROFILE)
+        expect("a named pipe", run(program=feed), CASE_I_REPORTED)
+        with socket.socket(socket.AF_UNIX) as there:
+            there.bind(f"{room}/socket")
+            expect("a socket", run(words=["socket"], folder=room), (FAILED, "", said("socket: cannot be read")))
+
+
+def the_card():
+    """What the card says of line ends (24 characters a line: 2; but 23 such lines: 5 in line 0) and of long traces."""
+    ten, more = CASE_I.replace("\n", "\r\n"), (22 * cost(1) + RETURN).replace("\n", "\r\n")
+    expect("ten lines that end in CR LF", printed(ten.encode()), refusal(2, 0))
+    expect("23 lines that end in CR LF", printed(more.encode()), refusal(5, 0))
+    too_long = said(
+        "refusal 3, line 0: more than 65,536 lines; for the report program more than 65,527 bytes, which are 2,849 "
+        "lines",
+        'what to do: up to 65,536 lines use the library or its C example (README.md, "Larger traces"), beyond that '
+        "trace a shorter run; a trace cannot be split, since a chain crosses the cut",
+    )
+    expect("the card's words for 3", run(b"?" * 65528), (REFUSAL, refusal(3, 0), too_long))
+
+
+def the_terminal():
+    """At a terminal no argument is wrong usage; - reads what is typed, up to one control-D."""
+    keys, terminal = pty.openpty()
+    unnamed = subprocess.run([PROFILE], stdin=terminal, capture_output=True)
+    wanted = (USAGE, b"", said("no trace: name a FILE, or - for standard input", MORE).encode())
+    expect("no argument at a terminal", (unnamed.returncode, unnamed.stdout, unnamed.stderr), wanted)
+    typed = subprocess.Popen([PROFILE, "-"], stdin=terminal, stdout=subprocess.PIPE)
+    os.write(keys, CASE_I.encode() + b"\x04")
+    try:
+        report = typed.communicate(timeout=60)[0].decode()
+        expect("- at a terminal", (typed.returncode, report), (REPORT, CASE_I_REPORT))
+    finally:
+        typed.kill()
+        os.close(keys)
+        os.close(terminal)
+
+
+# ---- when it is built
+
+# a stand-in for rt: builds by a copy, in SECONDS_TO_BUILD, and counts its builds; fails where BROKEN is set
+STAND_IN = """\
+#!/bin/sh
+[ "$1" = check ] || exec '{rt}' "$@"
+touch started
+sleep "${{SECONDS_TO_BUILD:-0}}"
+[ -z "${{BROKEN:-}}" ] || exit 1
+echo built >>builds
+mkdir -p target/bin
+cp '{program}' target/bin/profile
+echo 'rt: profile proved'
+"""
+BUILDING = ("proving and building the program: some minutes, once", "profile proved")
+TOOLS = "bash cat cp dirname find flock mkdir mv readlink rm sh sleep tail touch uname".split()
+
+
+def the_builds():
+    """The script in a folder of its own, with a stand-in for rt, or no rt."""
+    with tempfile.TemporaryDirectory() as name:
+        room = Path(name)
+        program = (room / "profile",)
+        for folder in ("crates/one/src", "crates/one/must-fail", "docs", "tools", "kit"):
+            (room / folder).mkdir(parents=True)
+        source = room / "crates/one/src/lib.rt"
+        for path in (source, room / "crates/one/must-fail/wrong.rt", room / "crates.txt"):
+            path.touch()
+        shutil.copy(PROFILE, room)
+        shutil.copy(TOP / "docs/CARD.md", room / "docs")
+        for tool in filter(shutil.which, TOOLS):
+            (room / "tools" / tool).symlink_to(shutil.which(tool))
+        (room / "kit/rt").write_text(STAND_IN.format(rt=shutil.which("rt"), program=TOP / "target/bin/profile"))
+        (room / "kit/rt").chmod(0o755)
+        without = {"PATH": f"{room}/tools"}
+        quick = {"PATH": f"{room}/tools:{room}/kit"}
+
+        def builds():
+            return (room / "builds").read_text().count("built") if (room / "builds").exists() else 0
+
+        def begin(seconds):
+            """A run that builds for so long, when it has begun to."""
+            slow = {**quick, "SECONDS_TO_BUILD": str(seconds)}
+            unheard = dict.fromkeys(("stdin", "stdout", "stderr"), subprocess.DEVNULL)
+            (room / "started").unlink(missing_ok=True)
+            first = subprocess.Popen(program, env=slow, start_new_session=True, **unheard)
+            while not (room / "started").exists() and first.poll() is None:
+                time.sleep(0.01)
+            return first
+
+        trace = CASE_I.encode()
+        no_rt = (FAILED, "", said("the program cannot be built: rt, the command of the Rattle kit, is not on the path"))
+        expect("nothing built and no rt", run(trace, program=program, env=without), no_rt)
+
+        killed = begin(600)
+        os.killpg(killed.pid, signal.SIGKILL)
+        killed.wait()
+        with open(room / "target/profile.lock") as lock:
+            fcntl.flock(lock, fcntl.LOCK_EX)  # free when the last of the killed is gone
+        built = (REPORT, CASE_I_REPORT, said(*BUILDING))
+        expect("after a killed build", (run(trace, program=program, env=quick), builds()), (built, 1))
+        expect("once built, without rt", run(trace, program=program, env=without), CASE_I_REPORTED)
+        (room / "crates/one/must-fail/wrong.rt").touch()
+        expect("a wrong program is no source", run(trace, program=program, env=without), CASE_I_REPORTED)
+
+        source.touch()
+        expect("a newer source and no rt", run(trace, program=program, env=without), no_rt)
+        unbuilt = said(BUILDING[0], f"the program cannot be built: {room}/target/profile.log says why")
+        expect("a build that fails", run(trace, program=program, env={**quick, "BROKEN": "1"}), (FAILED, "", unbuilt))
+        if shutil.which("flock"):
+            first = begin(1)
+            second = run(trace, program=program, env=quick)
+            waited = (REPORT, CASE_I_REPORT, said("waiting for another run, which builds the program"))
+            expect("two runs at once", (second, first.wait(), builds()), (waited, REFUSAL, 2))
 
 
 def the_start():
-    """Once built the program starts in well under 0.2 s; the best of ten, since the machine may be busy."""
+    """Once built, a start takes a few milliseconds; the least processor time of ten, with much to spare."""
     times = []
     for _ in range(10):
-        begin = time.monotonic()
+        before = os.times()
         run(RETURN.encode())
-        times.append(time.monotonic() - begin)
-    expect(f"it starts at once ({min(times):.3f} s)", min(times) < 0.2, True)
+        after = os.times()
+        times.append(after.children_user + after.children_system - before.children_user - before.children_system)
+    expect(f"it starts at once ({min(times):.3f} s)", min(times) < 0.05, True)
+
+
+def the_program():
+    """The program without the script: where input or output fails it says so, and gives no answer."""
+    bare = TOP / "target/bin/profile"
+    if platform.machine() != "x86_64":
+        return
+    for words, wanted in {
+        "<examples/case-i.trace": (0, CASE_I_REPORT, ""),
+        "<examples": (0, "", said("the input cannot be read")),
+        "<&-": (0, "", said("the input cannot be read")),
+        "<examples/case-i.trace >/dev/full": (0, "", said("the answer cannot be written")),
+        "<examples/case-i.trace >&-": (0, "", said("the answer cannot be written")),
+    }.items():
+        expect(f"the program {words}", run(program=("sh", "-c", f'exec "$@" {words}', "sh", bare)), wanted)
 
 
 def main():
-    built = subprocess.run([PROFILE], stdin=subprocess.DEVNULL, stdout=subprocess.DEVNULL)
+    built = subprocess.run([PROFILE], input=RETURN.encode(), stdout=subprocess.DEVNULL)
     if built.returncode:
         print("0 passed, 1 failed")
         return 1
@@ -244,6 +447,10 @@ def main():
     the_examples()
     the_limits()
     the_command()
+    the_card()
+    the_terminal()
+    the_program()
+    the_builds()
     the_start()
     print(f"{passed} passed, {failed} failed")
     return 1 if failed else 0
