@@ -10,16 +10,11 @@ use Rattle.line.specs.declared.Frame.{Frame}
 use Rattle.trace.specs.Shape.{sites}
 use Rattle.trace.specs.Refusals.{accepted, refused, verdict}
 use Rattle.trace.specs.Refusals.{Verdict as Judgement}
-use Rattle.trace.specs.Promise.{Engine, Lent, enough}
 use Rattle.trace.proofs.Basics.{clash}
 use Rattle.trace.proofs.Scan.{Clean, faultless, accepted-fine, accepted-length}
 use Rattle.admit.specs.declared.Verdict.the-variants.{Accepted, Refused}
-use Rattle.admit.specs.Answer.{answerOf, roomy}
+use Rattle.admit.specs.Answer.{answerOf}
 use Rattle.admit.proofs.Tallies.{Numbered, numbered-start, numbered-snoc, within-snoc}
-
--- the room of the promise is the room by lengths
-pub enough-is : (e : Engine) (s : List ℕ) (D M : ℕ) (lent : Lent) → enough e s D M lent ≡ roomy e s D M (length (lent .scratch)) (length (lent .rows)) (length (lent .marks))
-enough-is e s D M lent = refl
 
 -- the answer is a refusal only where the verdict is that refusal
 pub refused-only : (v : Judgement) (number line : ℕ) → Refused number line ≡ answerOf v → v ≡ refused number line

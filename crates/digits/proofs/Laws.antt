@@ -110,9 +110,6 @@ behind-number n (c ∷ s) =
     lin : (n w p m : ℕ) → (16 * n + w) * p + m ≡ n * (p * 16) + ((16 * 0 + w) * p + m)
     lin n w p m = omega (arith, add-mul (16 * n) w p, mul-assoc 16 n p, mul-assoc n p 16)
 
-pub number-append : (s t : List ℕ) → number (s ++ t) ≡ number s * 16 ^ length t + number t
-number-append s t = behind-append 0 s t ∙ behind-number (number s) t
-
 -- a number of n digits is below 16 ^ n
 pub number-below : (s : List ℕ) → allDigits s ≡ true → number s < 16 ^ length s
 number-below [] e = omega arith

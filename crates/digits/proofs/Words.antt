@@ -1,6 +1,6 @@
 -- Laws of words: characters there and back, characters taken for digits, and leading zeros.
 -- Assumes nothing.
-use Prim.Native.Nat.{ℕ, zero, suc, _+_, _*_, _-_, _/_, _%_, _^_, _≤_, _<_, suc-le-suc, min}
+use Prim.Native.Nat.{ℕ, zero, suc, _+_, _*_, _-_, _/_, _%_, _^_, _≤_, _<_, suc-le-suc}
 use mathlib.Core.Bool.{Bool, true, cond}
 use mathlib.Core.List.{List, [], _∷_}
 use mathlib.Core.Logic.{_⊎_, inl, inr}
@@ -8,8 +8,7 @@ use mathlib.Core.Path.{_≡_, refl, ap, ap₂, _∙_, sym}
 use native.Mathlib.Nat.{pow-suc, mul-assoc, mul-comm, le-of-suc-le-suc, mod-eq-of-lt}
 use native.Mathlib.Omega.{arith}
 use borrow.Author.Tests.{eq-eqb}
-use lib.ListN.{length, take, drop, getD, replicate, length-take, length-drop}
-use lib.Seq.{getD-take, getD-drop}
+use lib.ListN.{length, drop, getD, replicate}
 use Rattle.digits.specs.Digits.{isDigit, worth, allDigits, behind, number}
 use Rattle.digits.specs.Word.{plain, plainBehind, plainly, packed, bytes, chars, eightOf, fourOf}
 use Rattle.digits.proofs.Laws.{and-left, and-right, digit-cases, figure, letter}
@@ -17,12 +16,6 @@ use Rattle.digits.proofs.Laws.{and-left, and-right, digit-cases, figure
 -- every character is a byte, as those of a lent slice of bytes are
 abbrev pub Bytes : List ℕ → Type 0
 Bytes s = (i : ℕ) → i < length s → getD s i 0 < 256
-
--- those of a part are
-pub bytes-part : (s : List ℕ) → Bytes s → (a k : ℕ) → Bytes (take k (drop a s))
-bytes-part s b a k i h =
-    let l : i < min k (length s - a) = simp (length-take, length-drop) at h in
-    rw (getD-take k (drop a s) i 0 (omega arith), getD-drop a s i 0) (b (a + i) (omega arith))
 
 -- one byte more in front
 pub bytes-cons : (c : ℕ) (s : List ℕ) → c < 256 → Bytes s → Bytes (c ∷ s)

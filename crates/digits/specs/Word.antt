@@ -1,4 +1,5 @@
--- Characters taken for digits without a look at whether they are, and characters as one number, the first in the lowest byte.
+-- For proofs, not for the reader of document 01: characters taken for digits without a look at whether they are, and
+-- characters as one number, the first in the lowest byte.
 use Prim.Native.Nat.{ℕ, zero, suc, _+_, _*_, _/_, _%_}
 use mathlib.Core.Bool.{cond}
 use mathlib.Core.List.{List, [], _∷_}

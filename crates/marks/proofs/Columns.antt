@@ -23,7 +23,7 @@ use Rattle.walk.proofs.Room.{lines-in}
 use Rattle.walk.proofs.Child.{cost-is, Child, child-is}
 use Rattle.marks.specs.declared.Present.{Present}
 use Rattle.marks.specs.Park.{Zero}
-use Rattle.marks.specs.Column.{marked, onGain, Left, left, AllStand, linesLeft, onLeft, AllWithin, behind, onLine, stacked, Held, root, entered, Returned, OnLent, LineAsks, LineLeaves, ColumnAsks, ColumnLeaves}
+use Rattle.marks.specs.Column.{marked, onGain, Left, left, AllStand, linesLeft, onLeft, AllWithin, behind, onLine, stacked, Held, HeldAfter, root, entered, Returned, OnLent, LineAsks, LineLeaves, ColumnAsks, ColumnLeaves}
 
 -- a mark decides
 pub marked-on : (x v : ℕ) → x ≡ 1 → marked x v ≡ v
@@ -113,8 +113,8 @@ stacked-zero z o [] j l = o j
 stacked-zero z o (x ∷ k) j l = getD-set-other (stacked z k) (length k) j (x .row) 0 (λ e. omega arith) ∙ stacked-zero z o k j (omega arith)
 
 -- an invocation was left: the row around it is the present one, and its number is zero again
-held-left : (z : List ℕ) → Zero z → (k : List Left) (a r : Present) (t t′ : List ℕ) → length k ≤ length z → a .around ≡ length k → t ≡ stacked z k → Returned t a r t′ → Held z k r t′
-held-left z o [] a r t t′ l e h x = x .last e .1 ∙ h
+held-left : (z : List ℕ) → Zero z → (k : List Left) (a r : Present) (t t′ : List ℕ) → length k ≤ length z → a .around ≡ length k → t ≡ stacked z k → Returned t a r t′ → HeldAfter z k a r t′
+held-left z o [] a r t t′ l e h x = (x .last e .0, x .last e .1 ∙ h)
 held-left z o (y ∷ k) a r t t′ l e h x =
     let u = stacked z k in
     let d = length k in
@@ -132,6 +132,11 @@ returned-last t a e = record { last = λ q. (refl, refl); inner = λ d q. absurd
 -- another's
 pub returned-inner : (t : List ℕ) (a : Present) → (a .around ≡ 0 → ⊥) → Returned t a (record { row = getD t (a .around - 1) 0; around = a .around - 1 }) (set t (a .around - 1) 0)
 returned-inner t a e = record { last = λ q. absurd (e q); inner = λ d q. let z : a .around - 1 ≡ d = omega arith in rw z (refl, refl) }
+
+-- what holds behind a line holds at the next
+held-next : (z : List ℕ) (k : List Left) (a r : Present) (t : List ℕ) → HeldAfter z k a r t → Held z k r t
+held-next z [] a r t h = h .1
+held-next z (x ∷ k) a r t h = h
 
 -- an invocation was entered: the row around it is in the scratch
 held-entered : (z : List ℕ) (k : List Left) (a r : Present) (t t′ : List ℕ) (row site : ℕ) (b g : Body) → Held z (left row b ∷ k) a t → r ≡ entered site a → t′ ≡ set t (a .around) (a .row) → Held z (left site g ∷ (left row b ∷ k)) r t′
@@ -170,7 +175,7 @@ module _ {s : List ℕ} {n : ℕ} {a : Present} {t m rows : List ℕ} (p : LineA
 
   -- where b is left of the innermost invocation
   abbrev Leaves : (z : List ℕ) (row : ℕ) (k : List Left) (r : Present) (t′ rows′ : List ℕ) → Body → Type 0
-  Leaves z row k r t′ rows′ b = Held z (behind row b k) r t′ × Grown rows (onLine m n row b) rows′
+  Leaves z row k r t′ rows′ b = HeldAfter z (behind row b k) a r t′ × Grown rows (onLine m n row b) rows′
 
   -- nothing is added
   grown-none : Grown rows (λ i. 0) rows
@@ -277,7 +282,7 @@ module _ {s : List ℕ} {from lines : ℕ} {z m rows₀ : List ℕ} {n : ℕ} {a
                   within = within-behind (l .sites) (l .D) (y .row) b k (l .within);
                   zero = l .zero;
                   room = l .room;
-                  held = d .0;
+                  held = held-next z (behind (y .row) b k) a r t′ (d .0);
                   rows-long = omega (arith, l .rows-long, len);
                   lines = l .lines;
                   fits = λ j h. omega (arith, l .fits j h, on-behind m n (y .row) b k (columns * j + 4), d .1 (columns * j + 4) (omega (arith, l .rows-long)));

@@ -1,4 +1,5 @@
--- The on-span column: what the second reading asks for and leaves. m are the marks.
+-- For proofs and engines, not for the reader of document 01: what the second reading, for the on-span column, asks for and
+-- leaves. m are the marks.
 use Prim.Native.Nat.{ℕ, _+_, _*_, _^_, _≤_, _<_}
 use mathlib.Core.Path.{_≡_}
 use mathlib.Core.Bool.{cond}
@@ -79,6 +80,11 @@ abbrev pub Held : List ℕ → List Left → Present → List ℕ → Type 0
 Held z [] a t = t ≡ z
 Held z (x ∷ k) a t = (a .row ≡ x .row) × (a .around ≡ length k) × (t ≡ stacked z k)
 
+-- the same behind a line at which a was the innermost; behind the root's return a stays the present one
+abbrev pub HeldAfter : List ℕ → List Left → Present → Present → List ℕ → Type 0
+HeldAfter z [] a r t = (r ≡ a) × (t ≡ z)
+HeldAfter z (x ∷ k) a r t = Held z (x ∷ k) r t
+
 -- where none is around
 abbrev pub root : Present
 root = record { row = 0; around = 0 }
@@ -116,7 +122,7 @@ pub record LineAsks (s : List ℕ) (n : ℕ) (a : Present) (t m rows : List ℕ)
 
 -- whatever invocations are open
 abbrev pub LineLeaves : (s : List ℕ) (n : ℕ) (a : Present) (t m rows : List ℕ) (r : Present) (t′ rows′ : List ℕ) → Type 0
-LineLeaves s n a t m rows r t′ rows′ = (q : LineAsks s n a t m rows) → Held (q .z) (behind (q .row) (q .body) (q .around)) r t′ × Grown rows (onLine m n (q .row) (q .body)) rows′
+LineLeaves s n a t m rows r t′ rows′ = (q : LineAsks s n a t m rows) → HeldAfter (q .z) (behind (q .row) (q .body) (q .around)) a r t′ × Grown rows (onLine m n (q .row) (q .body)) rows′
 
 -- the lines from line n on and before line e are those of the root's body
 pub record ColumnAsks (s : List ℕ) (n e : ℕ) (t m rows : List ℕ) : Type 0 where

@@ -1,4 +1,5 @@
--- What the two readers of the marks engine ask for and leave: t is the scratch from their invocation's part on, and m the marks.
+-- For proofs and engines, not for the reader of document 01: what the two readers of the marks engine ask for and leave.
+-- t is the scratch from their invocation's part on, and m the marks.
 use Prim.Native.Nat.{ℕ, _+_, _*_, _≤_}
 use mathlib.Core.Path.{_≡_}
 use mathlib.Core.List.{List}

@@ -1,4 +1,5 @@
--- The root: what the marks engine is lent, and what it learns from acceptance.
+-- What the marks engine is lent, as its promise says it; and for proofs, not for the reader of document 01, what it learns
+-- from acceptance.
 use Prim.Native.Nat.{ℕ}
 use mathlib.Core.Path.{_≡_}
 use mathlib.Core.List.{List}
@@ -8,6 +9,7 @@ use Rattle.trace.specs.Shape.{sites}
 use Rattle.trace.specs.Refusals.{verdict, accepted}
 use Rattle.trace.specs.Promise.{marks, Lent, enough}
 
+-- what the marks engine is lent
 abbrev pub lent : List ℕ → List ℕ → List ℕ → Lent
 lent t m rows = record { scratch = t; rows = rows; marks = m }
 

@@ -1,4 +1,5 @@
--- What the marks of an open invocation's lines show: three zones of lines, each with the marks of its chain.
+-- For proofs and engines, not for the reader of document 01: what the marks of an open invocation's lines show: three zones
+-- of lines, each with the marks of its chain.
 use Prim.Native.Nat.{ℕ, _≤_, _<_}
 use mathlib.Core.Path.{_≡_}
 use mathlib.Core.Bool.{cond}

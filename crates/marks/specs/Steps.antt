@@ -1,4 +1,5 @@
--- What each step of an open invocation asks for, and what it leaves, whatever chains the invocation has come to and wherever it began.
+-- For proofs and engines, not for the reader of document 01: what each step of an open invocation asks for, and what it
+-- leaves, whatever chains the invocation has come to and wherever it began.
 use Prim.Native.Nat.{ℕ, _+_, _^_, _≤_, _<_}
 use mathlib.Core.Path.{_≡_}
 use mathlib.Core.List.{List}

@@ -8,7 +8,7 @@ use native.Mathlib.Numerals.{add-one}
 use native.Mathlib.Omega.{arith}
 use borrow.Rule.Slice.PartMut.{putMid, midOf, mid-len}
 use lib.ListN.{length, take, drop, getD, length-append, length-drop, List·getD-append}
-use lib.Seq.{length-take-le, take-suc, getD-at, take-append-le, drop-append-le}
+use lib.Seq.{length-take-le, take-suc, getD-at}
 use Rattle.digits.specs.Digits.{digits}
 use Rattle.digits.proofs.Writing.{digits-length}
 use Rattle.trace.specs.Rows.{columns}
@@ -70,15 +70,6 @@ lines-same rows others (suc n) h =
     ∙ ap (λ (l : List ℕ). l ++ rowLine rows n) (lines-same rows others n (λ r l. h r (omega arith)))
     ∙ ap (λ (l : List ℕ). linesOf others (first n) ++ lineOf n l) (h n (omega arith))
     ∙ sym (flatMap-last (rowLine others) (first n) n)
-
--- what stands behind the rows makes no difference
-row-front : (rows rest : List ℕ) (r : ℕ) → columns * (r + 1) ≤ length rows → numbersOf (rows ++ rest) r ≡ numbersOf rows r
-row-front rows rest r h =
-    ap (λ (l : List ℕ). take columns l) (drop-append-le (columns * r) rows rest (omega arith))
-    ∙ take-append-le columns (drop (columns * r) rows) rest (simp length-drop (omega arith))
-
-pub lines-front : (rows rest : List ℕ) (n : ℕ) → columns * n ≤ length rows → linesOf (rows ++ rest) (first n) ≡ linesOf rows (first n)
-lines-front rows rest n h = lines-same (rows ++ rest) rows n (λ r l. row-front rows rest r (omega arith))
 
 -- a part that begins with the digits of the first k numbers, and then with those of the next one
 pub numbers-more : (numbers before part piece : List ℕ) (k : ℕ) → k < length numbers → length part ≡ 16 * length numbers

@@ -13,7 +13,7 @@ use Rattle.trace.specs.Rows.{columns}
 use Rattle.report.specs.Rows.{numbersOf, lineOf, rowLine, width}
 use Rattle.report.specs.Report.{text}
 use Rattle.report.specs.Refusal.{refusalText}
-use Rattle.report.proofs.Lines.{number-at, row-length, line-length, lines-length, line-at, lines-front}
+use Rattle.report.proofs.Lines.{number-at, row-length, line-length, lines-length, line-at}
 
 -- line r of a text; and what stands in a line, its row and its number k
 abbrev pub lineAt : List ℕ → ℕ → List ℕ
@@ -48,10 +48,6 @@ module _ (rows : List ℕ) (count : ℕ) (given : Rows rows count) where
   -- 85 characters a row
   pub text-length : length (text rows count) ≡ width * (count + 1)
   text-length = lines-length rows (count + 1) (given .enough)
-
-  -- numbers behind the rows make no difference
-  pub rest-idle : (rest : List ℕ) → text (rows ++ rest) count ≡ text rows count
-  rest-idle rest = lines-front rows rest (count + 1) (given .enough)
 
   -- line r is the line of row r
   pub line-is : (r : ℕ) → r ≤ count → lineAt (text rows count) r ≡ rowLine rows r

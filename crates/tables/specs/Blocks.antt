@@ -1,5 +1,6 @@
--- What the scratch of an open invocation holds: four blocks of n numbers, of the first three the first w in use, and its children's scratch behind those
--- that are in use.
+-- For proofs and engines, not for the reader of document 01: what an open invocation's part of the scratch holds, and its
+-- child's behind it. A block is n numbers, its first w a table. One block is in use as long as no child is the longest, then
+-- four, the last of them zero; all that lies behind the blocks in use is lent to a child.
 use Prim.Native.Nat.{ℕ, _+_, _*_, _^_, _≤_, _<_}
 use mathlib.Core.Path.{_≡_}
 use mathlib.Core.Bool.{cond}
@@ -48,12 +49,13 @@ pub record Shows (n w : ℕ) (t : List ℕ) (k : Chains) (g : List CostLine) : T
 abbrev pub sinceAt : ℕ → ℕ → ℕ
 sinceAt n longest = cond (eqb longest 0) 0 (2 * n)
 
--- where a child's part of the scratch begins: at the longest child's block as long as no child is the longest, else behind the four blocks
+-- where a child's part of the scratch begins: behind the blocks in use, one as long as no child is the longest, else four
 abbrev pub partAt : ℕ → ℕ → ℕ
 partAt n longest = cond (eqb longest 0) n (4 * n)
 
--- The scratch of an invocation that has come to the chains k, with a child's chain g at the front of the child's part. As long as no child is the longest,
--- the prefix's block is the table of the prefix and the continuation together, and the child's table stands in the longest child's block.
+-- The scratch of an invocation that has come to the chains k, with a child's chain g at the front of the child's part. As
+-- long as no child is the longest, the prefix's block is the table of the prefix and the continuation together, and the
+-- front of the child's part, which is the next block, is that of the longest child once the child has returned.
 pub record Holds (n w : ℕ) (t : List ℕ) (k : Chains) (g : List CostLine) : Type 0 where
   pub first : weight (k .l) ≡ 0 → Shows n w t (record { p = k .p ++ k .c; l = g; c = [] }) []
   pub later : (weight (k .l) ≡ 0 → ⊥) → Shows n w t k g

@@ -1,8 +1,10 @@
-// The table engine. An open invocation's part of the scratch is four blocks of n numbers. The first w numbers of a block are a table: what of a chain
-// stands in each row. The blocks are those of the prefix, the longest child and the continuation; the fourth stays zero. As long as no child is the
-// longest, the continuation's table is kept in the prefix's block, the only one in use, and a child's part begins right behind it: the table that the
-// child leaves then stands in the block of the longest child. Once a child is the longest, a child's part begins behind the four blocks. So each
-// open invocation works in its own part of the scratch: the blocks that its parent has in use lie below it.
+// The table engine. The scratch is blocks of n numbers; the first w numbers of a block are a table: what of a chain stands
+// in each row. The root is lent the whole scratch. An open invocation lends a child all that lies behind the blocks that it
+// has in use itself, and has it back when the child returns. Its part is at each moment what it was lent, without what it
+// has lent on: so each open invocation works in its own part of the scratch, and no two parts share a number.
+// As long as no child is the longest, one block is in use: the table of the prefix and the continuation together. The table
+// that a child leaves at the front of its part is then in the next block, that of the longest child. Once a child is the
+// longest, four blocks are in use: the prefix's, the longest child's, the continuation's, and one that stays zero.
 ghost use mathlib.Core.Path.{_≡_};
 ghost use Prim.Native.Nat.{ℕ, _+_, _*_, _^_, _≤_, _<_};
 ghost use lib.ListN.{length, getD};
@@ -78,7 +80,7 @@ fn since(n: usize, f: walk::Open) -> usize
     2 * n
 }
 
-// Where a child's part of the scratch begins: behind the prefix's block as long as no child is the longest, else behind the four blocks.
+// Where a child's part of the scratch begins: behind the blocks in use, one as long as no child is the longest, else four.
 fn part(n: usize, f: walk::Open) -> usize
     requires { ⌜ 4 * n < 2 ^ 64 ⌝ }
     ensures { λ r. ⌜ r ≡ partAt n (f .longest) ⌝ }

@@ -1,4 +1,5 @@
--- By how much each row number grows while a body is read: columns 1 to 4.
+-- For proofs and engines, not for the reader of document 01: by how much each row number grows while a body is read, in
+-- columns 1 to 4.
 use Prim.Native.Nat.{ℕ, _+_, _*_, _<_}
 use mathlib.Core.Path.{_≡_}
 use mathlib.Core.Bool.{Bool, cond}

@@ -1,4 +1,5 @@
--- The first item of a body: its lines, what it does, and what stands behind it.
+-- For proofs and engines, not for the reader of document 01: the first item of a body, its lines, what it does, and what
+-- stands behind it.
 use Prim.Native.Nat.{ℕ, _+_, _*_}
 use Rattle.trace.specs.Rows.{columns}
 use Rattle.trace.specs.Tree.{Body, done, spend, sync, call, spawn, size, workOf}

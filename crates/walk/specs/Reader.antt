@@ -1,4 +1,5 @@
--- What a reader of an invocation's items asks for, and what it leaves, whichever engine it serves.
+-- For proofs and engines, not for the reader of document 01: what a reader of an invocation's items asks for, and what it
+-- leaves, whichever engine it serves.
 use Prim.Native.Nat.{ℕ, _+_, _*_, _^_, _≤_, _<_}
 use mathlib.Core.Path.{_≡_}
 use mathlib.Core.List.{List, []}

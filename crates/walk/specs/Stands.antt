@@ -1,4 +1,4 @@
--- Which frames stand in a text, and what a frame's line says.
+-- For proofs and engines, not for the reader of document 01: which frames stand in a text, and what a frame's line says.
 use Prim.Native.Nat.{ℕ, _+_, _*_, _≤_}
 use mathlib.Core.Path.{_≡_}
 use mathlib.Core.List.{List, [], _∷_}

@@ -1,5 +1,7 @@
 -- `line::cost` meets its contract: what is around, no site, and a value of digits that are not all 0.
 use borrow.Author.Needs.{needs}
+use mathlib.Core.Bool.{not, _&&_}
+use mathlib.Core.Path.{ap, ap₂}
 use Rattle.line.proofs.cost.Statement.{statement}
 use Rattle.line.proofs.cost.Tie as tie
 use Rattle.line.proofs.cost.Reads as reads
@@ -49,7 +51,10 @@ around-requires : tie.Need-around-requires
 around-requires c κs = search needs
 
 returns : tie.Need-returns
-returns c = cc (c .around .ensures, c .before .eight-digits .ensures, c .before .before .before .eight-zeros .ensures, c .before .before .before .before .before .four-zeros .ensures)
+returns c =
+    ap₂ _&&_
+    (ap₂ _&&_ (ap₂ _&&_ (c .around .ensures) (c .before .before .before .before .before .four-zeros .ensures)) (c .before .eight-digits .ensures))
+    (ap not (c .before .before .before .eight-zeros .ensures))
 
 pub cost-spec : {M : Type 1} → statement M
 cost-spec =
