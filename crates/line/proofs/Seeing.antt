@@ -8,23 +8,21 @@ use mathlib.Core.Path.{_≡_, refl, ap, _∙_, sym}
 use native.Mathlib.Omega.{arith}
 use borrow.Author.Tests.{ne-eqb, eqb-true, le-leb, leb-true, not-true}
 use lib.Dec.{eqb, leb}
-use lib.ListN.{length, getD, replicate}
+use lib.ListN.{length, getD}
 use Rattle.digits.specs.Digits.{allDigits, number, digits}
-use Rattle.digits.specs.declared.read.Numeral.{Numeral}
 use Rattle.digits.specs.Read.{reading}
-use Rattle.digits.proofs.Laws.{and-left, and-right, digits-good, digits-number, number-digits}
+use Rattle.digits.proofs.Laws.{digits-good, digits-number, number-digits}
 use Rattle.line.specs.declared.Frame.{Frame}
 use Rattle.line.specs.declared.Frame.the-variants.{Site, Call, Spawn, Sync, Return, Cost}
 use Rattle.line.specs.declared.Read.{Read}
 use Rattle.line.specs.declared.Read.the-variants.{Line, Refused}
-use Rattle.line.specs.declared.Sight.{Sight}
 use Rattle.line.specs.declared.Sight.the-variants.{Seen, Other}
 use Rattle.digits.specs.Word.{plainly}
 use Rattle.line.specs.Zeros.{allZero}
 use Rattle.line.specs.Table.{Fields, frame, none, table, fieldsOf}
 use Rattle.line.specs.Read.{part, fields, wrong, readLine}
 use Rattle.line.specs.Write.{chars}
-use Rattle.line.specs.Seeing.{seenOf, glanced, around, isBare, isMade, isCost}
+use Rattle.line.specs.Seeing.{seenOf, glanced, isBare, isMade, isCost}
 use Rattle.digits.proofs.Words.{plain-number}
 use Rattle.line.proofs.Lines.{part-length}
 use Rattle.line.proofs.Cases.{Case, long, wrongs, unlisted, listed, line-case}

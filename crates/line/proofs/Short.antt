@@ -1,22 +1,20 @@
 -- The short looks at a line: what its second character and the fields that are decoded say of it, where the others are all 0.
 use mathlib.Core.Path.{_≡_, refl, ap, _∙_, sym}
-use mathlib.Core.Bool.{Bool, true, false, not, cond, _&&_}
-use mathlib.Core.List.{List, [], _∷_, _++_}
-use Prim.Native.Nat.{ℕ, _+_, _≤_, _<_}
+use mathlib.Core.Bool.{Bool, true, _&&_}
+use mathlib.Core.List.{List, [], _∷_}
+use Prim.Native.Nat.{ℕ, _+_, _≤_}
 use native.Mathlib.Omega.{arith}
-use lib.Dec.{eqb, leb}
-use lib.ListN.{length, getD, take, drop}
-use borrow.Author.Tests.{eq-eqb, eqb-true, le-leb}
+use lib.ListN.{length, getD, take}
+use borrow.Author.Tests.{le-leb}
 use Rattle.digits.specs.declared.read.Numeral.{Numeral}
 use Rattle.digits.specs.Read.{reading}
 use Rattle.digits.proofs.Laws.{and-left, and-right}
-use Rattle.line.specs.declared.Frame.{Frame}
 use Rattle.line.specs.declared.Frame.the-variants.{Call, Spawn, Sync, Return, Cost}
 use Rattle.line.specs.declared.Read.the-variants.{Line}
-use Rattle.line.specs.Table.{Fields, table}
+use Rattle.line.specs.Table.{table}
 use Rattle.line.specs.Read.{part, tabled, readLine}
 use Rattle.line.specs.Zeros.{allZero}
-use Rattle.line.proofs.Lines.{part-length, part-more, Numerals, allGood, good-line, numeral-below}
+use Rattle.line.proofs.Lines.{part-length, part-more, good-line, numeral-below}
 use Rattle.line.proofs.Zero.{nought, zero-reading, zero-append}
 
 two : (s : List ℕ) → 2 ≤ length s → take 2 s ≡ getD s 0 0 ∷ getD s 1 0 ∷ []

@@ -1,7 +1,7 @@
 -- When each decision of the interface is taken, what it then promises, and that a code tells its refusal. Assumes nothing.
 use Prim.Native.Nat.{ℕ, _+_, _*_, _≤_, _<_}
 use mathlib.Core.Bool.{Bool, true, false, cond, _&&_, _||_}
-use mathlib.Core.List.{List, [], _∷_, _++_}
+use mathlib.Core.List.{List, _++_}
 use mathlib.Core.Path.{_≡_, refl, ap, _∙_, sym}
 use native.Mathlib.Omega.{arith}
 use borrow.Author.Tests.{eq-eqb, ne-eqb, lt-ltb, le-ltb}
@@ -11,7 +11,6 @@ use Rattle.line.specs.declared.Frame.{Frame}
 use Rattle.line.specs.declared.Read.{Read}
 use Rattle.line.specs.declared.Read.the-variants.{Line, Refused}
 use Rattle.line.specs.declared.Wrote.{Wrote}
-use Rattle.line.specs.declared.Wrote.the-variants.{Chars}
 use Rattle.line.specs.Table.{Fields, Entry, frame, none, table, fieldsOf}
 use Rattle.line.specs.Read.{tabled, readLine}
 use Rattle.line.specs.Write.{chars, narrow, isFrame, writable, writeChars}
@@ -23,7 +22,7 @@ use Rattle.report.specs.Rows.{width}
 use Rattle.report.specs.Report.{text, report}
 use Rattle.report.specs.Refusal.{refusalText, printRefusal}
 use Rattle.nyolifuwe.specs.Code.{coded, code, Gives}
-use Rattle.nyolifuwe.specs.Lines.{numbers, fieldsIn, framed, readFrame, writeFrame}
+use Rattle.nyolifuwe.specs.Lines.{fieldsIn, framed, readFrame, writeFrame}
 use Rattle.nyolifuwe.specs.Texts.{counted, count, Tells}
 use Rattle.nyolifuwe.specs.Inside.{framedBy, told, lineOf, noted}
 

@@ -1,6 +1,6 @@
 -- The root of an accepted trace, whichever engine reads it: its limits and room, the cleared rows, and what its reading comes to in them.
-use mathlib.Core.Path.{_≡_, refl, ap, _∙_, sym, subst}
-use mathlib.Core.Bool.{Bool, true, _&&_}
+use mathlib.Core.Path.{_≡_, ap, _∙_, subst}
+use mathlib.Core.Bool.{_&&_}
 use mathlib.Core.List.{List, _++_}
 use Prim.Native.Nat.{ℕ, _+_, _*_, _-_, _^_, _≤_, _<_}
 use native.Mathlib.Decide.{decLt}
@@ -11,9 +11,9 @@ use borrow.Author.Tests.{leb-true}
 use Rattle.line.specs.declared.Frame.{Frame}
 use Rattle.trace.specs.Shape.{sites}
 use Rattle.trace.specs.Rows.{columns}
-use Rattle.trace.specs.Refusals.{lineCount, accepted, verdict}
+use Rattle.trace.specs.Refusals.{accepted, verdict}
 use Rattle.trace.specs.Promise.{Engine, Lent, enough, scratchRoom, rowsRoom, marksRoom}
-use Rattle.trace.specs.Tree.{Body, linesOf, Parts, workOf, spanOf}
+use Rattle.trace.specs.Tree.{Body, linesOf, workOf, spanOf}
 use Rattle.trace.specs.Fold.{nothing}
 use Rattle.trace.specs.ByTree.{cell}
 use Rattle.trace.proofs.Basics.{both}
@@ -23,10 +23,10 @@ use Rattle.trace.proofs.Recurrence.{weight-chain}
 use Rattle.walk.specs.declared.Open.{Open}
 use Rattle.walk.specs.Stands.{Stands}
 use Rattle.walk.specs.Numbers.{numbers}
-use Rattle.walk.specs.Gain.{counted, made, gain, Grown}
+use Rattle.walk.specs.Gain.{counted, made, Grown}
 use Rattle.walk.specs.Reader.{Ready, BodyDone}
-use Rattle.walk.proofs.Columns.{whole, whole-on}
-use Rattle.walk.proofs.Root.{tree, first-line, whole-small, root-stands, root-ready, cells-are, behind}
+use Rattle.walk.proofs.Columns.{whole-on}
+use Rattle.walk.proofs.Root.{tree, whole-small, root-stands, root-ready, cells-are, behind}
 use Rattle.walk.proofs.Zeros.{cleared-length, cleared-front, cleared-back}
 
 module _ (e : Engine) (s : List ℕ) (D M : ℕ) (x : Lent) (t : List Frame) (is : verdict s D M (enough e s D M x) ≡ accepted t) (count : ℕ) (count-is : sites t ≡ count) where

@@ -1,8 +1,8 @@
 -- An accepted trace: its root's lines stand in the text, and no number that reading them comes to is too large.
-use mathlib.Core.Path.{_≡_, refl, ap, _∙_, sym, subst}
+use mathlib.Core.Path.{_≡_, refl, ap, subst}
 use mathlib.Core.Bool.{Bool}
-use mathlib.Core.List.{List, [], _∷_, _++_}
-use Prim.Native.Nat.{ℕ, zero, suc, _+_, _*_, _-_, _/_, _%_, _^_, _≤_, _<_}
+use mathlib.Core.List.{List, [], _∷_}
+use Prim.Native.Nat.{ℕ, suc, _+_, _*_, _-_, _/_, _%_, _^_, _≤_, _<_}
 use native.Mathlib.Decide.{decLt}
 use native.Mathlib.Omega.{arith}
 use lib.ListN.{length, getD, length-append}
@@ -13,14 +13,13 @@ use Rattle.trace.specs.Shape.{Is, sites}
 use Rattle.trace.specs.Rows.{columns}
 use Rattle.trace.specs.Refusals.{verdict, accepted}
 use Rattle.trace.specs.ByTree.{cell}
-use Rattle.trace.specs.Tree.{Body, linesOf, size, Parts, Within, workOf}
-use Rattle.trace.specs.Fold.{Chains, nothing}
+use Rattle.trace.specs.Tree.{Body, linesOf, size, Parts, Within}
+use Rattle.trace.specs.Fold.{nothing}
 use Rattle.trace.proofs.Tree.{size-is, no-sites-lines}
 use Rattle.trace.proofs.Scan.{Fine, accepted-reads}
 use Rattle.trace.proofs.Sites.{sites-none, sites-append, sites-all}
 use Rattle.trace.proofs.Parse.{parts}
 use Rattle.trace.proofs.Outcome.{cell-small, work-small}
-use Rattle.walk.specs.declared.Open.{Open}
 use Rattle.walk.specs.Stands.{Stands}
 use Rattle.walk.specs.Numbers.{numbers}
 use Rattle.walk.specs.Gain.{made, gain, Grown}

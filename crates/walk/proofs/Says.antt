@@ -2,7 +2,6 @@
 use mathlib.Core.Path.{_≡_, ap, _∙_}
 use mathlib.Core.List.{List}
 use Prim.Native.Nat.{ℕ}
-use Rattle.line.specs.declared.Frame.{Frame}
 use Rattle.line.specs.At.{kindAt, siteAt, valueAt}
 use Rattle.line.proofs.Items.{item}
 use Rattle.walk.specs.Stands.{Says, kindOf, siteOf, valueOf}

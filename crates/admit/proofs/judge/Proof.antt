@@ -1,5 +1,5 @@
 -- `admit::judge` meets its contract: a line that is seen at a glance declares no place.
-use mathlib.Core.Path.{_≡_, sym, ap, _∙_}
+use mathlib.Core.Path.{sym, ap, _∙_}
 use mathlib.Core.Bool.{Bool}
 use denote.Ref.{now}
 use Rattle.line.specs.Read.{readAt}

@@ -1,5 +1,4 @@
 -- `line::glance_as` meets its contract: for each kind, what is seen is what reading the line gives (`Seeing`).
-use Prim.Native.Nat.{ℕ}
 use mathlib.Core.Bool.{cond}
 use mathlib.Core.Path.{_≡_, _∙_}
 use Rattle.line.specs.declared.Frame.the-variants.{Call, Spawn, Sync, Return, Cost}

@@ -1,5 +1,5 @@
 -- `line::read_whole` meets its contract: the five numerals are those of the line's parts (`Numerals`). Assumes nothing.
-use mathlib.Core.Path.{_∙_, sym}
+use mathlib.Core.Path.{_∙_}
 use borrow.Author.Needs.{needs}
 use Rattle.line.proofs.Lines.{Numerals, wrong-line, good-line, site-below, file-below, column-below}
 use Rattle.line.proofs.read_whole.Statement.{statement}

@@ -1,5 +1,4 @@
 -- `nyolifuwe::frame_of` meets its contract: the fields have room in their digits where the one test says so. Assumes nothing.
-use Prim.Native.Nat.{ℕ}
 use mathlib.Core.Path.{_∙_}
 use native.Mathlib.Omega.{arith}
 use borrow.Author.Tests.{not-true, not-false}

@@ -1,6 +1,6 @@
 -- `nyolifuwe::hand_over` meets its contract: a case for each answer. Assumes nothing.
 use mathlib.Core.List.{[], _∷_}
-use mathlib.Core.Path.{refl, ap, sym}
+use mathlib.Core.Path.{ap, sym}
 use native.Mathlib.Omega.{arith}
 use Rattle.nyolifuwe.specs.Inside.{lineIn}
 use Rattle.nyolifuwe.specs.Engines.{numbered}

@@ -1,7 +1,7 @@
 -- `nyolifuwe::nyo_read_line` meets its contract: each answer is what is decided by the tests that led to it. Assumes nothing.
 use Prim.Native.Nat.{ℕ}
 use mathlib.Core.List.{List, _++_}
-use mathlib.Core.Path.{_≡_, ap, _∙_, sym}
+use mathlib.Core.Path.{ap, _∙_, sym}
 use lib.ListN.{length, drop}
 use Rattle.line.specs.Table.{fieldsOf}
 use Rattle.nyolifuwe.specs.Lines.{numbers}

@@ -1,9 +1,9 @@
 -- `nyolifuwe::put` meets its contract. The invariant: the first `i` numbers are over the front. The measure is what is left. Assumes nothing.
 use borrow.Author.Needs.{needs}
 use Prim.Native.Nat.{_≤_, _-_}
-use mathlib.Core.Path.{_≡_, refl, _∙_, ap, sym}
+use mathlib.Core.Path.{_≡_, refl, _∙_, ap}
 use native.Mathlib.Omega.{arith}
-use lib.ListN.{length, take, drop}
+use lib.ListN.{length}
 use Rattle.nyolifuwe.proofs.Front.{fronted, fronted-length, front-more, front-all}
 use Rattle.nyolifuwe.proofs.put.Statement.{statement}
 use Rattle.nyolifuwe.proofs.put.Tie as tie

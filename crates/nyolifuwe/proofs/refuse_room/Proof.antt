@@ -1,9 +1,6 @@
 -- `nyolifuwe::refuse_room` meets its contract: the number of the first check that fails is 0 or not. Assumes nothing.
-use Prim.Native.Nat.{ℕ}
-use mathlib.Core.Bool.{Bool, cond}
-use mathlib.Core.Path.{_≡_, ap, _∙_, sym}
+use mathlib.Core.Path.{_∙_, sym}
 use borrow.Author.Tests.{eq-eqb, ne-eqb}
-use lib.Dec.{eqb}
 use borrow.Author.Needs.{needs}
 use Rattle.nyolifuwe.proofs.refuse_room.Statement.{statement}
 use Rattle.nyolifuwe.proofs.refuse_room.Tie as tie

@@ -1,5 +1,5 @@
 -- `nyolifuwe::tell` meets its contract: a case for each answer. Assumes nothing.
-use mathlib.Core.Path.{_≡_, refl, ap, _∙_, sym}
+use mathlib.Core.Path.{refl, ap, sym}
 use native.Mathlib.Omega.{arith}
 use lib.Seq.{set-split}
 use Rattle.nyolifuwe.specs.Inside.{lineOf}
