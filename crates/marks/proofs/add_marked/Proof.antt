@@ -1,3 +1,4 @@
+-- `marks::add_marked` meets its contract: a line that is not marked adds nothing.
 use Rattle.marks.proofs.Columns.{marked-on, grown-on, grown-off}
 use native.Mathlib.Omega.{arith}
 use Prim.Native.Nat.{ℕ, _+_, _*_}

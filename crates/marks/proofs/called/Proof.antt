@@ -1,3 +1,4 @@
+-- `marks::called` meets its contract: the child's zone lies where the continuation's ends.
 use Rattle.marks.proofs.Steps.{called-done}
 use borrow.Author.Needs.{needs}
 use Rattle.marks.proofs.called.Statement.{statement}

@@ -1,3 +1,4 @@
+-- `marks::enter` meets its contract: one number is stored.
 use mathlib.Core.Path.{refl}
 use borrow.Author.Needs.{needs}
 use Rattle.marks.proofs.enter.Statement.{statement}

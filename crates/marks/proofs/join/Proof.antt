@@ -1,3 +1,4 @@
+-- `marks::join` meets its contract: the zone that loses is cleared, whichever it is.
 use Rattle.marks.proofs.Steps.{join-since, join-longest}
 use lib.ListN.{length-set}
 use native.Mathlib.Omega.{arith}

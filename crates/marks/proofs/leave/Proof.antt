@@ -1,3 +1,4 @@
+-- `marks::leave` meets its contract: the root's return and any other, each by its law.
 use Rattle.marks.proofs.Columns.{returned-last, returned-inner}
 use borrow.Author.Needs.{needs}
 use Rattle.marks.proofs.leave.Statement.{statement}

@@ -1,3 +1,4 @@
+-- `marks::load` meets its contract: eight numbers are read, and then cleared.
 use native.Mathlib.Omega.{arith}
 use lib.ListN.{length-set}
 use borrow.Author.Needs.{needs}

@@ -1,3 +1,4 @@
+-- `marks::on_line` meets its contract: what a line asks for and leaves, by its kind.
 use Rattle.marks.proofs.Columns.{leave-asks, enter-asks, sync-leaves, return-leaves, add-asks, cost-leaves, child-leaves}
 use borrow.Author.Needs.{needs}
 use Rattle.marks.proofs.on_line.Statement.{statement}

@@ -1,3 +1,4 @@
+-- `marks::spawned` meets its contract: of the child and the longest before it, the one that loses is cleared.
 use Rattle.marks.proofs.Steps.{spawned-longer, spawned-shorter}
 use lib.ListN.{length-set}
 use native.Mathlib.Omega.{arith}

@@ -1,3 +1,4 @@
+-- `marks::spend` meets its contract: one mark is set.
 use Rattle.marks.proofs.Steps.{spent-done}
 use borrow.Author.Needs.{needs}
 use Rattle.marks.proofs.spend.Statement.{statement}

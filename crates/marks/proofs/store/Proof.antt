@@ -1,3 +1,4 @@
+-- `marks::store` meets its contract: eight numbers are written.
 use native.Mathlib.Omega.{arith}
 use lib.ListN.{length-set}
 use borrow.Author.Needs.{needs}

@@ -1,3 +1,4 @@
+-- `marks::wipe_lines` meets its contract: the part is cleared, and what lies around it comes back as it was.
 use mathlib.Core.Path.{ap, _∙_}
 use Prim.Native.Nat.{ℕ}
 use lib.ListN.{replicate}

@@ -1,3 +1,4 @@
+-- `tables::clear_child` meets its contract: a table whose one number is its whole weight has no other.
 use Rattle.tables.proofs.OneRow.{cleared-one}
 use borrow.Author.Needs.{needs}
 use Rattle.tables.proofs.clear_child.Statement.{statement}

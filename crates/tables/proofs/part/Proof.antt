@@ -1,3 +1,4 @@
+-- `tables::part` meets its contract, by its two cases.
 use mathlib.Core.Path.{sym}
 use Rattle.tables.proofs.Held.{part-first, part-later}
 use borrow.Author.Needs.{needs}

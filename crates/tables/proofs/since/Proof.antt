@@ -1,3 +1,4 @@
+-- `tables::since` meets its contract, by its two cases.
 use mathlib.Core.Path.{sym}
 use Rattle.tables.proofs.Held.{since-first, since-later}
 use borrow.Author.Needs.{needs}

@@ -1,3 +1,4 @@
+-- `tables::take_child` meets its contract: a table whose one number is its whole weight has no other.
 use native.Mathlib.Omega.{arith}
 use lib.ListN.{length-set}
 use Rattle.tables.proofs.OneRow.{added-one}
