@@ -1,4 +1,5 @@
--- Keys of places: narrow places are the same exactly when their keys are, so a lookup among the keys finds a place already declared.
+-- Keys of places: narrow places are the same exactly when their keys are, so a lookup among the keys finds a place
+-- already declared.
 use mathlib.Core.Path.{_≡_, refl, sym, _∙_, ap}
 use mathlib.Core.Bool.{Bool, true, false, _&&_, _||_, or-true, or-false}
 use mathlib.Core.List.{List, [], _∷_, _++_, append-nil}

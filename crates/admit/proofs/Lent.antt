@@ -1,4 +1,5 @@
--- What the walks over a lent tally share: the machine values of the types, and what is passed beside the tally, which is plain data and so is had for nothing.
+-- What the walks over a lent tally share: the machine values of the types, and what is passed beside the tally, which
+-- is plain data and so is had for nothing.
 use mathlib.Core.Path.{refl}
 use mathlib.Core.List.{[], _∷_, List}
 use Prim.Native.Nat.{ℕ, _<_, _^_}

@@ -1,4 +1,5 @@
--- What the flat check knows at each line: some lines lie before it, with this tally and these keys, and the verdict is what becomes of the rest.
+-- What the flat check knows at each line: some lines lie before it, with this tally and these keys, and the verdict
+-- is what becomes of the rest.
 use mathlib.Core.Path.{_≡_, refl, sym, _∙_, ap, subst⁻¹}
 use mathlib.Core.Bool.{Bool, true, false, cond}
 use mathlib.Core.List.{List, [], _∷_, _++_}

@@ -1,4 +1,5 @@
--- For proofs, not for the reader of document 01: what the flat check does at each line, by the tally, and the keys of the places so far with their tags.
+-- For proofs, not for the reader of document 01: what the flat check does at each line, by the tally, and the keys of
+-- the places so far with their tags.
 use mathlib.Core.Path.{_≡_}
 use Prim.Native.Nat.{ℕ, _+_, _*_, _-_, _/_, _%_, _≤_, _<_}
 use mathlib.Core.Bool.{Bool, false, cond}

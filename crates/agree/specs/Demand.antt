@@ -38,7 +38,8 @@ pub record Agree (x y : Run) : Type 0 where
   -- and so are all slices where they refuse
   pub unchanged : (number line : ℕ) → x .answer ≡ Refused number line → (x .left ≡ x .lent) × (y .left ≡ y .lent)
 
--- The table engine ran as x and the marks engine as y, on the text s with limits D and M. What the marks show is said where the trace t is accepted.
+-- The table engine ran as x and the marks engine as y, on the text s with limits D and M. What the marks show is said
+-- where the trace t is accepted.
 pub record DemandThree (s : List ℕ) (D M : ℕ) (x y : Run) : Type 0 where
   -- "Two engines ... give equal answers and rows wherever neither lacks room."
   pub agree : HasRoom tables s D M x → HasRoom marks s D M y → Agree x y

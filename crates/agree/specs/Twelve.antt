@@ -1,4 +1,5 @@
--- The lines that the marks engine marks in the twelve traces of document 01, worked out by hand. The sites are lines 0 and 1.
+-- The lines that the marks engine marks in the twelve traces of document 01, worked out by hand. The sites are lines
+-- 0 and 1.
 use Prim.Native.Nat.{ℕ}
 use mathlib.Core.Path.{_≡_}
 use mathlib.Core.List.{List, [], _∷_}

@@ -1,5 +1,5 @@
--- A word's bytes as lanes: operations on whole words are operations on each byte apart, as long as no byte outgrows its lane.
--- Assumes nothing.
+-- A word's bytes as lanes: operations on whole words are operations on each byte apart, as long as no byte outgrows
+-- its lane. Assumes nothing.
 use Prim.Native.Nat.{ℕ, zero, suc, _+_, _*_, _/_, _^_, _<_}
 use mathlib.Core.Bool.{Bool, true, _&&_}
 use mathlib.Core.List.{List, [], _∷_}

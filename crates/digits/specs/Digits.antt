@@ -1,4 +1,5 @@
--- Which characters are digits, what each is worth, and numbers of a fixed width. Characters are numbers, as bytes hold them.
+-- Which characters are digits, what each is worth, and numbers of a fixed width. Characters are numbers, as bytes
+-- hold them.
 use Prim.Native.Nat.{ℕ, zero, suc, _+_, _*_, _-_, _/_, _%_}
 use mathlib.Core.Bool.{Bool, true, cond, _&&_, _||_}
 use mathlib.Core.List.{List, [], _∷_, _++_}

@@ -8,7 +8,8 @@ pub struct Numeral {
     pub value: u32,
 }
 
-// What a character is worth as a digit, and 16 where it is none. Both tests are of a difference that wraps, so they compile without a branch.
+// What a character is worth as a digit, and 16 where it is none. Both tests are of a difference that wraps, so they
+// compile without a branch.
 pub fn worth(c: u8) -> u8
     ensures { λ r. ⌜ r ≡ worthOf c ⌝ }
 {
@@ -30,7 +31,8 @@ pub(crate) fn wide(x: u8) -> u64
     x as u64
 }
 
-// The number that up to eight digits are. Every character is looked at, whatever stood before it: no branch depends on one.
+// The number that up to eight digits are. Every character is looked at, whatever stood before it: no branch depends
+// on one.
 pub fn number(s: &[u8]) -> Numeral
     ensures { λ r. ⌜ r ≡ reading (now (s .entry)) ⌝ }
 {

@@ -1,5 +1,5 @@
--- What reading a line gives, case by case: each refusal exactly where document 01 gives it, and a frame exactly where the table has it.
--- Assumes nothing.
+-- What reading a line gives, case by case: each refusal exactly where document 01 gives it, and a frame exactly where
+-- the table has it. Assumes nothing.
 use Prim.Native.Nat.{ℕ, _/_, _<_}
 use mathlib.Core.Bool.{Bool, true, false}
 use mathlib.Core.List.{List}

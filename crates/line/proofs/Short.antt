@@ -1,4 +1,5 @@
--- The short looks at a line: what its second character and the fields that are decoded say of it, where the others are all 0.
+-- The short looks at a line: what its second character and the fields that are decoded say of it, where the others
+-- are all 0.
 use mathlib.Core.Path.{_≡_, refl, ap, _∙_, sym}
 use mathlib.Core.Bool.{Bool, true, _&&_}
 use mathlib.Core.List.{List, [], _∷_}

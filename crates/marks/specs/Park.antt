@@ -1,5 +1,5 @@
--- For proofs and engines, not for the reader of document 01: an open invocation's eight numbers in the scratch, where they
--- are kept while a child is open.
+-- For proofs and engines, not for the reader of document 01: an open invocation's eight numbers in the scratch, where
+-- they are kept while a child is open.
 use Prim.Native.Nat.{ℕ}
 use mathlib.Core.Path.{_≡_}
 use mathlib.Core.List.{List}

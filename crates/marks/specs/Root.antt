@@ -1,5 +1,5 @@
--- What the marks engine is lent, as its promise says it; and for proofs, not for the reader of document 01, what it learns
--- from acceptance.
+-- What the marks engine is lent, as its promise says it; and for proofs, not for the reader of document 01, what it
+-- learns from acceptance.
 use Prim.Native.Nat.{ℕ}
 use mathlib.Core.Path.{_≡_}
 use mathlib.Core.List.{List}

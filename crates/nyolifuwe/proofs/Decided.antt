@@ -1,4 +1,5 @@
--- When each decision of the interface is taken, what it then promises, and that a code tells its refusal. Assumes nothing.
+-- When each decision of the interface is taken, what it then promises, and that a code tells its refusal. Assumes
+-- nothing.
 use Prim.Native.Nat.{ℕ, _+_, _*_, _≤_, _<_}
 use mathlib.Core.Bool.{Bool, true, false, cond, _&&_, _||_}
 use mathlib.Core.List.{List, _++_}

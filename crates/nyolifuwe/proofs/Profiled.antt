@@ -1,4 +1,5 @@
--- The engines' promises carried to the interface, with and without room for the answer; and that they leave one outcome. Assumes nothing.
+-- The engines' promises carried to the interface, with and without room for the answer; and that they leave one
+-- outcome. Assumes nothing.
 use Prim.Native.Nat.{ℕ, _≤_, _<_}
 use mathlib.Core.Bool.{Bool, true, false, cond, _&&_}
 use mathlib.Core.List.{List}

@@ -13,7 +13,8 @@ abbrev pub code : Decision → ℕ
 code (write s) = 0
 code (refuse number line) = coded number line
 
--- a function that decided so gave this code, and made this room of what the lent room held before: written from its beginning, the rest unchanged
+-- a function that decided so gave this code, and made this room of what the lent room held before: written from its
+-- beginning, the rest unchanged
 pub record Gives (d : Decision) (given : ℕ) (before after : List ℕ) : Type 0 where
   pub answered : given ≡ code d
   pub left : after ≡ leave d before

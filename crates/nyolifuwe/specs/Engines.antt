@@ -22,7 +22,8 @@ abbrev pub numbered : Answer → Decision
 numbered (Accepted work span sites lines) = write (work ∷ span ∷ sites ∷ lines ∷ [])
 numbered (Refused number line) = refuse number line
 
--- The engine e, lent the text s with limits D and M, the room before and the room for the answer, gives this code and leaves after and answer′.
+-- The engine e, lent the text s with limits D and M, the room before and the room for the answer, gives this code and
+-- leaves after and answer′.
 pub record Profiles (e : Engine) (s : List ℕ) (D M : ℕ) (before : Lent) (answer : List ℕ) (given : ℕ) (after : Lent) (answer′ : List ℕ) : Type 0 where
   pub when-accepted : (t : List Frame) → verdict s D M (roomy e s D M before answer) ≡ accepted t → (r : Answer) × Profile e t before r after × Gives (numbered r) given answer answer′
   pub when-refused : (number line : ℕ) → verdict s D M (roomy e s D M before answer) ≡ refused number line → (given ≡ coded number line) × (after ≡ before) × (answer′ ≡ answer)

@@ -1,4 +1,5 @@
--- What the writers leave is put; and each verdict, with what the table engine made of it, is printed as it should be. Assumes nothing.
+-- What the writers leave is put; and each verdict, with what the table engine made of it, is printed as it should be.
+-- Assumes nothing.
 use Prim.Native.Nat.{ℕ, _+_, _*_, _≤_, _<_}
 use mathlib.Core.Bool.{true}
 use mathlib.Core.List.{List}

@@ -14,8 +14,8 @@ use Rattle.trace.specs.Promise.{Row}
 use Rattle.report.specs.Report.{text}
 use Rattle.report.specs.Refusal.{refusalText}
 
--- "The report program reads standard input, with D = 32, M = 31 and the table engine. Above 65,527 bytes it prints `ff0300000000`, before
--- any other check." Its own room is never too short.
+-- "The report program reads standard input, with D = 32, M = 31 and the table engine. Above 65,527 bytes it prints
+-- `ff0300000000`, before any other check." Its own room is never too short.
 abbrev pub ruling : List ℕ → Verdict
 ruling s = cond (ltb 65527 (length s)) (refused 3 0) (verdict s 32 31 true)
 

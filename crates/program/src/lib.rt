@@ -42,7 +42,8 @@ fn print_refusal(number: u8, line: usize, out: &mut [u8]) -> usize
 
 // Prints the report of count sites.
 fn print_report(rows: &[u64], count: usize, out: &mut [u8]) -> usize
-    requires { ⌜ (count ≤ 31) × ((columns * (count + 1) ≤ length (now rows)) × (width * (count + 1) ≤ length (now out))) ⌝ }
+    requires { ⌜ (count ≤ 31)
+        × ((columns * (count + 1) ≤ length (now rows)) × (width * (count + 1) ≤ length (now out))) ⌝ }
     ensures { λ r. ⌜ Put (text (now (rows .entry)) count) r (now (out .entry)) (now (out .exit)) ⌝ }
 {
     written(report::write_report(rows, count, out))

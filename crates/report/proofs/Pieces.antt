@@ -50,7 +50,8 @@ module _ (f : ℕ → List ℕ) where
         ∙ ap (λ (l : List ℕ). take w (drop (w * k) l)) (drop-at (f x) (flatMap f xs ++ t) w (e 0 (omega arith)))
         ∙ piece-at xs t k (tail-even x xs e) (omega arith)
 
-    -- a room that begins with the pieces of some numbers, and then with the piece of one number more: the rest is as it was before
+    -- a room that begins with the pieces of some numbers, and then with the piece of one number more: the rest is as
+    -- it was before
     pub next-piece : (xs : List ℕ) (x at : ℕ) (room before piece : List ℕ) → length (flatMap f xs) ≡ at → room ≡ flatMap f xs ++ drop at before → piece ≡ f x
         → putMid at (at + w - at) room piece ≡ flatMap f (xs ++ x ∷ []) ++ drop (at + w) before
     next-piece xs x at room before piece l e g =

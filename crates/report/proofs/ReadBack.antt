@@ -1,5 +1,5 @@
--- What a reader may rely on. Of a report: how long it is, which line is which row's, which digits are which number's, and that
--- reports with the same text have the same rows. Of a refusal: its number and its line. Assumes nothing.
+-- What a reader may rely on. Of a report: how long it is, which line is which row's, which digits are which number's,
+-- and that reports with the same text have the same rows. Of a refusal: its number and its line. Assumes nothing.
 use Prim.Native.Nat.{ℕ, _+_, _*_, _/_, _%_, _^_, _≤_, _<_}
 use mathlib.Core.List.{List, [], _∷_, _++_, append-nil, flatMap}
 use mathlib.Core.Path.{_≡_, ap, _∙_, sym}

@@ -10,7 +10,8 @@ use Rattle.report.specs.Room.{Decision, write, refuse}
 abbrev pub refusalText : ℕ → ℕ → List ℕ
 refusalText number line = 102 ∷ 102 ∷ digits 2 number ++ (digits 8 line ++ 10 ∷ [])
 
--- refusal 1 where the number or the line has no room in its digits, then 4 where the output is shorter than the 13 characters, both with line 0
+-- refusal 1 where the number or the line has no room in its digits, then 4 where the output is shorter than the 13
+-- characters, both with line 0
 abbrev pub printRefusal : ℕ → ℕ → ℕ → Decision
 printRefusal number line room =
     cond (ltb 255 number || ltb 4294967295 line) (refuse 1 0)

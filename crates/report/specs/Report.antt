@@ -25,7 +25,8 @@ linesOf rows which = flatMap (rowLine rows) which
 abbrev pub text : List ℕ → ℕ → List ℕ
 text rows count = linesOf rows (printed rows count)
 
--- "refusal 1 for a count above 255, then 4 where rows are shorter than 5·(count+1) or output shorter than 85·(count+1). Both come with line 0"
+-- "refusal 1 for a count above 255, then 4 where rows are shorter than 5·(count+1) or output shorter than
+-- 85·(count+1). Both come with line 0"
 abbrev pub report : List ℕ → ℕ → ℕ → Decision
 report rows count room =
     cond (ltb 255 count) (refuse 1 0)

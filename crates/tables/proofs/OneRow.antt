@@ -1,4 +1,5 @@
--- A table one number of which is all that its chain weighs: the others are zero, so this number alone is added or cleared.
+-- A table one number of which is all that its chain weighs: the others are zero, so this number alone is added or
+-- cleared.
 use mathlib.Core.Path.{_≡_, refl, _∙_, sym}
 use mathlib.Core.Bool.{Bool, true, false, cond}
 use mathlib.Core.List.{List, [], _∷_}

@@ -1,6 +1,6 @@
 -- For proofs and engines, not for the reader of document 01: what an open invocation's part of the scratch holds, and its
--- child's behind it. A block is n numbers, its first w a table. One block is in use as long as no child is the longest, then
--- four, the last of them zero; all that lies behind the blocks in use is lent to a child.
+-- child's behind it. A block is n numbers, its first w a table. One block is in use as long as no child is the
+-- longest, then four, the last of them zero; all that lies behind the blocks in use is lent to a child.
 use Prim.Native.Nat.{ℕ, _+_, _*_, _^_, _≤_, _<_}
 use mathlib.Core.Path.{_≡_}
 use mathlib.Core.Bool.{cond}
@@ -45,7 +45,8 @@ pub record Shows (n w : ℕ) (t : List ℕ) (k : Chains) (g : List CostLine) : T
   pub G : Table t (4 * n) w g
   pub zero : (j : ℕ) → Out 0 w j → Out n w j → Out (2 * n) w j → Out (4 * n) w j → getD t j 0 ≡ 0
 
--- where the continuation's table is, by what the longest child weighs: in the prefix's block as long as no child is the longest
+-- where the continuation's table is, by what the longest child weighs: in the prefix's block as long as no child is
+-- the longest
 abbrev pub sinceAt : ℕ → ℕ → ℕ
 sinceAt n longest = cond (eqb longest 0) 0 (2 * n)
 
@@ -60,7 +61,8 @@ pub record Holds (n w : ℕ) (t : List ℕ) (k : Chains) (g : List CostLine) : T
   pub first : weight (k .l) ≡ 0 → Shows n w t (record { p = k .p ++ k .c; l = g; c = [] }) []
   pub later : (weight (k .l) ≡ 0 → ⊥) → Shows n w t k g
 
--- What a step asks of the scratch t of an invocation with the numbers f: it holds the chains that weigh so, with a child's chain of weight v beside them.
+-- What a step asks of the scratch t of an invocation with the numbers f: it holds the chains that weigh so, with a
+-- child's chain of weight v beside them.
 pub record Asks (n w : ℕ) (t : List ℕ) (f : Open) (v : ℕ) : Type 0 where
   pub blocks : w ≤ n
   pub room : 4 * n ≤ length t

@@ -1,5 +1,5 @@
--- What the table engine is lent, as its promise says it; and for proofs, not for the reader of document 01, the root: what
--- the engine learns from acceptance, and its table moved to column 5 of the rows.
+-- What the table engine is lent, as its promise says it; and for proofs, not for the reader of document 01, the root:
+-- what the engine learns from acceptance, and its table moved to column 5 of the rows.
 use Prim.Native.Nat.{ℕ, _+_, _*_, _≤_, _<_}
 use mathlib.Core.Path.{_≡_}
 use mathlib.Core.List.{List, []}

@@ -1,4 +1,5 @@
--- The definition of parallel lines, over lines with what is open at the first of them, is that they are beside each other.
+-- The definition of parallel lines, over lines with what is open at the first of them, is that they are beside each
+-- other.
 use mathlib.Core.Path.{_≡_, refl, sym, subst}
 use mathlib.Core.Logic.{inl, inr}
 use mathlib.Core.List.{List, [], _∷_}

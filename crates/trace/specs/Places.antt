@@ -1,4 +1,5 @@
--- "Places decide refusals 6 and 10 and nothing else": when two texts differ only in places; an answer's refusal by number.
+-- "Places decide refusals 6 and 10 and nothing else": when two texts differ only in places; an answer's refusal by
+-- number.
 use Prim.Native.Nat.{ℕ, _<_}
 use mathlib.Core.Path.{_≡_}
 use mathlib.Core.Logic.{_⊎_}

@@ -62,7 +62,8 @@ pub record Rows (t : List Frame) (c before after : List ℕ) : Type 0 where
   pub rows-are : (s : ℕ) → s ≤ sites t → Row t c after s
   pub rest : (i : ℕ) → columns * (sites t + 1) ≤ i → getD after i 0 ≡ getD before i 0
 
--- "A mark is 1 for a line on the chosen chain, 0 for any other; marks past the last line are unchanged." n: the number of lines
+-- "A mark is 1 for a line on the chosen chain, 0 for any other; marks past the last line are unchanged." n: the
+-- number of lines
 pub record Marks (n : ℕ) (c before after : List ℕ) : Type 0 where
   pub same-length : length after ≡ length before
   pub marks-are : (k : ℕ) → k < n → getD after k 0 ≡ cond (has k c) 1 0

@@ -31,7 +31,8 @@ ofRow t (suc s) = made 0 t (suc s)
 abbrev pub counted : List Frame → ℕ → List ℕ
 counted t s = ofRow t s
 
--- the sum of the costs at the lines that p picks, by line number and open invocations; t begins at line n, where o are open
+-- the sum of the costs at the lines that p picks, by line number and open invocations; t begins at line n, where o
+-- are open
 abbrev pub sumOf : (ℕ → List ℕ → Bool) → ℕ → List ℕ → List Frame → ℕ
 sumOf p n o [] = 0
 sumOf p n o (e ∷ t) = cond (p n o) (value e) 0 + sumOf p (suc n) (step n e o) t

@@ -41,7 +41,8 @@ abbrev pub closed : List ℕ → List ℕ
 closed [] = []
 closed (x ∷ o) = o
 
--- What line n does to the open invocations, which are listed innermost first: "a call or spawn with its body up to its own return".
+-- What line n does to the open invocations, which are listed innermost first: "a call or spawn with its body up to
+-- its own return".
 abbrev pub step : ℕ → Frame → List ℕ → List ℕ
 step n (Site s p) o = o
 step n (Call s) o = suc n ∷ o
@@ -56,8 +57,8 @@ walk n o [] j = o
 walk n o (e ∷ t) zero = o
 walk n o (e ∷ t) (suc j) = walk (suc n) (step n e o) t j
 
--- The invocations open at line j, innermost first. "After the sites the root invocation is open": it is listed from the first line on,
--- and no rule asks which invocations a site line is in.
+-- The invocations open at line j, innermost first. "After the sites the root invocation is open": it is listed from
+-- the first line on, and no rule asks which invocations a site line is in.
 abbrev pub openAt : List Frame → ℕ → List ℕ
 openAt t j = walk 0 (root ∷ []) t j
 
@@ -86,8 +87,8 @@ pub record Returns (t : List Frame) (F r : ℕ) : Type 0 where
   pub is : Is t r Return
   pub its-own : Directly t F r
 
--- "They are parallel exactly when some spawned invocation G contains i and not j, the invocation F that spawned G is still open
--- at line j, and no sync line directly in F lies between G's return and j."
+-- "They are parallel exactly when some spawned invocation G contains i and not j, the invocation F that spawned G is
+-- still open at line j, and no sync line directly in F lies between G's return and j."
 pub record Parallel (t : List Frame) (i j : ℕ) : Type 0 where
   pub g : ℕ
   pub site : ℕ

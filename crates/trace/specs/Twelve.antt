@@ -1,4 +1,5 @@
--- The twelve traces of document 01 as characters, and what its table says of each. A line is written as the numeral of its 22 digits.
+-- The twelve traces of document 01 as characters, and what its table says of each. A line is written as the numeral
+-- of its 22 digits.
 use Prim.Native.Nat.{ℕ}
 use mathlib.Core.Path.{_≡_}
 use mathlib.Core.Bool.{true}

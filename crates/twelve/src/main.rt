@@ -1,5 +1,6 @@
-// The twelve traces of the rules through both engines, D = 4 and M = 2. A line for each engine: the trace's letter, its work, its span and the on-span
-// numbers of rows 0, 1 and 2, four digits each; the marks engine's line goes on with a mark for each line of the trace.
+// The twelve traces of the rules through both engines, D = 4 and M = 2. A line for each engine: the trace's letter,
+// its work, its span and the on-span numbers of rows 0, 1 and 2, four digits each; the marks engine's line goes on
+// with a mark for each line of the trace.
 
 // Writes a space and a number as four digits.
 fn print(x: u64) {

@@ -1,4 +1,5 @@
--- The root of an accepted trace, whichever engine reads it: its limits and room, the cleared rows, and what its reading comes to in them.
+-- The root of an accepted trace, whichever engine reads it: its limits and room, the cleared rows, and what its
+-- reading comes to in them.
 use mathlib.Core.Path.{_≡_, ap, _∙_, subst}
 use mathlib.Core.Bool.{_&&_}
 use mathlib.Core.List.{List, _++_}

@@ -99,7 +99,8 @@ module _ (D M : ℕ) (t : List Frame) (fine : Fine D M t) where
         fit i (yes l) = omega (arith, zeros i l, whole-small i)
         fit i (no l) = omega (arith, fits i, gain-out (length (tree .heads)) D 1 0 i body (tree .within) (omega arith) (omega (arith, first-line)))
 
--- The rows at the end, but for column 5: what was zero is the tree's columns, and what stands behind the rows is as it was.
+-- The rows at the end, but for column 5: what was zero is the tree's columns, and what stands behind the rows is as
+-- it was.
 module _ (D M : ℕ) (t : List Frame) (fine : Fine D M t) (rows₀ rows₁ rows₂ : List ℕ) (long : columns * (sites t + 1) ≤ length rows₀) (same : length rows₁ ≡ length rows₀)
     (zeros : (i : ℕ) → i < columns * (sites t + 1) → getD rows₀ i 0 ≡ 0) (inside : Grown rows₀ (gain 0 (tree D M t fine .body)) rows₁) (itself : Grown rows₁ (made 0 (tree D M t fine .body)) rows₂) where
   abbrev x : Parts D t

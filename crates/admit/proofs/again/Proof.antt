@@ -1,4 +1,5 @@
--- `admit::again` meets its contract: a site line's key is looked for among those before it, and is kept behind them with its tag.
+-- `admit::again` meets its contract: a site line's key is looked for among those before it, and is kept behind them
+-- with its tag.
 use mathlib.Core.Path.{_≡_, refl, sym, ap, _∙_}
 use mathlib.Core.Logic.{inl, inr}
 use mathlib.Core.Bool.{false}

@@ -1,5 +1,5 @@
--- `admit::lines` meets its contract. The invariant: the tally and the keys are those of some lines before, what becomes of the rest is the
--- verdict, and the tags are those of the keys. The measure: the lines left.
+-- `admit::lines` meets its contract. The invariant: the tally and the keys are those of some lines before, what
+-- becomes of the rest is the verdict, and the tags are those of the keys. The measure: the lines left.
 use mathlib.Core.Path.{_≡_, refl, sym, ap, subst⁻¹, _∙_}
 use mathlib.Core.List.{List}
 use Prim.Native.Nat.{ℕ, _-_}

@@ -1,5 +1,6 @@
--- `admit::update` meets its contract: a walk of its MIR, by hand. The borrow is opened, the tally in it goes by value to `step`, the tally that `step` gives is stored in its place, and the borrow is closed at it.
--- All that the proof knows of `step` is that it meets its contract.
+-- `admit::update` meets its contract: a walk of its MIR, by hand. The borrow is opened, the tally in it goes by value
+-- to `step`, the tally that `step` gives is stored in its place, and the borrow is closed at it. All that the proof
+-- knows of `step` is that it meets its contract.
 use mathlib.Core.Path.{_≡_, refl, ap}
 use mathlib.Core.Bool.{Bool}
 use mathlib.Core.List.{[], _∷_, List}
@@ -65,7 +66,8 @@ stayed = (stay-ref (0 ∷ []) tt (plain (λ _. T.the-row)), (stay-none (λ _. F.
 abbrev Step : {M : Type 1} (𝓤 : URA M) (H : Heap 𝓤) (A : Atoms 𝓤) (mem : Memory → SProp 𝓤) (run : Routine → Fun 𝓤) → Contract 𝓤
 Step 𝓤 H A mem run = tripleOf 𝓤 H A step.signature (step.spec 𝓤 H A mem run)
 
--- the tally t is lent at (b, o) under γ; beside it the frame f, whether its place is declared again, and the limits D and L
+-- the tally t is lent at (b, o) under γ; beside it the frame f, whether its place is declared again, and the limits D
+-- and L
 module _ {M : Type 1} (𝓤 : URA M) (H : Heap 𝓤) (A : Atoms 𝓤) (W : Given 𝓤 H A) (at-mem : Memory → SProp 𝓤) (run : Routine → Fun 𝓤) (κ : Lft) (q : Share) (b o : ℕ) (γ : GName) (t : Tally) (f : Frame) (again : Bool) (D L : ℕ) where
   abbrev x : Denots Beside
   x = (f, (again, (D, (L, tt))))
@@ -118,7 +120,8 @@ module _ {M : Type 1} (𝓤 : URA M) (H : Heap 𝓤) (A : Atoms 𝓤) (W : Given
           -- the borrow is opened
           move ! (16 ∷ 17 ∷ 18 ∷ []) $ opens ! tt T.the-row {h = t} b o (λ vs. spelt ! T.the-row (Is T.the-row) (shows 𝓤 H A T.the-row) (LL.vals T.the-type T′.the-laws) (LL.tells T.the-type T′.the-laws) fullShare t vs b o $
           move ! (1 ∷ []) $ peeks ! T.the-row (Is T.the-row) (shows 𝓤 H A T.the-row) t (tallyVal t ∷ []) (λ is. drop ! $
-          -- [the tally's cell; the open borrow; obs; auth; room for _7; …; room for _6; …; _5; …; _4; …; _3; …; _2; …; _1; …; room for _0; …]
+          -- [the tally's cell; the open borrow; obs; auth; room for _7; …; room for _6; …; _5; …; _4; …; _3; …; _2;
+          -- …; _1; …; room for _0; …]
           assigns ! (of-opd ! (load ! (from ! (hop ! (look ! 16 refl) (stop !))) (look-raw ! 0 refl))) (from ! (stop !)) (init ! 4 refl (tally-typed 𝓤 H A W t is)) $
           -- `step`
           use0 W (raw (Step 𝓤 H A at-mem run .pre to-step)) (goes-step is small) $

@@ -1,5 +1,6 @@
--- `admit::updated` meets its contract: a walk of its MIR, by hand. The tally is laid in a local, which is lent to `update` for a lifetime that is made for the call, and comes back at its last value.
--- All that the proof knows of `update` is that it meets its contract.
+-- `admit::updated` meets its contract: a walk of its MIR, by hand. The tally is laid in a local, which is lent to
+-- `update` for a lifetime that is made for the call, and comes back at its last value. All that the proof knows of
+-- `update` is that it meets its contract.
 use mathlib.Core.Path.{_≡_, refl, ap}
 use mathlib.Core.Bool.{Bool}
 use mathlib.Core.List.{[], _∷_, List}
@@ -127,7 +128,8 @@ module _ {M : Type 1} (𝓤 : URA M) (H : Heap 𝓤) (A : Atoms 𝓤) (W : Given
           qed W (‵ ftrue ∷ ‵ (owns (T.the-row ∷ Beside) (t, x) (tallyVal t ∷ [], xs)) ∷ []) ∵ drop ! $ drop ! $ enter ! C Λ code.function passed _ $
           alloc1 ! (λ l₀. alloc1 ! (λ l₁. alloc1 ! (λ l₂. alloc1 ! (λ l₃. alloc1 ! (λ l₄. alloc1 ! (λ l₅. alloc1 ! (λ l₆. alloc1 ! (λ l₇. alloc1 ! (λ l₈. alloc1 ! (λ l₉. alloc0 ! $ params1 ! $
           pass1 ! (init ! 16 refl (tally-typed 𝓤 H A W t is)) $ pass1 ! (init ! 14 refl (frame-typed 𝓤 H A W f (are .0))) $ pass1 ! (init ! 12 refl (tt, tt)) $ pass1 ! (init ! 10 refl (tt, record { fits = are .1 .1 .0 .1 })) $ pass1 ! (init ! 8 refl (tt, record { fits = are .1 .1 .1 .0 .1 })) $ pass0 ! $
-          -- [room for _9; …; room for _8; …; room for _7; …; room for _6; …; _5; …; _4; …; _3; …; _2; …; _1; …; room for _0; …]
+          -- [room for _9; …; room for _8; …; room for _7; …; room for _6; …; _5; …; _4; …; _3; …; _2; …; _1; …; room
+          -- for _0; …]
           assigns ! (of-opd ! (load ! (from ! (stop !)) (look ! 16 refl))) (from ! (stop !)) (init ! 6 refl (tally-typed 𝓤 H A W t is)) $
           assigns ! (addr ! (from ! (stop !))) (from ! (stop !)) (init ! 2 refl (tt, tt)) $
           -- the local is lent for a new lifetime ν
@@ -140,7 +142,8 @@ module _ {M : Type 1} (𝓤 : URA M) (H : Heap 𝓤) (A : Atoms 𝓤) (W : Given
           use1 W (later (some (λ (n : ℕ). ((‵ (flft (ν ∷ []) fullShare) ⊛ ‵ ftrue) ⊛ ‵ (u8 .own n (w ∷ []))) ⊛ raw (ensured 𝓤 H A update.ended (update.clauses 𝓤 H A at-mem run) (ν ∷ [], tt) (lent l₆ δ, x) tt n)))) (id⊢ 𝓤 _) $ await ! tt $ pick ! (λ n.
           split ! $ move ! (1 ∷ []) $ use1 W (some (λ (us : Tally × (Unit {0} × (Unit {0} × (Unit {0} × (Unit {0} × Unit {0}))))). ‵ (lasts update.ended (ν ∷ [], tt) (lent l₆ δ, x) us) ⊛ raw (fact 𝓤 (Ensured n (us .0))))) (id⊢ 𝓤 _) $ pick ! (λ us.
           split ! $ move ! (1 ∷ []) $ heard ! (Ensured n (us .0)) (λ e. fsplit ! $ move ! (1 ∷ []) $ drop ! $ move ! (1 ∷ []) $ split ! $ move ! (1 ∷ []) $ peeks ! u8 (Is u8) (shows 𝓤 H A u8) n (w ∷ []) (λ n-is. drop ! $
-          -- [the token; the last tally; the lender's part; room for _9; …; _8; …; room for _7; …; what frees _6; _5; …; _4; …; _3; …; _2; …; _1; …; room for _0; …]
+          -- [the token; the last tally; the lender's part; room for _9; …; _8; …; room for _7; …; what frees _6; _5;
+          -- …; _4; …; _3; …; _2; …; _1; …; room for _0; …]
           land ! (from ! (stop !)) (init ! 7 refl (uint-lawful 𝓤 H A W w8 .typed n _ n-is .0)) $ rewrite ! 7 (λ (u : Val). ‵ (fat fullShare (tyInt w8) l₇ 0 u)) (ap only (n-is .0)) refl $
           -- the lifetime is ended, and the local comes back at the last tally
           split ! $ lft-end ! tt $ move ! (0 ∷ 3 ∷ 2 ∷ []) $ use3 W (later (‵ (partAt T.the-row fullShare (us .0) l₆ 0))) (ref-back 𝓤 H A W T.the-row (ν ∷ []) δ (us .0) l₆ 0) $ await ! tt $

@@ -1,4 +1,5 @@
--- `nyolifuwe::frame_of` meets its contract: the fields have room in their digits where the one test says so. Assumes nothing.
+-- `nyolifuwe::frame_of` meets its contract: the fields have room in their digits where the one test says so. Assumes
+-- nothing.
 use mathlib.Core.Path.{_∙_}
 use native.Mathlib.Omega.{arith}
 use borrow.Author.Tests.{not-true, not-false}

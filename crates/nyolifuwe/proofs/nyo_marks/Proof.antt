@@ -1,4 +1,5 @@
--- `nyolifuwe::nyo_marks` meets its contract: the engine's promise with its answer handed over, or no room for the answer. Assumes nothing.
+-- `nyolifuwe::nyo_marks` meets its contract: the engine's promise with its answer handed over, or no room for the
+-- answer. Assumes nothing.
 use Rattle.trace.specs.Promise.{Engine, Lent}
 use Rattle.nyolifuwe.proofs.Profiled.{answer-line, without-room, with-room}
 use borrow.Author.Needs.{needs}

@@ -1,4 +1,5 @@
--- `nyolifuwe::nyo_read_line` meets its contract: each answer is what is decided by the tests that led to it. Assumes nothing.
+-- `nyolifuwe::nyo_read_line` meets its contract: each answer is what is decided by the tests that led to it. Assumes
+-- nothing.
 use Prim.Native.Nat.{ℕ}
 use mathlib.Core.List.{List, _++_}
 use mathlib.Core.Path.{ap, _∙_, sym}

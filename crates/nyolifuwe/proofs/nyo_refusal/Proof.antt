@@ -1,4 +1,5 @@
--- `nyolifuwe::nyo_refusal` meets its contract: each answer is what is decided by the tests that led to it. Assumes nothing.
+-- `nyolifuwe::nyo_refusal` meets its contract: each answer is what is decided by the tests that led to it. Assumes
+-- nothing.
 use lib.ListN.{length}
 use Rattle.report.specs.Refusal.{printRefusal}
 use Rattle.nyolifuwe.proofs.Decided.{untold, counted-is, tells, print-1-number, print-1-line, print-4, print-at-0}

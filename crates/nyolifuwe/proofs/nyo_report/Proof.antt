@@ -1,4 +1,5 @@
--- `nyolifuwe::nyo_report` meets its contract: each answer is what is decided by the tests that led to it. Assumes nothing.
+-- `nyolifuwe::nyo_report` meets its contract: each answer is what is decided by the tests that led to it. Assumes
+-- nothing.
 use lib.ListN.{length}
 use Rattle.report.specs.Report.{report}
 use Rattle.nyolifuwe.proofs.Decided.{untold, counted-is, tells, report-1, report-4, report-at-0}

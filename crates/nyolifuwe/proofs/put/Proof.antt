@@ -1,4 +1,5 @@
--- `nyolifuwe::put` meets its contract. The invariant: the first `i` numbers are over the front. The measure is what is left. Assumes nothing.
+-- `nyolifuwe::put` meets its contract. The invariant: the first `i` numbers are over the front. The measure is what
+-- is left. Assumes nothing.
 use borrow.Author.Needs.{needs}
 use Prim.Native.Nat.{_≤_, _-_}
 use mathlib.Core.Path.{_≡_, refl, _∙_, ap}

@@ -1,4 +1,5 @@
--- `report::copy` meets its contract. The invariant: the first `i` are copied. The measure is what is left. Assumes nothing.
+-- `report::copy` meets its contract. The invariant: the first `i` are copied. The measure is what is left. Assumes
+-- nothing.
 use borrow.Author.Needs.{needs}
 use Prim.Native.Nat.{_≤_, _<_, _-_}
 use mathlib.Core.Path.{_≡_, refl, _∙_}

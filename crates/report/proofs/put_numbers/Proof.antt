@@ -1,5 +1,5 @@
--- `report::put_numbers` meets its contract. The invariant: the digits of the first `k` numbers stand before the rest of the part
--- as it was. The measure is how many numbers are left. Assumes nothing.
+-- `report::put_numbers` meets its contract. The invariant: the digits of the first `k` numbers stand before the rest
+-- of the part as it was. The measure is how many numbers are left. Assumes nothing.
 use borrow.Author.Needs.{needs}
 use Prim.Native.Nat.{ℕ, _+_, _*_, _≤_, _-_}
 use mathlib.Core.List.{List, _++_, append-nil, flatMap}

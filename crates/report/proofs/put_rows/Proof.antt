@@ -1,5 +1,6 @@
--- `report::put_rows` meets its contract. The invariant: the lines of the first `row` rows stand before the rest of the output as it
--- was, and `at` is how many characters they are. The measure is how many rows are left. Assumes nothing.
+-- `report::put_rows` meets its contract. The invariant: the lines of the first `row` rows stand before the rest of
+-- the output as it was, and `at` is how many characters they are. The measure is how many rows are left. Assumes
+-- nothing.
 use borrow.Author.Needs.{needs}
 use Prim.Native.Nat.{ℕ, _+_, _*_, _-_, _≤_}
 use mathlib.Core.List.{_++_, flatMap}

@@ -1,4 +1,5 @@
--- `report::write_refusal` meets its contract: each answer is what is decided by the tests that led to it. Assumes nothing.
+-- `report::write_refusal` meets its contract: each answer is what is decided by the tests that led to it. Assumes
+-- nothing.
 use lib.ListN.{length}
 use Rattle.report.proofs.Decisions.{refused, print-1-number, print-1-line, print-fitting}
 use borrow.Author.Needs.{needs}

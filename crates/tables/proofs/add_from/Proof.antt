@@ -1,5 +1,5 @@
--- `tables::add_from` meets its contract. The invariant: the first `i` numbers are moved, and the rest are as they were. The measure is
--- what is left.
+-- `tables::add_from` meets its contract. The invariant: the first `i` numbers are moved, and the rest are as they
+-- were. The measure is what is left.
 use mathlib.Core.Path.{_≡_, refl}
 use Prim.Native.Nat.{_-_, _≤_}
 use native.Mathlib.Omega.{arith}

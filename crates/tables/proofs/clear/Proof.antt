@@ -1,4 +1,5 @@
--- `tables::clear` meets its contract. The invariant: the first `i` numbers are 0, and the rest as they were. The measure is what is left.
+-- `tables::clear` meets its contract. The invariant: the first `i` numbers are 0, and the rest as they were. The
+-- measure is what is left.
 use mathlib.Core.Path.{_≡_, refl}
 use Prim.Native.Nat.{_-_, _≤_}
 use native.Mathlib.Omega.{arith}

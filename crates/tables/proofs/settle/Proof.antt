@@ -1,5 +1,5 @@
--- `tables::settle` meets its contract. The invariant: the first `i` numbers are moved out, and the rest are as they were. The measure is
--- what is left.
+-- `tables::settle` meets its contract. The invariant: the first `i` numbers are moved out, and the rest are as they
+-- were. The measure is what is left.
 use Prim.Native.Nat.{_-_, _≤_}
 use mathlib.Core.Path.{_≡_, refl}
 use native.Mathlib.Omega.{arith}

@@ -1,5 +1,5 @@
--- `digits::read::number` meets its contract. The invariant: what is read so far and what is left come to the whole (`Reads`).
--- The measure is what is left of the length. Assumes nothing.
+-- `digits::read::number` meets its contract. The invariant: what is read so far and what is left come to the whole
+-- (`Reads`). The measure is what is left of the length. Assumes nothing.
 use mathlib.Core.Path.{sym}
 use Prim.Native.Nat.{_≤_, _-_}
 use native.Mathlib.Omega.{arith}

@@ -1,5 +1,5 @@
--- `digits::write::put_digits` meets its contract. The invariant: the digits still to be written of `rest`, before what is written
--- from `i` on, are the digits of `x`. The measure is `i`. Assumes nothing.
+-- `digits::write::put_digits` meets its contract. The invariant: the digits still to be written of `rest`, before
+-- what is written from `i` on, are the digits of `x`. The measure is `i`. Assumes nothing.
 use borrow.Author.Needs.{needs}
 use mathlib.Core.Path.{_≡_, refl, _∙_, ap}
 use mathlib.Core.List.{List, _++_, append-nil}
