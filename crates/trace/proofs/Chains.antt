@@ -1,24 +1,24 @@
 -- The chains, the span and the chosen chain of an invocation are those of its body's plan, which the recurrence gives.
 use mathlib.Core.Path.{_≡_, refl, sym, _∙_, ap, subst, subst₂}
 use mathlib.Core.Logic.{_⊎_, inl, inr}
-use mathlib.Core.List.{List, [], _∷_, _++_, append-assoc, List·Memᴰ, List·Memᴰ·head, List·Memᴰ·tail, List·Memᴰ·not-nil, List·Memᴰ·cases-cons, Memᴰ·append-left, Memᴰ·append-right}
+use mathlib.Core.List.{List, [], _∷_, _++_, List·Memᴰ, List·Memᴰ·head, List·Memᴰ·tail, List·Memᴰ·not-nil, List·Memᴰ·cases-cons, Memᴰ·append-left, Memᴰ·append-right}
 use Prim.Native.Nat.{ℕ, zero, suc, _+_, _≤_, _<_}
 use native.Mathlib.Omega.{arith}
 use native.Mathlib.Nat.{le-dest}
 use lib.ListN.{length, length-append}
 use lib.Dec.{T}
 use Rattle.line.specs.declared.Frame.{Frame}
-use Rattle.line.specs.declared.Frame.the-variants.{Call, Spawn, Cost}
+use Rattle.line.specs.declared.Frame.the-variants.{Cost}
 use Rattle.chain.specs.Plan.{CostLine, costs, All, Pairs, On, Apart}
 use Rattle.chain.specs.Plan as P
 use Rattle.trace.specs.Shape.{Is, root, walk, openAt, has, Parallel}
 use Rattle.trace.specs.Series.{Each, EachTwo, Series, value, valueAt, CostIn, Chain, weight, Span, Before, Chosen}
-use Rattle.trace.specs.Tree.{Body, done, spend, sync, call, spawn, linesOf, size}
-use Rattle.trace.specs.Fold.{costAt, block, after, plan, chainOf, linesIn}
+use Rattle.trace.specs.Tree.{Way, opening, spend, sync, Body, done, leaf, child, linesOf, size}
+use Rattle.trace.specs.Fold.{costAt, plan, chainOf, linesIn}
 use Rattle.trace.proofs.Basics.{below, clash}
-use Rattle.trace.proofs.Tree.{size-is}
+use Rattle.trace.proofs.Tree.{size-is, leaf-not-opening}
 use Rattle.trace.proofs.Levels.{in-of, in-lt}
-use Rattle.trace.proofs.Apart.{on-two, apart-beside, beside-apart}
+use Rattle.trace.proofs.Apart.{costs-two, on-two, apart-beside, beside-apart}
 use Rattle.trace.proofs.Recurrence.{Paid, chain-chosen}
 use Rattle.trace.proofs.Open.{in-to, in-from}
 use Rattle.trace.proofs.Context.{Ctx, is-append, at-open, at-is, local-to, local-from}
@@ -61,19 +61,14 @@ right-on n m u v x l w = (length u + w .0, omega (arith, w .1), subst (λ (A : T
 
 pub on-where : (b : Body) (n s : ℕ) (x : CostLine) → On (plan n s b) x → Where n (linesOf b) x
 on-where done n s x m = absurd (List·Memᴰ·not-nil m)
-on-where (spend v r) n s x m =
+on-where (leaf (spend v) r) n s x m =
     elim (List·Memᴰ·cases-cons m) [
       | inl e ↦ (zero, (let l : x .line ≡ n = ap (λ (y : CostLine). y .line) e in omega arith), ap (λ (y : CostLine). Cost (y .value)) (sym e))
       | inr k ↦ one-on n (Cost v) (linesOf r) x (on-where r (suc n) s x k)
     ]
-on-where (sync r) n s x m = one-on n _ (linesOf r) x (on-where r (suc n) s x m)
-on-where (call v g r) n s x m =
-    one-on n (Call v) (linesOf g ++ linesOf r) x (elim (on-two n s v g r x x x m) [
-      | inl o ↦ left-on (suc n) (linesOf g) (linesOf r) x (on-where g (suc n) v x o)
-      | inr o ↦ right-on (suc n) (size g) (linesOf g) (linesOf r) x (size-is g) (on-where r (suc n + size g) s x o)
-    ])
-on-where (spawn v g r) n s x m =
-    one-on n (Spawn v) (linesOf g ++ linesOf r) x (elim (on-two n s v g r x x x m) [
+on-where (leaf sync r) n s x m = one-on n _ (linesOf r) x (on-where r (suc n) s x m)
+on-where (child w v g r) n s x m =
+    one-on n (opening w v) (linesOf g ++ linesOf r) x (elim (on-two n s v g r x x w x m) [
       | inl o ↦ left-on (suc n) (linesOf g) (linesOf r) x (on-where g (suc n) v x o)
       | inr o ↦ right-on (suc n) (size g) (linesOf g) (linesOf r) x (size-is g) (on-where r (suc n + size g) s x o)
     ])
@@ -97,10 +92,10 @@ found-right l m k v h = record { cost = h .cost; on = Memᴰ·append-right l (h 
 abbrev Finds : Body → Type 0
 Finds b = (n s i w : ℕ) → Is (linesOf b) i (Cost w) → Found (costs (plan n s b)) (n + i) w
 
-find-two : (n s v : ℕ) (g r : Body) → Finds g → Finds r → (i w : ℕ) → Is (linesOf g ++ linesOf r) i (Cost w) → Found (costs (plan n s (call v g r))) (n + suc i) w
-find-two n s v g r f f′ i w h =
-    found-line (costs (plan n s (call v g r))) (suc n + i) (n + suc i) w (omega arith)
-    (subst (λ (l : List CostLine). Found l (suc n + i) w) (sym (append-assoc (costs (plan (suc n) v g)) (costs (block (suc n + size g) s r)) (costs (after (suc n + size g) s r))))
+find-two : (m : Way) (n s v : ℕ) (g r : Body) → Finds g → Finds r → (i w : ℕ) → Is (linesOf g ++ linesOf r) i (Cost w) → Found (costs (plan n s (child m v g r))) (n + suc i) w
+find-two m n s v g r f f′ i w h =
+    found-line (costs (plan n s (child m v g r))) (suc n + i) (n + suc i) w (omega arith)
+    (subst (λ (l : List CostLine). Found l (suc n + i) w) (sym (costs-two n s v g r (costAt n s v) (costAt n s v) m))
     (elim (below (size g) i) [
       | inl l ↦ found-left (costs (plan (suc n) v g)) (costs (plan (suc n + size g) s r)) (suc n + i) w (f (suc n) v i w (is-left (linesOf g) (linesOf r) i (Cost w) (omega (arith, size-is g)) h))
       | inr k ↦ found-right (costs (plan (suc n) v g)) (costs (plan (suc n + size g) s r)) (suc n + i) w (behind k)
@@ -116,16 +111,14 @@ find-two n s v g r f f′ i w h =
 pub where-on : (b : Body) → Finds b
 where-on done n s zero w h = clash (cc)
 where-on done n s (suc i) w h = absurd h
-where-on (spend v r) n s zero w h = record { cost = costAt n s v; on = List·Memᴰ·head refl; line-is = omega arith; value-is = ap value h }
-where-on (spend v r) n s (suc i) w h =
+where-on (leaf (spend v) r) n s zero w h = record { cost = costAt n s v; on = List·Memᴰ·head refl; line-is = omega arith; value-is = ap value h }
+where-on (leaf (spend v) r) n s (suc i) w h =
     let f = where-on r (suc n) s i w h in
     record { cost = f .cost; on = List·Memᴰ·tail (f .on); line-is = omega (arith, f .line-is); value-is = f .value-is }
-where-on (sync r) n s zero w h = clash (cc)
-where-on (sync r) n s (suc i) w h = found-line (costs (plan n s (sync r))) (suc n + i) (n + suc i) w (omega arith) (where-on r (suc n) s i w h)
-where-on (call v g r) n s zero w h = clash (cc)
-where-on (call v g r) n s (suc i) w h = find-two n s v g r (where-on g) (where-on r) i w h
-where-on (spawn v g r) n s zero w h = clash (cc)
-where-on (spawn v g r) n s (suc i) w h = find-two n s v g r (where-on g) (where-on r) i w h
+where-on (leaf sync r) n s zero w h = clash (cc)
+where-on (leaf sync r) n s (suc i) w h = found-line (costs (plan n s (leaf sync r))) (suc n + i) (n + suc i) w (omega arith) (where-on r (suc n) s i w h)
+where-on (child m v g r) n s zero w h = leaf-not-opening (spend w) m v (sym h)
+where-on (child m v g r) n s (suc i) w h = find-two m n s v g r (where-on g) (where-on r) i w h
 
 -- ── one invocation ──
 
