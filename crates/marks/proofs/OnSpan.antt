@@ -10,10 +10,11 @@ use lib.ListN.{length, getD}
 use borrow.Author.Tests.{eqb-true, eqb-false}
 use Rattle.line.specs.declared.Frame.{Frame}
 use Rattle.chain.specs.Plan.{CostLine, costs}
+use Rattle.chain.specs.Over.{linesIn}
 use Rattle.trace.specs.Shape.{has}
 use Rattle.trace.specs.Rows.{columns}
 use Rattle.trace.specs.Tree.{leafWork, Body, done, leaf, child, size, Within, Parts, workOf}
-use Rattle.trace.specs.Fold.{plan, onRow, linesIn}
+use Rattle.trace.specs.Fold.{plan, onRow}
 use Rattle.trace.proofs.Root.{rootChain}
 use Rattle.trace.proofs.Columns.{sumWhere, where-leaf, where-two, on-span-costs}
 use Rattle.trace.proofs.OnChain.{on-span-tree}

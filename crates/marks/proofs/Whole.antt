@@ -7,6 +7,7 @@ use native.Mathlib.Decide.{decLt}
 use native.Mathlib.Omega.{arith}
 use lib.ListN.{length, getD, replicate, length-replicate, List·getD-eq-default}
 use Rattle.line.specs.declared.Frame.{Frame}
+use Rattle.chain.specs.Over.{linesIn}
 use Rattle.trace.specs.declared.Answer.{Answer}
 use Rattle.trace.specs.declared.Answer.the-variants.{Accepted, Refused}
 use Rattle.trace.specs.Shape.{has, sites}
@@ -15,7 +16,7 @@ use Rattle.trace.specs.Refusals.{accepted, refused, verdict}
 use Rattle.trace.specs.Promise.{marks, Lent, enough, scratchRoom, rowsRoom, marksRoom, Profile, Promise}
 use Rattle.trace.specs.ByTree.{cell, ProfileBy}
 use Rattle.trace.specs.Tree.{Body, linesOf, size, Within, Parts, workOf, spanOf}
-use Rattle.trace.specs.Fold.{nothing, chainOf, onRow, linesIn}
+use Rattle.trace.specs.Fold.{nothing, chainOf, onRow}
 use Rattle.trace.proofs.Basics.{clash}
 use Rattle.trace.proofs.Scan.{Fine, accepted-is}
 use Rattle.trace.proofs.Outcome.{tree-profile, work-small}

@@ -11,12 +11,13 @@ use borrow.Author.Tests.{eq-eqb, ne-eqb}
 use Rattle.line.specs.declared.Frame.{Frame}
 use Rattle.chain.specs.Plan.{CostLine, costs, All, Pairs, Less}
 use Rattle.chain.specs.Plan as P
+use Rattle.chain.specs.Over.{linesIn}
 use Rattle.chain.proofs.Lists.{all-map, all-both, all-at, all-append, pairs-map}
 use Rattle.trace.specs.Shape.{root, has, sites}
 use Rattle.trace.specs.Series.{Span, Chosen}
 use Rattle.trace.specs.Rows.{total, local, onSpan}
 use Rattle.trace.specs.Tree.{spend, sync, Body, done, leaf, child, size, Within, Parts, workOf}
-use Rattle.trace.specs.Fold.{block, after, plan, onRow, linesIn}
+use Rattle.trace.specs.Fold.{block, after, plan, onRow}
 use Rattle.trace.proofs.Apart.{all-together, plan-ordered}
 use Rattle.trace.proofs.Recurrence.{chain-chosen, weight-chain}
 use Rattle.trace.proofs.Sums.{upTo, up-add, up-same, up-one}

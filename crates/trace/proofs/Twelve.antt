@@ -7,12 +7,13 @@ use lib.ListN.{length}
 use Rattle.line.specs.declared.Frame.{Frame}
 use Rattle.line.specs.declared.Frame.the-variants.{Site}
 use Rattle.chain.specs.Plan.{choose}
+use Rattle.chain.specs.Over.{linesIn}
 use Rattle.trace.specs.Shape.{root}
 use Rattle.trace.specs.Series.{Span, Chosen}
 use Rattle.trace.specs.Rows.{total, Spans, onSpan}
 use Rattle.trace.specs.Refusals.{Verdict, accepted, verdict}
 use Rattle.trace.specs.Tree.{call, spawn, spend, sync, Body, done, leaf, child, linesOf, Parts, spanOf, spansIn}
-use Rattle.trace.specs.Fold.{chainOf, linesIn}
+use Rattle.trace.specs.Fold.{chainOf}
 use Rattle.trace.specs.Twelve.{Case, twelve, Holds, AllHold, K, RowOne, Claim}
 use Rattle.trace.proofs.Basics.{clash}
 use Rattle.trace.proofs.Tree.{parts-one}

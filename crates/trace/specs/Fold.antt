@@ -83,8 +83,3 @@ chainOf n s b = ended (run n s b)
 abbrev pub onRow : ℕ → List CostLine → ℕ
 onRow s [] = 0
 onRow s (x ∷ c) = cond (eqb (x .row) s) (x .value) 0 + onRow s c
-
--- the line numbers of a chain
-abbrev pub linesIn : List CostLine → List ℕ
-linesIn [] = []
-linesIn (x ∷ c) = x .line ∷ linesIn c
