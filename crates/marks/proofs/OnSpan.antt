@@ -15,6 +15,7 @@ use Rattle.trace.specs.Shape.{has}
 use Rattle.trace.specs.Rows.{columns}
 use Rattle.trace.specs.Tree.{leafWork, Body, done, leaf, child, size, Within, Parts, workOf}
 use Rattle.trace.specs.Fold.{plan, onRow}
+use Rattle.trace.proofs.Basics.{cond-le}
 use Rattle.trace.proofs.Root.{rootChain}
 use Rattle.trace.proofs.Columns.{sumWhere, where-leaf, where-two, on-span-costs}
 use Rattle.trace.proofs.OnChain.{on-span-tree}
@@ -35,10 +36,6 @@ on-out m sites D d i (leaf q r) n s h w l = omega (arith, one-other (columns * s
 on-out m sites D d i (child q j g r) n s h w l = omega (arith, on-out m sites D (suc d) i g (n + 1) j (h .3) (h .1) l, on-out m sites D d i r (n + (1 + size g)) s (h .4) w l)
 
 -- never more than the work
-cond-le : (b : Bool) (v : ℕ) → cond b v 0 ≤ v
-cond-le true v = omega arith
-cond-le false v = omega arith
-
 pub on-le : (m : List ℕ) (i : ℕ) (b : Body) (n s : ℕ) → onGain m n s b i ≤ workOf b
 on-le m i done n s = omega arith
 on-le m i (leaf q r) n s = omega (arith, cond-le (eqb (columns * s + 4) i) (marked (getD m n 0) (leafWork q)), cond-le (eqb (getD m n 0) 1) (leafWork q), on-le m i r (n + 1) s)

@@ -12,12 +12,13 @@ use Rattle.trace.specs.declared.Answer.{Answer}
 use Rattle.trace.specs.declared.Answer.the-variants.{Accepted, Refused}
 use Rattle.trace.specs.Shape.{sites}
 use Rattle.trace.specs.Rows.{columns}
-use Rattle.trace.specs.Refusals.{accepted, refused, verdict}
+use Rattle.trace.specs.Refusals.{refused, verdict}
 use Rattle.trace.specs.Promise.{tables, enough, Profile, Promise}
 use Rattle.trace.specs.ByTree.{cell, ProfileBy}
 use Rattle.trace.specs.Tree.{Body, size, workOf, spanOf}
 use Rattle.trace.specs.Fold.{nothing, chainOf}
 use Rattle.trace.proofs.Basics.{clash}
+use Rattle.trace.proofs.Scan.{accepted-same}
 use Rattle.trace.proofs.Outcome.{tree-profile}
 use Rattle.admit.specs.declared.Verdict.the-variants as Verdict
 use Rattle.admit.specs.Answer.{admission}
@@ -36,9 +37,6 @@ use Rattle.tables.proofs.Parts.{own-only}
 
 zeros-show : (n w l : ℕ) → Shows n w (replicate l 0) nothing []
 zeros-show n w l = record { P = λ i h. zeros-at l (0 + i); L = λ i h. zeros-at l (n + i); C = λ i h. zeros-at l (2 * n + i); G = λ i h. zeros-at l (4 * n + i); zero = λ j a b c d. zeros-at l j }
-
-accepted-same : (t u : List Frame) → accepted t ≡ accepted u → t ≡ u
-accepted-same t u e = cc
 
 -- the room, depth by depth
 room-is : (D n : ℕ) → 1 ≤ D → 4 * D * n ≡ 4 * n + (D - 1) * (4 * n)

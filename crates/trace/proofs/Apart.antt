@@ -108,6 +108,21 @@ To b = (n s : ℕ) (u : List Frame) (x y : CostLine) (i j : ℕ) → At n x i �
 abbrev From : Body → Type 0
 From b = (n s : ℕ) (u : List Frame) (x y : CostLine) (i j : ℕ) → At n x i → At n y j → On (plan n s b) x → On (plan n s b) y → Less x y → Beside (linesOf b ++ u) i j → Apart (plan n s b) x y
 
+-- a child's costs, and the rest's
+pub costs-two : (w : Way) (n s v : ℕ) (g r : Body) → costs (plan n s (child w v g r)) ≡ costs (plan (suc n) v g) ++ costs (plan (suc n + size g) s r)
+costs-two w n s v g r =
+    let G = plan (suc n) v g in
+    let B = block (suc n + size g) s r in
+    let A = after (suc n + size g) s r in
+    ap (λ (l : List CostLine). l ++ costs A) (costs-together w G B) ∙ append-assoc (costs G) (costs B) (costs A)
+
+pub on-two : (w : Way) (n s v : ℕ) (g r : Body) (z : CostLine) → On (plan n s (child w v g r)) z → On (plan (suc n) v g) z ⊎ On (plan (suc n + size g) s r) z
+on-two w n s v g r z m = List·Memᴰ·append-cases (costs (plan (suc n) v g)) (subst (λ (l : List CostLine). List·Memᴰ z l) (costs-two w n s v g r) m)
+
+later : (n s v : ℕ) (g r : Body) (z : CostLine) → On (plan (suc n) v g) z ⊎ On (plan (suc n + size g) s r) z → n < z .line
+later n s v g r z (inl o) = omega (arith, on-range g (suc n) v z o)
+later n s v g r z (inr o) = omega (arith, on-range r (suc n + size g) s z o)
+
 module _ (n s v : ℕ) (g r : Body) (x y : CostLine) where
   abbrev G : Plan
   G = plan (suc n) v g
@@ -117,17 +132,6 @@ module _ (n s v : ℕ) (g r : Body) (x y : CostLine) where
 
   abbrev B : Plan
   B = block (suc n + size g) s r
-
-  -- the costs of the child, and of the rest
-  pub costs-two : (w : Way) → costs (plan n s (child w v g r)) ≡ costs G ++ costs R
-  costs-two w = ap (λ (l : List CostLine). l ++ costs (after (suc n + size g) s r)) (costs-together w G B) ∙ append-assoc (costs G) (costs B) (costs (after (suc n + size g) s r))
-
-  pub on-two : (w : Way) (z : CostLine) → On (plan n s (child w v g r)) z → On G z ⊎ On R z
-  on-two w z m = List·Memᴰ·append-cases (costs G) (subst (λ (l : List CostLine). List·Memᴰ z l) (costs-two w) m)
-
-  later : (z : CostLine) → On G z ⊎ On R z → n < z .line
-  later z (inl o) = omega (arith, on-range g (suc n) v z o)
-  later z (inr o) = omega (arith, on-range r (suc n + size g) s z o)
 
   -- apart: in the child and in its block, where it is spawned, or in one of the two
   two-of : (w : Way) → Apart (plan n s (child w v g r)) x y → Spawning w (On G x × On B y) ⊎ (Apart G x y ⊎ Apart R x y)
@@ -244,7 +248,7 @@ apart-beside (leaf l r) n s u x y i j p q a =
 apart-beside (child w v g r) n s u x y i j p q a =
     let on = apart-on (plan n s (child w v g r)) x y a in
     subst (λ (t : List Frame). Beside (opening w v ∷ t) i j) (sym (append-assoc (linesOf g) (linesOf r) u))
-    (enter (opening w v) (linesOf g ++ (linesOf r ++ u)) n x y i j p q (later n s v g r x y x (on-two n s v g r x y w x (on .0))) (later n s v g r x y y (on-two n s v g r x y w y (on .1)))
+    (enter (opening w v) (linesOf g ++ (linesOf r ++ u)) n x y i j p q (later n s v g r x (on-two w n s v g r x (on .0))) (later n s v g r y (on-two w n s v g r y (on .1)))
     (λ i′ j′ p′ q′. beside-opening w v (linesOf g ++ (linesOf r ++ u)) i′ j′
     (⊎-map (spawning w (to-here n s v g r x y u i′ j′ p′ q′)) (to-two n s v g r x y u i′ j′ p′ q′ (apart-beside g) (apart-beside r)) (two-of n s v g r x y w a))))
 
@@ -259,8 +263,8 @@ beside-apart (leaf k r) n s u x y (suc i) (suc j) p q ox oy l a =
 beside-apart (child w v g r) n s u x y zero j p q ox oy l a = absurd a
 beside-apart (child w v g r) n s u x y (suc i) zero p q ox oy l a = absurd a
 beside-apart (child w v g r) n s u x y (suc i) (suc j) p q ox oy l a =
-    let ox′ = on-two n s v g r x y w x ox in
-    let oy′ = on-two n s v g r x y w y oy in
+    let ox′ = on-two w n s v g r x ox in
+    let oy′ = on-two w n s v g r y oy in
     of-two n s v g r x y w
     (⊎-map (spawning w (from-here n s v g r x y u i j (omega arith) (omega arith) ox′ oy′)) (from-two n s v g r x y u i j (omega arith) (omega arith) (beside-apart g) (beside-apart r) ox′ oy′ l)
     (opening-beside w v (linesOf g ++ (linesOf r ++ u)) i j (rw (append-assoc (linesOf g) (linesOf r) u) at a)))

@@ -71,7 +71,7 @@ on-where (leaf (spend v) r) n s x m =
     ]
 on-where (leaf sync r) n s x m = one-on n _ (linesOf r) x (on-where r (suc n) s x m)
 on-where (child w v g r) n s x m =
-    one-on n (opening w v) (linesOf g ++ linesOf r) x (elim (on-two n s v g r x x w x m) [
+    one-on n (opening w v) (linesOf g ++ linesOf r) x (elim (on-two w n s v g r x m) [
       | inl o ↦ left-on (suc n) (linesOf g) (linesOf r) x (on-where g (suc n) v x o)
       | inr o ↦ right-on (suc n) (size g) (linesOf g) (linesOf r) x (size-is g) (on-where r (suc n + size g) s x o)
     ])
@@ -91,7 +91,7 @@ Finds b = (n s i w : ℕ) → Is (linesOf b) i (Cost w) → Found (costs (plan n
 find-two : (m : Way) (n s v : ℕ) (g r : Body) → Finds g → Finds r → (i w : ℕ) → Is (linesOf g ++ linesOf r) i (Cost w) → Found (costs (plan n s (child m v g r))) (n + suc i) w
 find-two m n s v g r f f′ i w h =
     found-line (costs (plan n s (child m v g r))) (suc n + i) (n + suc i) w (omega arith)
-    (subst (λ (l : List CostLine). Found l (suc n + i) w) (sym (costs-two n s v g r (costAt n s v) (costAt n s v) m))
+    (subst (λ (l : List CostLine). Found l (suc n + i) w) (sym (costs-two m n s v g r))
     (elim (below (size g) i) [
       | inl l ↦ found-left (costs (plan (suc n) v g)) (costs (plan (suc n + size g) s r)) (suc n + i) w (f (suc n) v i w (is-left (linesOf g) (linesOf r) i (Cost w) (omega (arith, size-is g)) h))
       | inr k ↦ found-right (costs (plan (suc n) v g)) (costs (plan (suc n + size g) s r)) (suc n + i) w (behind k)

@@ -15,7 +15,7 @@ use Rattle.trace.specs.Series.{value, Span}
 use Rattle.trace.specs.Rows.{makes, made, ofRow, sumOf, costsWhere, total, inside, sum, Sum, calls, work, Spans, local, onSpan}
 use Rattle.trace.specs.Tree.{Way, opening, Leaf, spend, sync, lineOf, leafWork, Body, done, leaf, child, linesOf, size, Within, Parts, workOf, spanOf, localOf, madeSum, callsIn, workIn, spansIn, localIn}
 use Rattle.trace.specs.Fold.{costAt, plan}
-use Rattle.trace.proofs.Basics.{cond-same}
+use Rattle.trace.proofs.Basics.{cond-same, cond-add}
 use Rattle.trace.proofs.Tree.{leaf-step, opening-step, opening-makes, leaf-value, opening-value}
 use Rattle.trace.proofs.Apart.{costs-two}
 use Rattle.trace.proofs.Sums.{not-made, makesAt, has-made, sum-made, sum-zero, sum-add, sum-same}
@@ -67,7 +67,7 @@ where-leaf w sync n s r = omega (arith, cond-same (w (costAt n s 0)))
 
 pub where-two : (w : CostLine → Bool) (m : Way) (n s i : ℕ) (g r : Body) → sumWhere w (costs (plan n s (child m i g r))) ≡ sumWhere w (costs (plan (suc n) i g)) + sumWhere w (costs (plan (suc n + size g) s r))
 where-two w m n s i g r =
-    ap (sumWhere w) (costs-two n s i g r (costAt n s 0) (costAt n s 0) m) ∙ where-append w (costs (plan (suc n) i g)) (costs (plan (suc n + size g) s r))
+    ap (sumWhere w) (costs-two m n s i g r) ∙ where-append w (costs (plan (suc n) i g)) (costs (plan (suc n + size g) s r))
 
 -- the invocation c is one of row r, once, and of no other row
 abbrev Known : List Frame → ℕ → ℕ → Type 0
@@ -173,14 +173,10 @@ module _ (t : List Frame) (s : ℕ) (q : ℕ → Bool) (pick : ℕ → ℕ → L
 row-costs : (s : ℕ) (b : Body) (n r : ℕ) → sumWhere (λ x. eqb (x .row) s) (costs (plan n r b)) ≡ cond (eqb r s) (localOf b) 0 + madeSum localOf s b
 row-costs s done n r = omega (arith, cond-same (eqb r s))
 row-costs s (leaf l b) n r = omega (arith, where-leaf (λ x. eqb (x .row) s) l n r b, cond-add (eqb r s) (leafWork l) (localOf b), row-costs s b (suc n) r)
-  where
-    cond-add : (b : Bool) (x y : ℕ) → cond b (x + y) 0 ≡ cond b x 0 + cond b y 0
-    cond-add true x y = refl
-    cond-add false x y = refl
 row-costs s (child m i g b) n r = omega (arith, where-two (λ x. eqb (x .row) s) m n r i g b, row-costs s g (suc n) i, row-costs s b (suc n + size g) r)
 
 -- no site is 0
-none-from-root : (h : Body → ℕ) (m D d : ℕ) (b : Body) → Within m D d b → madeSum h 0 b ≡ 0
+pub none-from-root : (h : Body → ℕ) (m D d : ℕ) (b : Body) → Within m D d b → madeSum h 0 b ≡ 0
 none-from-root h m D d done w = refl
 none-from-root h m D d (leaf l r) w = none-from-root h m D d r (w .1)
 none-from-root h m D d (child k i g r) w =

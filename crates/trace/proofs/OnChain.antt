@@ -18,6 +18,7 @@ use Rattle.trace.specs.Series.{Span, Chosen}
 use Rattle.trace.specs.Rows.{total, local, onSpan}
 use Rattle.trace.specs.Tree.{spend, sync, Body, done, leaf, child, size, Within, Parts, workOf}
 use Rattle.trace.specs.Fold.{block, after, plan, onRow}
+use Rattle.trace.proofs.Basics.{cond-le}
 use Rattle.trace.proofs.Apart.{all-together, plan-ordered}
 use Rattle.trace.proofs.Recurrence.{chain-chosen, weight-chain}
 use Rattle.trace.proofs.Sums.{upTo, up-add, up-same, up-one}
@@ -85,11 +86,7 @@ row-append s (x ∷ c) d = omega (arith, row-append s c d)
 
 pub row-le : (s : ℕ) (c : List CostLine) → onRow s c ≤ P.weight c
 row-le s [] = omega arith
-row-le s (x ∷ c) = omega (arith, row-le s c, go (eqb (x .row) s))
-  where
-    go : (b : Bool) → cond b (x .value) 0 ≤ x .value
-    go true = omega arith
-    go false = omega arith
+row-le s (x ∷ c) = omega (arith, row-le s c, cond-le (eqb (x .row) s) (x .value))
 
 weight-of : (d : List CostLine) → sumWhere (λ x. true) d ≡ P.weight d
 weight-of [] = refl

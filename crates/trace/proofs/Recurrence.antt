@@ -6,6 +6,7 @@ use mathlib.Core.List.{List, [], _∷_, _++_, append-nil, append-assoc}
 use Prim.Native.Nat.{ℕ, suc, _+_, _≤_, _<_}
 use native.Mathlib.Omega.{arith}
 use lib.Dec.{ltb}
+use borrow.Author.Tests.{lt-ltb, le-ltb}
 use Rattle.chain.specs.Plan.{CostLine, costs, All, Worth, Positive, weight, choose, pick, Chosen}
 use Rattle.chain.proofs.Lists.{all-append, weight-append}
 use Rattle.chain.proofs.Choose.{test, choose-cases, choose-left, choose-right, choose-empty}
@@ -122,13 +123,11 @@ chain-only b n s h c w = chosen-unique (plan n s b) c (chainOf n s b) w (chain-c
 -- ── on numbers ──
 
 weight-choose : (a b : List CostLine) → weight (choose a b) ≡ larger (weight a) (weight b)
-weight-choose a b = go (choose-cases a b) (test (weight a) (weight b))
+weight-choose a b = go (choose-cases a b)
   where
-    go : Cases a b → ((weight a < weight b) × (ltb (weight a) (weight b) ≡ true)) ⊎ ((weight b ≤ weight a) × (ltb (weight a) (weight b) ≡ false)) → weight (choose a b) ≡ larger (weight a) (weight b)
-    go (inl k) (inl t) = rw (k .1, t .1)
-    go (inl k) (inr t) = absurd (omega arith)
-    go (inr k) (inl t) = absurd (omega arith)
-    go (inr k) (inr t) = rw (k .1, t .1)
+    go : Cases a b → weight (choose a b) ≡ larger (weight a) (weight b)
+    go (inl k) = simp (lt-ltb _ _ (k .0)) (ap weight (k .1))
+    go (inr k) = simp (le-ltb _ _ (k .0)) (ap weight (k .1))
 
 -- LAW: a join takes the heavier of the two
 pub weight-joined : (k : Chains) → weight (joined k .p) ≡ weight (k .p) + larger (weight (k .l)) (weight (k .c))

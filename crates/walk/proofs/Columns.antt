@@ -10,6 +10,8 @@ use borrow.Author.Tests.{eqb-true, eqb-false, eq-eqb, ne-eqb}
 use Rattle.trace.specs.Rows.{columns}
 use Rattle.trace.specs.ByTree.{cell}
 use Rattle.trace.specs.Tree.{leafWork, Body, done, leaf, child, Within, workOf, localOf, spanOf, madeSum, rowSum, callsIn, workIn, spansIn, localIn}
+use Rattle.trace.proofs.Basics.{cond-same, cond-add}
+use Rattle.trace.proofs.Columns.{none-from-root}
 use Rattle.walk.specs.Gain.{one, counted, made, gain, Grown}
 use Rattle.walk.proofs.Rows.{one-same, one-other}
 
@@ -62,17 +64,9 @@ gain-work row s b = sum-made workOf 1 (λ j g s. made-work j s g) (spent-cross 1
 pub gain-span : (row s : ℕ) (b : Body) → gain row b (columns * s + 2) ≡ madeSum spanOf s b
 gain-span row s b = sum-made spanOf 2 (λ j g s. made-span j s g) (spent-cross 2 (omega arith)) row s b
 
-cond-add : (b : Bool) (x y : ℕ) → cond b (x + y) 0 ≡ cond b x 0 + cond b y 0
-cond-add true x y = refl
-cond-add false x y = refl
-
-cond-none : (b : Bool) → _≡_ {A = ℕ} (cond b 0 0) 0
-cond-none true = refl
-cond-none false = refl
-
 -- column 4: what is spent directly in the body belongs to its own row
 pub gain-local : (row s : ℕ) (b : Body) → gain row b (columns * s + 3) ≡ cond (eqb row s) (localOf b) 0 + madeSum localOf s b
-gain-local row s done = omega (arith, cond-none (eqb row s))
+gain-local row s done = omega (arith, cond-same (eqb row s))
 gain-local row s (leaf l r) = omega (arith, one-here 3 row s (leafWork l) (columns * row + 3) (columns * s + 3) refl refl, cond-add (eqb row s) (leafWork l) (localOf r), gain-local row s r)
 gain-local row s (child k j g r) = omega (arith, made-local j s g, gain-local j s g, gain-local row s r)
 
@@ -92,12 +86,6 @@ gain-out m D d row i done h w l = refl
 gain-out m D d row i (leaf k r) h w l = omega (arith, one-other (columns * row + 3) (leafWork k) i (λ z. omega arith), gain-out m D d row i r (h .1) w l)
 gain-out m D d row i (child k j g r) h w l = omega (arith, counted-out m j (workOf g) (spanOf g) i (h .1) l, gain-out m D (suc d) j i g (h .3) (h .1) l, gain-out m D d row i r (h .4) w l)
 
--- no invocation is made from site 0
-made-none : (h : Body → ℕ) (m D d : ℕ) (b : Body) → Within m D d b → madeSum h 0 b ≡ 0
-made-none h m D d done w = refl
-made-none h m D d (leaf l r) w = made-none h m D d r (w .1)
-made-none h m D d (child k j g r) w = omega (arith, ap (λ (x : Bool). cond x (h g) 0) (ne-eqb j 0 (λ z. omega (arith, w .0))), made-none h m D (suc d) g (w .3), made-none h m D d r (w .4))
-
 -- what the root comes to in number i, by its body b: all that is inside, and the root itself
 abbrev pub whole : Body → ℕ → ℕ
 whole b i = gain 0 b i + made 0 b i
@@ -107,19 +95,19 @@ module _ (m D d : ℕ) (b : Body) (w : Within m D d b) where
   later i h = omega (arith, one-other 0 1 i (λ z. omega arith), one-other 1 (workOf b) i (λ z. omega arith), one-other 2 (spanOf b) i (λ z. omega arith))
 
   whole-calls : (s : ℕ) → whole b (columns * s) ≡ callsIn s b
-  whole-calls zero = omega (arith, gain-calls 0 0 b, made-none (λ g. 1) m D d b w)
+  whole-calls zero = omega (arith, gain-calls 0 0 b, none-from-root (λ g. 1) m D d b w)
   whole-calls (suc s) = omega (arith, gain-calls 0 (suc s) b, later (columns * suc s) (omega arith))
 
   whole-work : (s : ℕ) → whole b (columns * s + 1) ≡ workIn s b
-  whole-work zero = omega (arith, gain-work 0 0 b, made-none workOf m D d b w)
+  whole-work zero = omega (arith, gain-work 0 0 b, none-from-root workOf m D d b w)
   whole-work (suc s) = omega (arith, gain-work 0 (suc s) b, later (columns * suc s + 1) (omega arith))
 
   whole-span : (s : ℕ) → whole b (columns * s + 2) ≡ spansIn s b
-  whole-span zero = omega (arith, gain-span 0 0 b, made-none spanOf m D d b w)
+  whole-span zero = omega (arith, gain-span 0 0 b, none-from-root spanOf m D d b w)
   whole-span (suc s) = omega (arith, gain-span 0 (suc s) b, later (columns * suc s + 2) (omega arith))
 
   whole-local : (s : ℕ) → whole b (columns * s + 3) ≡ localIn s b
-  whole-local zero = omega (arith, gain-local 0 0 b, made-none localOf m D d b w)
+  whole-local zero = omega (arith, gain-local 0 0 b, none-from-root localOf m D d b w)
   whole-local (suc s) = omega (arith, gain-local 0 (suc s) b, ap (λ (x : Bool). cond x (localOf b) 0) (ne-eqb 0 (suc s) (λ z. omega arith)), later (columns * suc s + 3) (omega arith))
 
   pub whole-on : (s : ℕ) → whole b (columns * s + 4) ≡ 0
