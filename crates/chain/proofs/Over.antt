@@ -15,7 +15,7 @@ pub record Found (l : List CostLine) (k v : ℕ) : Type 0 where
   pub line-is : cost .line ≡ k
   pub value-is : cost .value ≡ v
 
--- the plan's costs are the rule's cost lines, and two of them are apart in the plan exactly where they are parallel by the rule
+-- the plan's costs are the rule's cost lines, and two are apart in the plan exactly where they are parallel by the rule
 pub record Fits (r : Rule) (p : Plan) : Type 0 where
   pub found : (k : ℕ) → r .Cost k → Found (costs p) k (r .value k)
   pub on : (y : CostLine) → On p y → r .Cost (y .line) × (r .value (y .line) ≡ y .value)

@@ -25,7 +25,8 @@ EachTwo r (x ∷ l) = Each (r x) l × EachTwo r l
 abbrev pub Series : (ℕ → ℕ → Type 0) → ℕ → ℕ → Type 0
 Series Parallel i j = (i < j) × (¬ Parallel i j)
 
--- "A chain is a set of cost lines, each two of them in series; the empty set is one." The set is its ascending list of line numbers.
+-- "A chain is a set of cost lines, each two of them in series; the empty set is one." The set is its ascending list of
+-- line numbers.
 pub record Chain (r : Rule) (c : List ℕ) : Type 0 where
   pub costs : Each (r .Cost) c
   pub series : EachTwo (Series (r .Parallel)) c

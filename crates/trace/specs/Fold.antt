@@ -69,7 +69,7 @@ abbrev pub childChains : Way → (Chains → Chains) → Chains → Chains
 childChains call f k = called (ended f) k
 childChains spawn f k = spawned (ended f) k
 
--- what the items of a body make of the chains of the invocation they are in, from whatever chains it has come to; the join at its return is not among them
+-- what the items of a body make of the chains that its invocation has come to; the join at its return is left to the caller
 abbrev pub run : ℕ → ℕ → Body → Chains → Chains
 run n s done k = k
 run n s (leaf l r) k = run (suc n) s r (leafChains n s l k)

@@ -1,4 +1,4 @@
--- Series, chain, weight, span, and the chosen chain, over line numbers: those of crate `chain`, by the rule of this family of traces.
+-- Series, chain, weight, span, and the chosen chain, over line numbers: those of `chain/specs/Over`, by the rule of these traces.
 use Prim.Native.Nat.{ℕ, zero, suc}
 use mathlib.Core.List.{List, [], _∷_}
 use Rattle.line.specs.declared.Frame.{Frame}
