@@ -9,8 +9,9 @@ use lib.ListN.{length}
 use lib.Dec.{eqb}
 use borrow.Author.Tests.{eq-eqb, ne-eqb}
 use Rattle.line.specs.declared.Frame.{Frame}
+use Rattle.chain.specs.Over.{Each, EachTwo}
 use Rattle.trace.specs.Shape.{root, step, walk, has, firstIs}
-use Rattle.trace.specs.Series.{value, valueAt, Each, EachTwo}
+use Rattle.trace.specs.Series.{value, valueAt}
 use Rattle.trace.specs.Rows.{ofRow, sumOf, sum, onSpan}
 use Rattle.trace.proofs.Sums.{same-or-not, sum-made, sum-zero, sum-add}
 use Rattle.agree.specs.Shown.{linesWhere, firstOf, inRow, costsInRow}

@@ -6,8 +6,8 @@ use mathlib.Core.List.{List, [], _∷_}
 use Prim.Native.Nat.{ℕ, zero, suc, _+_, _≤_, _<_}
 use native.Mathlib.Omega.{arith}
 use borrow.Author.Tests.{eq-eqb, ne-eqb}
+use Rattle.chain.specs.Over.{Each, EachTwo}
 use Rattle.trace.specs.Shape.{has}
-use Rattle.trace.specs.Series.{Each, EachTwo}
 use Rattle.trace.proofs.Basics.{below}
 use Rattle.agree.specs.Shown.{linesWhere}
 

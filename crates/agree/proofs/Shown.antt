@@ -8,9 +8,10 @@ use lib.ListN.{length, getD}
 use lib.Dec.{eqb}
 use Rattle.line.specs.declared.Frame.{Frame}
 use Rattle.line.specs.declared.Frame.the-variants.{Cost}
+use Rattle.chain.specs.Over.{Each, EachTwo}
 use Rattle.trace.specs.declared.Answer.{Answer}
 use Rattle.trace.specs.Shape.{root, has, sites}
-use Rattle.trace.specs.Series.{valueAt, Each, EachTwo, Series, CostIn, Chain, weight, Span, Chosen}
+use Rattle.trace.specs.Series.{valueAt, Series, CostIn, Chain, weight, Span, Chosen}
 use Rattle.trace.specs.Rows.{columns}
 use Rattle.trace.specs.Promise.{Engine, Lent, acceptance, Marks, Profile}
 use Rattle.trace.proofs.Chains.{is-length}

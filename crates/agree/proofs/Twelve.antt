@@ -5,8 +5,9 @@ use mathlib.Core.List.{List, [], _∷_, _++_, map}
 use Prim.Native.Nat.{ℕ}
 use lib.ListN.{length}
 use Rattle.chain.specs.Plan.{choose}
+use Rattle.chain.specs.Over.{linesIn}
 use Rattle.trace.specs.Tree.{Body, linesOf}
-use Rattle.trace.specs.Fold.{chainOf, linesIn}
+use Rattle.trace.specs.Fold.{chainOf}
 use Rattle.trace.specs.Twelve.{Case, twelve}
 use Rattle.trace.proofs.Basics.{clash}
 use Rattle.trace.proofs.Scan.{accepted-length}

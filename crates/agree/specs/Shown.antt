@@ -7,9 +7,10 @@ use mathlib.Core.List.{List, [], _∷_}
 use lib.Dec.{eqb}
 use lib.ListN.{getD}
 use Rattle.line.specs.declared.Frame.{Frame}
+use Rattle.chain.specs.Over.{Before}
 use Rattle.trace.specs.declared.Answer.{Answer}
 use Rattle.trace.specs.Shape.{root, openAt, has, sites}
-use Rattle.trace.specs.Series.{valueAt, Chain, weight, Before}
+use Rattle.trace.specs.Series.{valueAt, Chain, weight}
 use Rattle.trace.specs.Rows.{columns, ofRow, sum}
 use Rattle.trace.specs.Promise.{acceptance}
 

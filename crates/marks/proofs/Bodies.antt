@@ -7,7 +7,7 @@ use lib.ListN.{length}
 use Rattle.line.specs.At.{kindAt}
 use Rattle.chain.specs.Plan.{CostLine}
 use Rattle.trace.specs.Tree.{Body, done, linesOf}
-use Rattle.trace.specs.Fold.{Chains, nothing, joined, run}
+use Rattle.trace.specs.Fold.{Chains, nothing, joined, run, chainOf}
 use Rattle.walk.specs.declared.Open.{Open}
 use Rattle.walk.specs.Stands.{Stands, Says, kindOf}
 use Rattle.walk.specs.Numbers.{numbers}
@@ -92,7 +92,7 @@ module _ (s : List ℕ) (deep : ℕ) where
         let e = is-done s (z .own .at) kind says (u .0) (u .2 .stands) k5 in
         let d = j from (u .1) (u .2 .weighs) (u .3) in
         let at : r .own .at ≡ z .own .at + 1 = ap (λ (x : Open). x .at) (d .numbers-are) in
-        let c : joined (u .1) .p ≡ run from (z .row) nothing b = sym (ap (run (z .own .at) (z .row) (u .1)) e) ∙ u .2 .same-chain in
+        let c : joined (u .1) .p ≡ chainOf from (z .row) b = ap (λ (x : Chains). joined x .p) (sym (ap (λ (x : Body). run (z .own .at) (z .row) x (u .1)) e) ∙ u .2 .same-chains) in
         subst (λ (x : ℕ). BodyLeft from x b m₀ rows₀ (r .own) m′ rows) same
         (record {
           done = turn-done s from (z .row) rows₀ b (z .own) rows (u .0) (u .1) (u .2) len (r .own) e (d .numbers-are);

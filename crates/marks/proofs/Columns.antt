@@ -1,6 +1,5 @@
 -- The second reading, with no code in sight.
 use mathlib.Core.Path.{_≡_, refl, ap, _∙_, sym, subst}
-use mathlib.Core.Logic.{_⊎_, inl, inr}
 use mathlib.Core.Bool.{Bool, true, false, cond}
 use mathlib.Core.List.{List, [], _∷_, _++_}
 use Prim.Native.Nat.{ℕ, suc, _+_, _*_, _-_, _^_, _≤_, _<_}
@@ -11,7 +10,8 @@ use lib.Seq.{getD-set-same, getD-set-other, set-getD, set-set}
 use borrow.Author.Tests.{eq-eqb, ne-eqb}
 use Rattle.line.specs.At.{kindAt, siteAt, valueAt}
 use Rattle.trace.specs.Rows.{columns}
-use Rattle.trace.specs.Tree.{Body, done, spend, sync, call, spawn, linesOf, size}
+use Rattle.trace.specs.Tree.{spend, Body, done, leaf, child, linesOf, size}
+use Rattle.trace.proofs.Basics.{cond-same}
 use Rattle.trace.proofs.Tree.{size-is}
 use Rattle.walk.specs.Stands.{Stands, Says, kindOf}
 use Rattle.walk.specs.Gain.{one, Grown}
@@ -20,7 +20,7 @@ use Rattle.walk.proofs.Lines.{is-more, is-done, is-sync}
 use Rattle.walk.proofs.Says.{kind-says, site-says, value-says}
 use Rattle.walk.proofs.Rows.{one-same, grown-one}
 use Rattle.walk.proofs.Room.{lines-in}
-use Rattle.walk.proofs.Child.{cost-is, Child, child-is}
+use Rattle.walk.proofs.Child.{cost-is, child-is}
 use Rattle.marks.specs.declared.Present.{Present}
 use Rattle.marks.specs.Park.{Zero}
 use Rattle.marks.specs.Column.{marked, onGain, Left, left, AllStand, linesLeft, onLeft, AllWithin, behind, onLine, stacked, Held, HeldAfter, root, entered, Returned, OnLent, LineAsks, LineLeaves, ColumnAsks, ColumnLeaves}
@@ -65,26 +65,20 @@ stand-two s n row j g r k h w =
 -- behind a line the rest stands
 stand-behind : (s : List ℕ) (n row : ℕ) (b : Body) (k : List Left) → AllStand s n (left row b ∷ k) → AllStand s (n + 1) (behind row b k)
 stand-behind s n row done k h = h .1
-stand-behind s n row (spend v r) k h = (h .0 .1, stand-same s k (n + suc (size r)) (n + 1 + size r) (omega arith) (h .1))
-stand-behind s n row (sync r) k h = (h .0 .1, stand-same s k (n + suc (size r)) (n + 1 + size r) (omega arith) (h .1))
-stand-behind s n row (call j g r) k h = stand-two s n row j g r k (h .0 .1) (h .1)
-stand-behind s n row (spawn j g r) k h = stand-two s n row j g r k (h .0 .1) (h .1)
+stand-behind s n row (leaf l r) k h = (h .0 .1, stand-same s k (n + suc (size r)) (n + 1 + size r) (omega arith) (h .1))
+stand-behind s n row (child w j g r) k h = stand-two s n row j g r k (h .0 .1) (h .1)
 
 -- it stays within the limits
 within-behind : (sites D row : ℕ) (b : Body) (k : List Left) → AllWithin sites D (left row b ∷ k) → AllWithin sites D (behind row b k)
 within-behind sites D row done k h = h .3
-within-behind sites D row (spend v r) k h = (h .0, h .1, h .2 .2, h .3)
-within-behind sites D row (sync r) k h = h
-within-behind sites D row (call j g r) k h = (h .2 .1, h .2 .2, h .2 .3, (h .0, h .1, h .2 .4, h .3))
-within-behind sites D row (spawn j g r) k h = (h .2 .1, h .2 .2, h .2 .3, (h .0, h .1, h .2 .4, h .3))
+within-behind sites D row (leaf l r) k h = (h .0, h .1, h .2 .1, h .3)
+within-behind sites D row (child w j g r) k h = (h .2 .1, h .2 .2, h .2 .3, (h .0, h .1, h .2 .4, h .3))
 
 -- it is one line less
 lines-behind : (row : ℕ) (b : Body) (k : List Left) → linesLeft (left row b ∷ k) ≡ 1 + linesLeft (behind row b k)
 lines-behind row done k = omega arith
-lines-behind row (spend v r) k = omega arith
-lines-behind row (sync r) k = omega arith
-lines-behind row (call j g r) k = omega arith
-lines-behind row (spawn j g r) k = omega arith
+lines-behind row (leaf l r) k = omega arith
+lines-behind row (child w j g r) k = omega arith
 
 -- what a child adds, and behind it the invocation that it was made in
 on-two : (m : List ℕ) (n row j : ℕ) (g r : Body) (k : List Left) (i : ℕ) → onGain m (n + 1) j g i + onGain m (n + (1 + size g)) row r i + onLeft m (n + suc (size g + size r)) k i ≡ onLeft m (n + 1) (left j g ∷ (left row r ∷ k)) i
@@ -95,10 +89,8 @@ on-two m n row j g r k i =
 -- what is added in all is what the line adds and what the rest does
 on-behind : (m : List ℕ) (n row : ℕ) (b : Body) (k : List Left) (i : ℕ) → onLeft m n (left row b ∷ k) i ≡ onLine m n row b i + onLeft m (n + 1) (behind row b k) i
 on-behind m n row done k i = omega arith
-on-behind m n row (spend v r) k i = omega (arith, on-same m k i (n + suc (size r)) (n + 1 + size r) (omega arith))
-on-behind m n row (sync r) k i = omega (arith, on-same m k i (n + suc (size r)) (n + 1 + size r) (omega arith))
-on-behind m n row (call j g r) k i = omega (arith, on-two m n row j g r k i)
-on-behind m n row (spawn j g r) k i = omega (arith, on-two m n row j g r k i)
+on-behind m n row (leaf l r) k i = omega (arith, on-same m k i (n + suc (size r)) (n + 1 + size r) (omega arith))
+on-behind m n row (child w j g r) k i = omega (arith, on-two m n row j g r k i)
 
 -- The rows in the scratch.
 
@@ -185,7 +177,8 @@ module _ {s : List ℕ} {n : ℕ} {a : Present} {t m rows : List ℕ} (p : LineA
   pub sync-leaves : kind ≡ 4 → LineLeaves s n a t m rows a t rows
   sync-leaves k4 q =
       let e = is-sync s n kind says (q .body) (q .lent .stand .0) k4 in
-      subst (Leaves (q .z) (q .row) (q .around) a t rows) (sym (e .1)) (q .lent .held, grown-none)
+      subst (Leaves (q .z) (q .row) (q .around) a t rows) (sym (e .1))
+      (q .lent .held, λ i h. omega (arith, cond-same (eqb (columns * q .row + 4) i), ap (λ (x : ℕ). one (columns * q .row + 4) x i) (cond-same (eqb (getD m n 0) 1))))
 
   -- a return
   pub return-leaves : kind ≡ 5 → (r : Present) (t′ : List ℕ) → Returned t a r t′ → LineLeaves s n a t m rows r t′ rows
@@ -199,7 +192,7 @@ module _ {s : List ℕ} {n : ℕ} {a : Present} {t m rows : List ℕ} (p : LineA
     abbrev v : ℕ
     v = valueAt s n
 
-    spend-is : (b : Body) → Stands s n (linesOf b) → (r : Body) × (b ≡ spend v r)
+    spend-is : (b : Body) → Stands s n (linesOf b) → (r : Body) × (b ≡ leaf (spend v) r)
     spend-is = cost-is s n kind says v (value-says s n n v refl refl) k6
 
     pub add-asks : (n < length m) × (columns * a .row + 4 < length rows) × (getD rows (columns * a .row + 4) 0 + marked (getD m n 0) v < 2 ^ 64)
@@ -219,17 +212,9 @@ module _ {s : List ℕ} {n : ℕ} {a : Present} {t m rows : List ℕ} (p : LineA
   -- a call or a spawn of site
   module _ (site : ℕ) (sited : site ≡ siteAt s n) (k6 : kind ≡ 6 → ⊥) (k5 : kind ≡ 5 → ⊥) (k4 : kind ≡ 4 → ⊥) where
     pub child-leaves : (r : Present) (t′ : List ℕ) → r ≡ entered site a → t′ ≡ set t (a .around) (a .row) → LineLeaves s n a t m rows r t′ rows
-    child-leaves r t′ er et q = go (c .is)
-      where
-        c : Child s n site (q .body)
-        c = child-is s n kind site says (site-says s n n site refl sited) k6 k4 (q .body) (q .lent .stand .0) (is-more s n kind says (q .body) (q .lent .stand .0) k5)
-
-        both : Held (q .z) (left site (c .g) ∷ (left (q .row) (c .r) ∷ q .around)) r t′ × Grown rows (λ i. 0) rows
-        both = (held-entered (q .z) (q .around) a r t t′ (q .row) site (c .r) (c .g) (q .lent .held) er et, grown-none)
-
-        go : ((q .body ≡ call site (c .g) (c .r)) ⊎ (q .body ≡ spawn site (c .g) (c .r))) → Leaves (q .z) (q .row) (q .around) r t′ rows (q .body)
-        go (inl e) = subst (Leaves (q .z) (q .row) (q .around) r t′ rows) (sym e) both
-        go (inr e) = subst (Leaves (q .z) (q .row) (q .around) r t′ rows) (sym e) both
+    child-leaves r t′ er et q =
+        let c = child-is s n kind site says (site-says s n n site refl sited) k6 k4 (q .body) (q .lent .stand .0) (is-more s n kind says (q .body) (q .lent .stand .0) k5) in
+        subst (Leaves (q .z) (q .row) (q .around) r t′ rows) (sym (c .is)) (held-entered (q .z) (q .around) a r t t′ (q .row) site (c .r) (c .g) (q .lent .held) er et, grown-none)
 
 -- The loop.
 

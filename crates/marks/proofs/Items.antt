@@ -4,18 +4,20 @@ use mathlib.Core.List.{List}
 use Prim.Native.Nat.{ℕ, _+_, _*_, _-_, _^_, _≤_, _<_}
 use native.Mathlib.Omega.{arith}
 use lib.ListN.{length, getD}
+use lib.Dec.{eqb}
 use Rattle.line.specs.At.{kindAt, siteAt, valueAt}
 use Rattle.chain.specs.Plan.{weight}
 use Rattle.trace.specs.Rows.{columns}
-use Rattle.trace.specs.Tree.{Body, spend, sync, call, spawn, linesOf, workOf}
-use Rattle.trace.specs.Fold.{Chains, nothing, joined, called, spawned, run}
+use Rattle.trace.specs.Tree.{call, spawn, spend, sync, Body, leaf, child as nested, linesOf, workOf}
+use Rattle.trace.specs.Fold.{Chains, nothing, joined, called, spawned, chainOf}
+use Rattle.trace.proofs.Basics.{cond-same}
 use Rattle.walk.specs.declared.Open.{Open}
 use Rattle.walk.specs.Stands.{Stands, Says, kindOf, siteOf}
 use Rattle.walk.specs.Numbers.{numbers}
 use Rattle.walk.specs.Gain.{one, counted, Grown}
 use Rattle.walk.specs.Item.{itemChains}
 use Rattle.walk.specs.Reader.{ItemDone}
-use Rattle.walk.proofs.Items.{size-some, run-le}
+use Rattle.walk.proofs.Items.{size-some, chain-le}
 use Rattle.walk.proofs.Lines.{is-sync}
 use Rattle.walk.proofs.Says.{kind-says, site-says, value-says}
 use Rattle.walk.proofs.Room.{lines-in}
@@ -66,7 +68,7 @@ module _ {s : List ℕ} {deep : ℕ} {z : Zones} {t m rows : List ℕ} (l : Lent
       let d = j n k e sh in
       let o : z .own .work ≡ z .own .work + 0 = omega arith in
       subst (λ (x : Body). ItemLeft n x k z m rows r m′ rows) (sym (q .1))
-      (left-is n (z .own .at + 1) (z .own .work) (sync (q .0)) k z m rows r m′ rows d (record { numbers-are = d .numbers-are ∙ ap (λ (x : ℕ). numbers (z .own .at + 1) x (joined k)) o; rows-are = λ i l. omega arith }))
+      (left-is n (z .own .at + 1) (z .own .work) (leaf sync (q .0)) k z m rows r m′ rows d (record { numbers-are = d .numbers-are ∙ ap (λ (x : ℕ). numbers (z .own .at + 1) x (joined k)) o; rows-are = λ i l. omega (arith, cond-same (eqb (columns * z .row + 3) i)) }))
 
 -- the item is a cost of v
 pub record Costs (s : List ℕ) (deep : ℕ) (z : Zones) (t m rows : List ℕ) (kind v : ℕ) : Type 0 where
@@ -75,7 +77,7 @@ pub record Costs (s : List ℕ) (deep : ℕ) (z : Zones) (t m rows : List ℕ) (
   pub cost : kind ≡ 6
 
 module _ {s : List ℕ} {deep : ℕ} {z : Zones} {t m rows : List ℕ} {kind v : ℕ} (h : Costs s deep z t m rows kind v) where
-  spend-is : (b : Body) → Stands s (z .own .at) (linesOf b) → (r : Body) × (b ≡ spend v r)
+  spend-is : (b : Body) → Stands s (z .own .at) (linesOf b) → (r : Body) × (b ≡ leaf (spend v) r)
   spend-is = cost-is s (z .own .at) kind (kind-says s (z .own .at) (z .own .at) kind refl (h .asks .kind-is)) v (value-says s (z .own .at) (z .own .at) v refl (h .value-is)) (h .cost)
 
   fit : ((columns * z .row + 3 < length rows) × (getD rows (columns * z .row + 3) 0 + v < 2 ^ 64)) × ((z .own .work + v < 2 ^ 64) × (z .own .prefix + (z .own .longest + z .own .since) + v < 2 ^ 64))
@@ -95,7 +97,7 @@ module _ {s : List ℕ} {deep : ℕ} {z : Zones} {t m rows : List ℕ} {kind v :
       let q = spend-is b st in
       let d = sp n k e sh in
       subst (λ (x : Body). ItemLeft n x k z m rows r m′ rows′) (sym (q .1))
-      (left-is n (z .own .at + 1) (z .own .work + v) (spend v (q .0)) k z m rows r m′ rows′ d (record { numbers-are = d .numbers-are; rows-are = grown }))
+      (left-is n (z .own .at + 1) (z .own .work + v) (leaf (spend v) (q .0)) k z m rows r m′ rows′ d (record { numbers-are = d .numbers-are; rows-are = grown }))
 
 -- the item is a call or a spawn of site
 pub record Calls (s : List ℕ) (deep : ℕ) (z : Zones) (t m rows : List ℕ) (kind site : ℕ) : Type 0 where
@@ -150,7 +152,7 @@ module _ {s : List ℕ} {deep : ℕ} {z : Zones} {t m rows : List ℕ} {kind sit
 
     pub called-asks : Fits m₁ z (c .prefix) × (z .own .work + c .work < 2 ^ 64)
     called-asks = (
-      step-asks l (c .prefix) m₁ lm (omega (arith, both .1, ap (λ (x : Open). x .prefix) (left .done .numbers-are), run-le (child .g) (z .own .at + 1) site nothing)),
+      step-asks l (c .prefix) m₁ lm (omega (arith, both .1, ap (λ (x : Open). x .prefix) (left .done .numbers-are), chain-le (child .g) (z .own .at + 1) site)),
       omega (arith, both .0, ap (λ (x : Open). x .work) (left .done .numbers-are)),
     )
 
@@ -163,7 +165,7 @@ module _ {s : List ℕ} {deep : ℕ} {z : Zones} {t m rows : List ℕ} {kind sit
     module _ (rows₂ : List ℕ) (counts : Grown rows₁ (counted site (c .work) (c .prefix)) rows₂) (r : Zones) (m₂ : List ℕ) where
       -- the child's body is g: what the step asks for and leaves, as the item's
       behind : (n : ℕ) (k : Chains) (g b : Body) (x : Chains) → Stands s (z .own .at + 1) (linesOf g) → Shows n m z k
-          → (weight (run (z .own .at + 1) site nothing g) ≡ c .prefix → Shows n m₁ z k → z .own .at < c .at → Zone m₁ (z .own .at + 1) (c .at) (run (z .own .at + 1) site nothing g) → At n (c .at) (z .own .work + c .work) x m₁ z r m₂)
+          → (weight (chainOf (z .own .at + 1) site g) ≡ c .prefix → Shows n m₁ z k → z .own .at < c .at → Zone m₁ (z .own .at + 1) (c .at) (chainOf (z .own .at + 1) site g) → At n (c .at) (z .own .work + c .work) x m₁ z r m₂)
           → (ChildDone (z .own) site rows g c rows₂ → r .own ≡ numbers (c .at) (z .own .work + c .work) x → ItemDone (z .row) (z .own) rows b k (r .own) rows₂)
           → x ≡ itemChains (z .own .at) (z .row) b k → ItemLeft n b k z m rows r m₂ rows₂
       behind n k g b x st sh step item e =
@@ -182,13 +184,13 @@ module _ {s : List ℕ} {deep : ℕ} {z : Zones} {t m rows : List ℕ} {kind sit
       pub call-leaves : kind ≡ 2 → Called m₁ z c r m₂ → ItemLeaves s z m rows r m₂ rows₂
       call-leaves k2 step b n k more st e sh =
           let q = call-is s (z .own .at) kind says site sited b st k2 in
-          let g = run (z .own .at + 1) site nothing (q .0) in
+          let g = chainOf (z .own .at + 1) site (q .0) in
           subst (λ (x : Body). ItemLeft n x k z m rows r m₂ rows₂) (sym (q .2))
-          (behind n k (q .0) (call site (q .0) (q .1)) (called g k) (q .3) sh (step n k g e) (λ v w. record { numbers-are = w ∙ v .numbers-are (called g k); rows-are = v .rows-are }) refl)
+          (behind n k (q .0) (nested call site (q .0) (q .1)) (called g k) (q .3) sh (step n k g e) (λ v w. record { numbers-are = w ∙ v .numbers-are (called g k); rows-are = v .rows-are }) refl)
 
       pub spawn-leaves : (kind ≡ 2 → ⊥) → Spawned m₁ z c r m₂ → ItemLeaves s z m rows r m₂ rows₂
       spawn-leaves k2 step b n k more st e sh =
           let q = spawn-is s (z .own .at) kind says site sited (h .no-cost) (h .no-sync) b st more k2 in
-          let g = run (z .own .at + 1) site nothing (q .0) in
+          let g = chainOf (z .own .at + 1) site (q .0) in
           subst (λ (x : Body). ItemLeft n x k z m rows r m₂ rows₂) (sym (q .2))
-          (behind n k (q .0) (spawn site (q .0) (q .1)) (spawned g k) (q .3) sh (step n k g e) (λ v w. record { numbers-are = w ∙ v .numbers-are (spawned g k); rows-are = v .rows-are }) refl)
+          (behind n k (q .0) (nested spawn site (q .0) (q .1)) (spawned g k) (q .3) sh (step n k g e) (λ v w. record { numbers-are = w ∙ v .numbers-are (spawned g k); rows-are = v .rows-are }) refl)

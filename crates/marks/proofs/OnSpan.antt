@@ -10,12 +10,14 @@ use lib.ListN.{length, getD}
 use borrow.Author.Tests.{eqb-true, eqb-false}
 use Rattle.line.specs.declared.Frame.{Frame}
 use Rattle.chain.specs.Plan.{CostLine, costs}
+use Rattle.chain.specs.Over.{linesIn}
 use Rattle.trace.specs.Shape.{has}
 use Rattle.trace.specs.Rows.{columns}
-use Rattle.trace.specs.Tree.{Body, done, spend, sync, call, spawn, size, Within, Parts, workOf}
-use Rattle.trace.specs.Fold.{plan, onRow, linesIn}
+use Rattle.trace.specs.Tree.{leafWork, Body, done, leaf, child, size, Within, Parts, workOf}
+use Rattle.trace.specs.Fold.{plan, onRow}
+use Rattle.trace.proofs.Basics.{cond-le}
 use Rattle.trace.proofs.Root.{rootChain}
-use Rattle.trace.proofs.Columns.{sumWhere, where-two, on-span-costs}
+use Rattle.trace.proofs.Columns.{sumWhere, where-leaf, where-two, on-span-costs}
 use Rattle.trace.proofs.OnChain.{on-span-tree}
 use Rattle.walk.specs.Gain.{one}
 use Rattle.walk.proofs.Rows.{one-same, one-other}
@@ -24,30 +26,20 @@ use Rattle.marks.specs.Column.{marked, onGain}
 -- only column 5
 pub on-cross : (m : List ℕ) (j k : ℕ) → j < 4 → (b : Body) (n s : ℕ) → onGain m n s b (columns * k + j) ≡ 0
 on-cross m j k l done n s = refl
-on-cross m j k l (spend v r) n s = omega (arith, one-other (columns * s + 4) (marked (getD m n 0) v) (columns * k + j) (λ e. omega arith), on-cross m j k l r (n + 1) s)
-on-cross m j k l (sync r) n s = on-cross m j k l r (n + 1) s
-on-cross m j k l (call i g r) n s = omega (arith, on-cross m j k l g (n + 1) i, on-cross m j k l r (n + (1 + size g)) s)
-on-cross m j k l (spawn i g r) n s = omega (arith, on-cross m j k l g (n + 1) i, on-cross m j k l r (n + (1 + size g)) s)
+on-cross m j k l (leaf q r) n s = omega (arith, one-other (columns * s + 4) (marked (getD m n 0) (leafWork q)) (columns * k + j) (λ e. omega arith), on-cross m j k l r (n + 1) s)
+on-cross m j k l (child w i g r) n s = omega (arith, on-cross m j k l g (n + 1) i, on-cross m j k l r (n + (1 + size g)) s)
 
 -- only the rows
 pub on-out : (m : List ℕ) (sites D d i : ℕ) (b : Body) (n s : ℕ) → Within sites D d b → s ≤ sites → columns * (sites + 1) ≤ i → onGain m n s b i ≡ 0
 on-out m sites D d i done n s h w l = refl
-on-out m sites D d i (spend v r) n s h w l = omega (arith, one-other (columns * s + 4) (marked (getD m n 0) v) i (λ e. omega arith), on-out m sites D d i r (n + 1) s (h .2) w l)
-on-out m sites D d i (sync r) n s h w l = on-out m sites D d i r (n + 1) s h w l
-on-out m sites D d i (call j g r) n s h w l = omega (arith, on-out m sites D (suc d) i g (n + 1) j (h .3) (h .1) l, on-out m sites D d i r (n + (1 + size g)) s (h .4) w l)
-on-out m sites D d i (spawn j g r) n s h w l = omega (arith, on-out m sites D (suc d) i g (n + 1) j (h .3) (h .1) l, on-out m sites D d i r (n + (1 + size g)) s (h .4) w l)
+on-out m sites D d i (leaf q r) n s h w l = omega (arith, one-other (columns * s + 4) (marked (getD m n 0) (leafWork q)) i (λ e. omega arith), on-out m sites D d i r (n + 1) s (h .1) w l)
+on-out m sites D d i (child q j g r) n s h w l = omega (arith, on-out m sites D (suc d) i g (n + 1) j (h .3) (h .1) l, on-out m sites D d i r (n + (1 + size g)) s (h .4) w l)
 
 -- never more than the work
-cond-le : (b : Bool) (v : ℕ) → cond b v 0 ≤ v
-cond-le true v = omega arith
-cond-le false v = omega arith
-
 pub on-le : (m : List ℕ) (i : ℕ) (b : Body) (n s : ℕ) → onGain m n s b i ≤ workOf b
 on-le m i done n s = omega arith
-on-le m i (spend v r) n s = omega (arith, cond-le (eqb (columns * s + 4) i) (marked (getD m n 0) v), cond-le (eqb (getD m n 0) 1) v, on-le m i r (n + 1) s)
-on-le m i (sync r) n s = on-le m i r (n + 1) s
-on-le m i (call j g r) n s = omega (arith, on-le m i g (n + 1) j, on-le m i r (n + (1 + size g)) s)
-on-le m i (spawn j g r) n s = omega (arith, on-le m i g (n + 1) j, on-le m i r (n + (1 + size g)) s)
+on-le m i (leaf q r) n s = omega (arith, cond-le (eqb (columns * s + 4) i) (marked (getD m n 0) (leafWork q)), cond-le (eqb (getD m n 0) 1) (leafWork q), on-le m i r (n + 1) s)
+on-le m i (child w j g r) n s = omega (arith, on-le m i g (n + 1) j, on-le m i r (n + (1 + size g)) s)
 
 -- one cost of row s counts in row k where that is its row and its line is on the chain
 one-is : (s k v : ℕ) (b : Bool) → one (columns * s + 4) (marked (cond b 1 0) v) (columns * k + 4) ≡ cond (eqb s k && b) v 0
@@ -71,16 +63,16 @@ module _ (m c : List ℕ) (k : ℕ) where
 
   pub on-costs : (b : Body) (n s : ℕ) → Shown n (n + size b) → onGain m n s b (columns * k + 4) ≡ sumWhere On-it (costs (plan n s b))
   on-costs done n s h = refl
-  on-costs (spend v r) n s h =
+  on-costs (leaf l r) n s h =
       omega (
         arith,
-        ap (λ (x : ℕ). one (columns * s + 4) (marked x v) (columns * k + 4)) (h n (omega arith) (omega arith)),
-        one-is s k v (has n c),
+        ap (λ (x : ℕ). one (columns * s + 4) (marked x (leafWork l)) (columns * k + 4)) (h n (omega arith) (omega arith)),
+        one-is s k (leafWork l) (has n c),
         later (n + 1) (suc n) r s (add-one n),
         on-costs r (suc n) s (λ i p q. h i (omega arith) (omega arith)),
+        where-leaf On-it l n s r,
       )
-  on-costs (sync r) n s h = later (n + 1) (suc n) r s (add-one n) ∙ on-costs r (suc n) s (λ i p q. h i (omega arith) (omega arith))
-  on-costs (call j g r) n s h =
+  on-costs (child w j g r) n s h =
       let e : n + (1 + size g) ≡ suc n + size g = omega arith in
       omega (
         arith,
@@ -88,17 +80,7 @@ module _ (m c : List ℕ) (k : ℕ) where
         on-costs g (suc n) j (λ i p q. h i (omega arith) (omega arith)),
         later (n + (1 + size g)) (suc n + size g) r s e,
         on-costs r (suc n + size g) s (λ i p q. h i (omega arith) (omega arith)),
-        where-two On-it n s j g r,
-      )
-  on-costs (spawn j g r) n s h =
-      let e : n + (1 + size g) ≡ suc n + size g = omega arith in
-      omega (
-        arith,
-        later (n + 1) (suc n) g j (add-one n),
-        on-costs g (suc n) j (λ i p q. h i (omega arith) (omega arith)),
-        later (n + (1 + size g)) (suc n + size g) r s e,
-        on-costs r (suc n + size g) s (λ i p q. h i (omega arith) (omega arith)),
-        where-two On-it n s j g r,
+        where-two On-it w n s j g r,
       )
 
 -- LAW: where the marks of the root's lines show its chain, column 5 of a row grows by the row's part of it

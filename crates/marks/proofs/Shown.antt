@@ -11,9 +11,10 @@ use lib.Seq.{getD-take, getD-drop, getD-append-add, length-take-le}
 use borrow.Author.Tests.{eq-eqb, ne-eqb}
 use borrow.Rule.Slice.PartMut.{putMid, take-put, drop-put}
 use Rattle.chain.specs.Plan.{CostLine, All}
+use Rattle.chain.specs.Over.{linesIn}
 use Rattle.chain.proofs.Lists.{all-map, all-append}
 use Rattle.trace.specs.Shape.{has}
-use Rattle.trace.specs.Fold.{costAt, linesIn}
+use Rattle.trace.specs.Fold.{costAt}
 use Rattle.marks.specs.Shown.{Between, Zone, Wiped}
 
 -- a line that is on neither side of a zone is on no chain of it

@@ -7,17 +7,18 @@ use native.Mathlib.Decide.{decLt}
 use native.Mathlib.Omega.{arith}
 use lib.ListN.{length, getD, replicate, length-replicate, List·getD-eq-default}
 use Rattle.line.specs.declared.Frame.{Frame}
+use Rattle.chain.specs.Over.{linesIn}
 use Rattle.trace.specs.declared.Answer.{Answer}
 use Rattle.trace.specs.declared.Answer.the-variants.{Accepted, Refused}
 use Rattle.trace.specs.Shape.{has, sites}
 use Rattle.trace.specs.Rows.{columns}
-use Rattle.trace.specs.Refusals.{accepted, refused, verdict}
+use Rattle.trace.specs.Refusals.{refused, verdict}
 use Rattle.trace.specs.Promise.{marks, Lent, enough, scratchRoom, rowsRoom, marksRoom, Profile, Promise}
 use Rattle.trace.specs.ByTree.{cell, ProfileBy}
 use Rattle.trace.specs.Tree.{Body, linesOf, size, Within, Parts, workOf, spanOf}
-use Rattle.trace.specs.Fold.{nothing, chainOf, onRow, linesIn}
+use Rattle.trace.specs.Fold.{nothing, chainOf, onRow}
 use Rattle.trace.proofs.Basics.{clash}
-use Rattle.trace.proofs.Scan.{Fine, accepted-is}
+use Rattle.trace.proofs.Scan.{Fine, accepted-is, accepted-same}
 use Rattle.trace.proofs.Outcome.{tree-profile, work-small}
 use Rattle.admit.specs.declared.Verdict.the-variants as Verdict
 use Rattle.admit.specs.Answer.{admission}
@@ -36,9 +37,6 @@ use Rattle.marks.specs.Root.{lent, Admitted}
 use Rattle.marks.proofs.Shown.{outside}
 use Rattle.marks.proofs.Bodies.{shows-begun}
 use Rattle.marks.proofs.OnSpan.{on-cross, on-out, on-le, on-row}
-
-accepted-same : (t u : List Frame) → accepted t ≡ accepted u → t ≡ u
-accepted-same t u e = cc
 
 module _ {s : List ℕ} {D M : ℕ} {x : Lent} {count lines : ℕ} (a : Admitted s D M x count lines) where
   abbrev t : List Frame

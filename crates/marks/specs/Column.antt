@@ -7,7 +7,7 @@ use mathlib.Core.List.{List, [], _∷_}
 use lib.Dec.{eqb}
 use lib.ListN.{length, getD, set}
 use Rattle.trace.specs.Rows.{columns}
-use Rattle.trace.specs.Tree.{Body, done, spend, sync, call, spawn, linesOf, size, Within}
+use Rattle.trace.specs.Tree.{leafWork, Body, done, leaf, child, linesOf, size, Within}
 use Rattle.walk.specs.Stands.{Stands}
 use Rattle.walk.specs.Gain.{one, Grown}
 use Rattle.marks.specs.declared.Present.{Present}
@@ -20,10 +20,8 @@ marked x v = cond (eqb x 1) v 0
 -- by how much row number i grows over the body of an invocation of row s whose first line is n: each marked cost in its own row
 abbrev pub onGain : List ℕ → ℕ → ℕ → Body → ℕ → ℕ
 onGain m n s done i = 0
-onGain m n s (spend v r) i = one (columns * s + 4) (marked (getD m n 0) v) i + onGain m (n + 1) s r i
-onGain m n s (sync r) i = onGain m (n + 1) s r i
-onGain m n s (call j g r) i = onGain m (n + 1) j g i + onGain m (n + (1 + size g)) s r i
-onGain m n s (spawn j g r) i = onGain m (n + 1) j g i + onGain m (n + (1 + size g)) s r i
+onGain m n s (leaf l r) i = one (columns * s + 4) (marked (getD m n 0) (leafWork l)) i + onGain m (n + 1) s r i
+onGain m n s (child w j g r) i = onGain m (n + 1) j g i + onGain m (n + (1 + size g)) s r i
 
 -- an open invocation: its row, and what is left of its body
 pub record Left : Type 0 where
@@ -57,18 +55,14 @@ AllWithin sites D (x ∷ k) = (x .row ≤ sites) × (length (x ∷ k) ≤ D) × 
 -- behind the next line, where b is left of the innermost, whose row is s
 abbrev pub behind : ℕ → Body → List Left → List Left
 behind s done k = k
-behind s (spend v r) k = left s r ∷ k
-behind s (sync r) k = left s r ∷ k
-behind s (call j g r) k = left j g ∷ (left s r ∷ k)
-behind s (spawn j g r) k = left j g ∷ (left s r ∷ k)
+behind s (leaf l r) k = left s r ∷ k
+behind s (child w j g r) k = left j g ∷ (left s r ∷ k)
 
 -- by how much row number i grows over this line
 abbrev pub onLine : List ℕ → ℕ → ℕ → Body → ℕ → ℕ
 onLine m n s done i = 0
-onLine m n s (spend v r) i = one (columns * s + 4) (marked (getD m n 0) v) i
-onLine m n s (sync r) i = 0
-onLine m n s (call j g r) i = 0
-onLine m n s (spawn j g r) i = 0
+onLine m n s (leaf l r) i = one (columns * s + 4) (marked (getD m n 0) (leafWork l)) i
+onLine m n s (child w j g r) i = 0
 
 -- the scratch z with the rows of open invocations at its front, the outermost's first
 abbrev pub stacked : List ℕ → List Left → List ℕ

@@ -6,7 +6,7 @@ use mathlib.Core.List.{List}
 use lib.ListN.{length}
 use Rattle.line.specs.At.{kindAt}
 use Rattle.trace.specs.Tree.{Body, linesOf}
-use Rattle.trace.specs.Fold.{Chains, nothing, run}
+use Rattle.trace.specs.Fold.{Chains, nothing, chainOf}
 use Rattle.walk.specs.declared.Open.{Open}
 use Rattle.walk.specs.Stands.{Stands}
 use Rattle.walk.specs.Numbers.{numbers}
@@ -57,7 +57,7 @@ BodyAsks s from row deep t m rows = Lent s deep (begun from row) t m rows
 -- behind the whole body b: its zone shows its chain
 pub record BodyLeft (from row : ℕ) (b : Body) (m rows : List ℕ) (r : Open) (m′ rows′ : List ℕ) : Type 0 where
   pub done : BodyDone from row rows b r rows′
-  pub zone : Zone m′ from (r .at) (run from row nothing b)
+  pub zone : Zone m′ from (r .at) (chainOf from row b)
   pub kept : Kept from (r .at) m m′
 
 abbrev pub BodyLeaves : (s : List ℕ) (from row : ℕ) (m rows : List ℕ) (r : Open) (m′ rows′ : List ℕ) → Type 0

@@ -6,8 +6,9 @@ use mathlib.Core.Bool.{cond}
 use mathlib.Core.List.{List}
 use lib.ListN.{getD}
 use Rattle.chain.specs.Plan.{CostLine, All}
+use Rattle.chain.specs.Over.{linesIn}
 use Rattle.trace.specs.Shape.{has}
-use Rattle.trace.specs.Fold.{Chains, linesIn}
+use Rattle.trace.specs.Fold.{Chains}
 use Rattle.walk.specs.declared.Open.{Open}
 use Rattle.marks.specs.declared.Zones.{Zones}
 

@@ -7,12 +7,13 @@ use native.Mathlib.Omega.{arith}
 use lib.ListN.{length}
 use Rattle.line.specs.declared.Frame.{Frame}
 use Rattle.chain.specs.Plan.{choose}
+use Rattle.chain.specs.Over.{linesIn}
 use Rattle.trace.specs.Series.{Chosen}
 use Rattle.trace.specs.Rows.{Spans}
 use Rattle.trace.specs.Refusals.{accepted, verdict}
 use Rattle.trace.specs.Promise.{Row}
-use Rattle.trace.specs.Tree.{Body, done, spend, call, spawn, linesOf, Parts, spansIn}
-use Rattle.trace.specs.Fold.{chainOf, linesIn}
+use Rattle.trace.specs.Tree.{call, spawn, spend, Body, done, leaf, child, linesOf, Parts, spansIn}
+use Rattle.trace.specs.Fold.{chainOf}
 use Rattle.trace.proofs.Tree.{parts-one}
 use Rattle.trace.proofs.Parse.{accepted-parts}
 use Rattle.trace.proofs.Root.{root-chosen}
@@ -25,7 +26,7 @@ use Rattle.program.proofs.Determined.{prints-unique}
 
 -- call 1 {spawn 2 {7}, 1}, 2
 abbrev body : Body
-body = call 1 (spawn 2 (spend 7 done) (spend 1 done)) (spend 2 done)
+body = child call 1 (child spawn 2 (leaf (spend 7) done) (leaf (spend 1) done)) (leaf (spend 2) done)
 
 abbrev t : List Frame
 t = heads ++ linesOf body

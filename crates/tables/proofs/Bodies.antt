@@ -7,7 +7,7 @@ use lib.ListN.{length}
 use Rattle.line.specs.At.{kindAt}
 use Rattle.chain.specs.Plan.{CostLine}
 use Rattle.trace.specs.Tree.{Body, linesOf}
-use Rattle.trace.specs.Fold.{Chains, nothing, joined, run}
+use Rattle.trace.specs.Fold.{Chains, nothing, joined, run, chainOf}
 use Rattle.walk.specs.declared.Open.{Open}
 use Rattle.walk.specs.Stands.{Stands, Says, kindOf}
 use Rattle.walk.specs.Numbers.{numbers}
@@ -67,7 +67,7 @@ module _ (s : List ℕ) (row deep n w : ℕ) where
         let u = turns b h sh in
         let e = is-done s (f .at) kind says (u .0) (u .2 .stands) k5 in
         let d = j (u .1) (u .2 .weighs) (u .3) in
-        let c : joined (u .1) .p ≡ run from row nothing b = sym (ap (run (f .at) row (u .1)) e) ∙ u .2 .same-chain in
+        let c : joined (u .1) .p ≡ chainOf from row b = ap (λ (x : Chains). joined x .p) (sym (ap (λ (x : Body). run (f .at) row x (u .1)) e) ∙ u .2 .same-chains) in
         (turn-done s from row rows₀ b f rows (u .0) (u .1) (u .2) len r e (d .0), subst (λ (x : List CostLine). Shows n w t′ (alone x) []) c (alone-shows n w t′ (joined (u .1) .p) (d .1)))
 
 -- the loop has come from the first line on to f, whose next line is of this kind

@@ -5,18 +5,20 @@ use Prim.Native.Nat.{ℕ, suc, _+_, _*_, _-_, _^_, _≤_, _<_}
 use native.Mathlib.Nat.{suc-mul}
 use native.Mathlib.Omega.{arith}
 use lib.ListN.{length, take, drop, getD}
+use lib.Dec.{eqb}
 use borrow.Rule.Slice.PartMut.{putMid}
 use Rattle.line.specs.At.{kindAt, siteAt, valueAt}
 use Rattle.trace.specs.Rows.{columns}
-use Rattle.trace.specs.Tree.{Body, spend, linesOf}
-use Rattle.trace.specs.Fold.{Chains, nothing, joined, called, spawned, run}
+use Rattle.trace.specs.Tree.{spend, Body, leaf, linesOf}
+use Rattle.trace.specs.Fold.{Chains, nothing, joined, called, spawned, chainOf}
+use Rattle.trace.proofs.Basics.{cond-same}
 use Rattle.walk.specs.declared.Open.{Open}
 use Rattle.walk.specs.Stands.{Stands, Says, kindOf, siteOf}
 use Rattle.walk.specs.Numbers.{numbers}
 use Rattle.walk.specs.Gain.{one, counted, Grown}
 use Rattle.walk.specs.Item.{itemChains}
 use Rattle.walk.specs.Reader.{ItemDone, alone, BodyDone}
-use Rattle.walk.proofs.Items.{size-some, run-le}
+use Rattle.walk.proofs.Items.{size-some, chain-le}
 use Rattle.walk.proofs.Says.{kind-says, site-says, value-says}
 use Rattle.walk.proofs.Lines.{is-sync}
 use Rattle.walk.proofs.Reader.{load-is}
@@ -60,7 +62,7 @@ module _ {s : List ℕ} {row deep : ℕ} {f : Open} {t rows : List ℕ} {n w : �
       let d = j k e sh in
       let z : f .work ≡ f .work + 0 = omega arith in
       subst (λ (x : Body). ItemDone row f rows x k r rows × Holds n w t′ (itemChains (f .at) row x k) []) (sym (q .1))
-      (record { numbers-are = d .0 ∙ ap (λ (x : ℕ). numbers (f .at + 1) x (joined k)) z; rows-are = λ i l. omega arith }, d .1)
+      (record { numbers-are = d .0 ∙ ap (λ (x : ℕ). numbers (f .at + 1) x (joined k)) z; rows-are = λ i l. omega (arith, cond-same (eqb (columns * row + 3) i)) }, d .1)
 
 -- the item is a cost of v
 pub record Costs (s : List ℕ) (kind row deep : ℕ) (f : Open) (t rows : List ℕ) (n w v : ℕ) : Type 0 where
@@ -70,7 +72,7 @@ pub record Costs (s : List ℕ) (kind row deep : ℕ) (f : Open) (t rows : List 
 
 module _ {s : List ℕ} {kind row deep : ℕ} {f : Open} {t rows : List ℕ} {n w v : ℕ} (h : Costs s kind row deep f t rows n w v) where
   -- whatever body stands here begins with it
-  spend-is : (b : Body) → Stands s (f .at) (linesOf b) → (r : Body) × (b ≡ spend v r)
+  spend-is : (b : Body) → Stands s (f .at) (linesOf b) → (r : Body) × (b ≡ leaf (spend v) r)
   spend-is = cost-is s (f .at) kind (kind-says s (f .at) (f .at) kind refl (h .asks .kind-is)) v (value-says s (f .at) (f .at) v refl (h .value-is)) (h .cost)
 
   -- it fits the rows, the work and the chains
@@ -153,7 +155,7 @@ module _ {s : List ℕ} {kind row deep : ℕ} {f : Open} {t rows : List ℕ} {n 
     abbrev back : List ℕ
     back = putMid o (length t - o) t y
 
-    left : BodyDone (f .at + 1) site rows (child .g) c rows₁ × Shows n w y (alone (run (f .at + 1) site nothing (child .g))) []
+    left : BodyDone (f .at + 1) site rows (child .g) c rows₁ × Shows n w y (alone (chainOf (f .at + 1) site (child .g))) []
     left = done (child .g) (child .stands) (lent-none (l .k) (l .weighs) (l .holds))
 
     -- it can be counted
@@ -164,7 +166,7 @@ module _ {s : List ℕ} {kind row deep : ℕ} {f : Open} {t rows : List ℕ} {n 
     pub child-asks : Asks n w back f (c .prefix) × ((site < w) × ((5 * n ≤ length back) × (f .work + c .work < 2 ^ 64)))
     child-asks =
         let p = ap (λ (x : Open). x .prefix) (left .0 .numbers-are) in
-        let g = run (f .at + 1) site nothing (child .g) in
+        let g = chainOf (f .at + 1) site (child .g) in
         let r = child-ready s row (l .m) deep f rows (l .ready) site child in (
           record {
             blocks = l .blocks;
@@ -174,7 +176,7 @@ module _ {s : List ℕ} {kind row deep : ℕ} {f : Open} {t rows : List ℕ} {n 
             weighs = l .weighs;
             child = sym p;
             holds = child-back n w (l .blocks) t (own-room l) (f .longest) o (h .begins) (l .k) g y (ap (λ (x : Open). x .longest) (l .weighs)) (l .holds) (left .1);
-            fits = omega (arith, p, load-is f (l .k) (l .weighs), child-work s row (l .m) deep f rows (l .ready) site child .1, run-le (child .g) (f .at + 1) site nothing);
+            fits = omega (arith, p, load-is f (l .k) (l .weighs), child-work s row (l .m) deep f rows (l .ready) site child .1, chain-le (child .g) (f .at + 1) site);
           },
           (
             omega (arith, r .row-in, l .wide),
@@ -188,18 +190,18 @@ module _ {s : List ℕ} {kind row deep : ℕ} {f : Open} {t rows : List ℕ} {n 
     -- it was counted, and the step left r and the scratch t₂
     module _ (rows₂ : List ℕ) (counts : Grown rows₁ (counted site (c .work) (c .prefix)) rows₂) (r : Open) (t₂ : List ℕ) where
       -- the child's body is g: its numbers and rows, and the scratch behind it
-      behind : (k : Chains) (g : Body) → f ≡ numbers (f .at) (f .work) k → Stands s (f .at + 1) (linesOf g) → Holds n w t k [] → ChildDone f site rows g c rows₂ × Holds n w back k (run (f .at + 1) site nothing g)
+      behind : (k : Chains) (g : Body) → f ≡ numbers (f .at) (f .work) k → Stands s (f .at + 1) (linesOf g) → Holds n w t k [] → ChildDone f site rows g c rows₂ × Holds n w back k (chainOf (f .at + 1) site g)
       behind k g e st sh =
           let d = done g st (lent-none k e sh) in (
             child-done f site rows rows₁ rows₂ g c lr (d .0) counts,
-            child-back n w (l .blocks) t (own-room l) (f .longest) o (h .begins) k (run (f .at + 1) site nothing g) y (ap (λ (x : Open). x .longest) e) sh (d .1),
+            child-back n w (l .blocks) t (own-room l) (f .longest) o (h .begins) k (chainOf (f .at + 1) site g) y (ap (λ (x : Open). x .longest) e) sh (d .1),
           )
 
       pub call-leaves : kind ≡ 2 → Called n w back f c r t₂ → ItemLeaves s row f t rows n w r t₂ rows₂
       call-leaves k2 step b k m st e sh =
           let q = call-is s (f .at) kind says site sited b st k2 in
           let v = behind k (q .0) e (q .3) sh in
-          let g = run (f .at + 1) site nothing (q .0) in
+          let g = chainOf (f .at + 1) site (q .0) in
           let d = step k g e (v .0 .chain) (v .1) in
           subst (λ (x : Body). ItemDone row f rows x k r rows₂ × Holds n w t₂ (itemChains (f .at) row x k) []) (sym (q .2)) (record { numbers-are = d .0 ∙ v .0 .numbers-are (called g k); rows-are = v .0 .rows-are }, d .1)
 
@@ -207,6 +209,6 @@ module _ {s : List ℕ} {kind row deep : ℕ} {f : Open} {t rows : List ℕ} {n 
       spawn-leaves k2 step b k m st e sh =
           let q = spawn-is s (f .at) kind says site sited (h .no-cost) (h .no-sync) b st m k2 in
           let v = behind k (q .0) e (q .3) sh in
-          let g = run (f .at + 1) site nothing (q .0) in
+          let g = chainOf (f .at + 1) site (q .0) in
           let d = step k g e (v .0 .chain) (v .1) in
           subst (λ (x : Body). ItemDone row f rows x k r rows₂ × Holds n w t₂ (itemChains (f .at) row x k) []) (sym (q .2)) (record { numbers-are = d .0 ∙ v .0 .numbers-are (spawned g k); rows-are = v .0 .rows-are }, d .1)

@@ -12,12 +12,13 @@ use Rattle.trace.specs.declared.Answer.{Answer}
 use Rattle.trace.specs.declared.Answer.the-variants.{Accepted, Refused}
 use Rattle.trace.specs.Shape.{sites}
 use Rattle.trace.specs.Rows.{columns}
-use Rattle.trace.specs.Refusals.{accepted, refused, verdict}
+use Rattle.trace.specs.Refusals.{refused, verdict}
 use Rattle.trace.specs.Promise.{tables, enough, Profile, Promise}
 use Rattle.trace.specs.ByTree.{cell, ProfileBy}
 use Rattle.trace.specs.Tree.{Body, size, workOf, spanOf}
-use Rattle.trace.specs.Fold.{nothing, run}
+use Rattle.trace.specs.Fold.{nothing, chainOf}
 use Rattle.trace.proofs.Basics.{clash}
+use Rattle.trace.proofs.Scan.{accepted-same}
 use Rattle.trace.proofs.Outcome.{tree-profile}
 use Rattle.admit.specs.declared.Verdict.the-variants as Verdict
 use Rattle.admit.specs.Answer.{admission}
@@ -36,9 +37,6 @@ use Rattle.tables.proofs.Parts.{own-only}
 
 zeros-show : (n w l : ℕ) → Shows n w (replicate l 0) nothing []
 zeros-show n w l = record { P = λ i h. zeros-at l (0 + i); L = λ i h. zeros-at l (n + i); C = λ i h. zeros-at l (2 * n + i); G = λ i h. zeros-at l (4 * n + i); zero = λ j a b c d. zeros-at l j }
-
-accepted-same : (t u : List Frame) → accepted t ≡ accepted u → t ≡ u
-accepted-same t u e = cc
 
 -- the room, depth by depth
 room-is : (D n : ℕ) → 1 ≤ D → 4 * D * n ≡ 4 * n + (D - 1) * (4 * n)
@@ -85,7 +83,7 @@ module _ (s : List ℕ) (D M : ℕ) (scratch rows : List ℕ) (count lines : ℕ
     abbrev b : Body
     b = root.body tables s D M (lent scratch rows) (a .t) (a .is) count (a .count-is)
 
-    left : BodyDone count 0 rows₁ b c rows₂ × Shows (M + 3) (count + 1) t₂ (alone (run count 0 nothing b)) []
+    left : BodyDone count 0 rows₁ b c rows₂ × Shows (M + 3) (count + 1) t₂ (alone (chainOf count 0 b)) []
     left =
         let h = done b (root.stands tables s D M (lent scratch rows) (a .t) (a .is) count (a .count-is)) (subst (λ (x : List ℕ). Shows (M + 3) (count + 1) x nothing []) (sym et) (zeros-show (M + 3) (count + 1) (length scratch))) in
         (subst (λ (y : List ℕ). BodyDone count 0 y b c rows₂) er (h .0), h .1)
@@ -123,7 +121,7 @@ module _ (s : List ℕ) (D M : ℕ) (scratch rows : List ℕ) (count lines : ℕ
         where
           go : (i : ℕ) → Dec (i < count + 1) → getD t₃ i 0 ≡ 0
           go i (yes q) = settled .gone i q
-          go i (no q) = settled .rest i (omega arith) ∙ own-only (M + 3) (count + 1) t₂ (run count 0 nothing b) (left .1) i (λ x y. omega arith)
+          go i (no q) = settled .rest i (omega arith) ∙ own-only (M + 3) (count + 1) t₂ (chainOf count 0 b) (left .1) i (λ x y. omega arith)
 
       by-tree : ProfileBy tables count b (lent scratch rows) answer (lent t₃ rows₄)
       by-tree =

@@ -6,7 +6,7 @@ use mathlib.Core.List.{List, []}
 use lib.ListN.{length}
 use Rattle.line.specs.At.{kindAt}
 use Rattle.trace.specs.Tree.{Body, linesOf}
-use Rattle.trace.specs.Fold.{Chains, nothing, run}
+use Rattle.trace.specs.Fold.{Chains, nothing, chainOf}
 use Rattle.walk.specs.declared.Open.{Open}
 use Rattle.walk.specs.Stands.{Stands}
 use Rattle.walk.specs.Numbers.{numbers}
@@ -42,4 +42,4 @@ BodyAsks s from row deep t rows n w = Lent s row deep (numbers from 0 nothing) t
 
 abbrev pub BodyLeaves : (s : List ℕ) (from row : ℕ) (t rows : List ℕ) (n w : ℕ) (r : Open) (t′ rows′ : List ℕ) → Type 0
 BodyLeaves s from row t rows n w r t′ rows′ = (b : Body) → Stands s from (linesOf b) → Shows n w t nothing []
-    → BodyDone from row rows b r rows′ × Shows n w t′ (alone (run from row nothing b)) []
+    → BodyDone from row rows b r rows′ × Shows n w t′ (alone (chainOf from row b)) []

@@ -14,9 +14,9 @@ use Rattle.line.specs.declared.Frame.the-variants.{Site, Call, Spawn, Sync, Ret
 use Rattle.line.specs.declared.Read.{Read}
 use Rattle.trace.specs.Shape.{root, step, sites}
 use Rattle.trace.specs.Refusals.{lineCount, openNow, empty, allSites, lastSite, misplaced, aboveM, placeAgain, declared, undeclared, tooDeep, fault, accepted, refused, judged, scan, reads, verdict}
-use Rattle.trace.specs.Tree.{Body, done, spend, sync, call, spawn, linesOf, Within, AllSites}
+use Rattle.trace.specs.Tree.{Way, call, spawn, opening, Leaf, spend, sync, lineOf, LeafWithin, Body, done, leaf, child, linesOf, Within, AllSites}
 use Rattle.trace.proofs.Basics.{neither}
-use Rattle.trace.proofs.Tree.{IsSite, NotSite, no-sites-lines}
+use Rattle.trace.proofs.Tree.{IsSite, NotSite, leaf-not-site, opening-not-site, no-sites-lines, leaf-step, opening-step, leaf-makes, opening-makes}
 use Rattle.trace.proofs.Scan.{InTable, Clean, Reads, reads-length, reads-from-length, Fine, Accepts, accepted-is, faultless, fault-zero, now}
 use Rattle.trace.proofs.Sites.{sites-none, sites-append, sites-all, Numb, numb-start, numb-snoc, declared-same}
 use Rattle.trace.proofs.Parse.{parts}
@@ -109,22 +109,39 @@ module _ (D M : ℕ) (most : D ≤ 64) (least : 1 ≤ D) where
     known : (before : List Frame) (o : List ℕ) (s : ℕ) → State before o → 1 ≤ s → s ≤ m → (eqb s 0 || not (declared s before)) ≡ false
     known before o s st l e = ap (λ (x : Bool). x || not (declared s before)) (ne-eqb s 0 (λ q. omega arith)) ∙ ap not (st .decl s l e)
 
+    leaf-in : (l : Leaf) → LeafWithin l → InTable (lineOf l)
+    leaf-in (spend v) h = h
+    leaf-in sync h = tt
+
+    opening-in : (w : Way) (s : ℕ) → InTable (opening w s)
+    opening-in call s = tt
+    opening-in spawn s = tt
+
+    -- a leaf line and an opening are not too deep, and an opening's site is declared
+    leaf-deep : (before : List Frame) (l : Leaf) → tooDeep D before (lineOf l) ≡ false
+    leaf-deep before l = leaf-makes (λ s. ltb D (suc (length (openNow before)))) false l
+
+    opening-deep : (before : List Frame) (w : Way) (i c : ℕ) (o : List ℕ) → State before (c ∷ o) → suc (suc (length o)) ≤ D → tooDeep D before (opening w i) ≡ false
+    opening-deep before w i c o s l = opening-makes (λ s. ltb D (suc (length (openNow before)))) false w i ∙ deep before c o s l
+
+    state-leaf : (before : List Frame) (c : ℕ) (o : List ℕ) (l : Leaf) → LeafWithin l → State before (c ∷ o) → State (before ++ lineOf l ∷ []) (c ∷ o)
+    state-leaf before c o l g s =
+        subst (State (before ++ lineOf l ∷ [])) (leaf-step l (length before) (c ∷ o)) (state-snoc before (c ∷ o) (lineOf l) (leaf-not-site l) (leaf-in l g) (leaf-deep before l) s)
+
+    state-opening : (before : List Frame) (c : ℕ) (o : List ℕ) (w : Way) (i : ℕ) → suc (suc (length o)) ≤ D → State before (c ∷ o) → State (before ++ opening w i ∷ []) (suc (length before) ∷ c ∷ o)
+    state-opening before c o w i l s =
+        subst (State (before ++ opening w i ∷ [])) (opening-step w i (length before) (c ∷ o))
+        (state-snoc before (c ∷ o) (opening w i) (opening-not-site w i) (opening-in w i) (opening-deep before w i c o s l) s)
+
     state-body : (b : Body) (before : List Frame) (c : ℕ) (o : List ℕ) → State before (c ∷ o) → Within m D (suc (length o)) b → State (before ++ linesOf b) o
     state-body done before c o s g = state-snoc before (c ∷ o) Return tt tt refl s
-    state-body (spend v r) before c o s g =
-        subst (λ (b : List Frame). State b o) (append-snoc before (Cost v) (linesOf r)) (state-body r (before ++ Cost v ∷ []) c o (state-snoc before (c ∷ o) (Cost v) tt (g .0, g .1) refl s) (g .2))
-    state-body (sync r) before c o s g =
-        subst (λ (b : List Frame). State b o) (append-snoc before Sync (linesOf r)) (state-body r (before ++ Sync ∷ []) c o (state-snoc before (c ∷ o) Sync tt tt refl s) g)
-    state-body (call i a r) before c o s g =
-        let x = state-snoc before (c ∷ o) (Call i) tt tt (deep before c o s (g .2)) s in
-        let y = state-body a (before ++ Call i ∷ []) (suc (length before)) (c ∷ o) x (g .3) in
-        subst (λ (b : List Frame). State b o) (append-assoc (before ++ Call i ∷ []) (linesOf a) (linesOf r) ∙ append-snoc before (Call i) (linesOf a ++ linesOf r))
-        (state-body r ((before ++ Call i ∷ []) ++ linesOf a) c o y (g .4))
-    state-body (spawn i a r) before c o s g =
-        let x = state-snoc before (c ∷ o) (Spawn i) tt tt (deep before c o s (g .2)) s in
-        let y = state-body a (before ++ Spawn i ∷ []) (suc (length before)) (c ∷ o) x (g .3) in
-        subst (λ (b : List Frame). State b o) (append-assoc (before ++ Spawn i ∷ []) (linesOf a) (linesOf r) ∙ append-snoc before (Spawn i) (linesOf a ++ linesOf r))
-        (state-body r ((before ++ Spawn i ∷ []) ++ linesOf a) c o y (g .4))
+    state-body (leaf l r) before c o s g =
+        subst (λ (b : List Frame). State b o) (append-snoc before (lineOf l) (linesOf r)) (state-body r (before ++ lineOf l ∷ []) c o (state-leaf before c o l (g .0) s) (g .1))
+    state-body (child w i a r) before c o s g =
+        let f = opening w i in
+        let y = state-body a (before ++ f ∷ []) (suc (length before)) (c ∷ o) (state-opening before c o w i (g .2) s) (g .3) in
+        subst (λ (b : List Frame). State b o) (append-assoc (before ++ f ∷ []) (linesOf a) (linesOf r) ∙ append-snoc before f (linesOf a ++ linesOf r))
+        (state-body r ((before ++ f ∷ []) ++ linesOf a) c o y (g .4))
 
     -- a line of a body passes
     passes : (before : List Frame) (c : ℕ) (o : List ℕ) (f : Frame) → NotSite f → InTable f → undeclared before f ≡ false → tooDeep D before f ≡ false → length before < 65536 → State before (c ∷ o) → fault D M before f ≡ 0
@@ -157,42 +174,28 @@ module _ (D M : ℕ) (most : D ≤ 64) (least : 1 ≤ D) where
     abbrev Passes : Body → Type 0
     Passes b = (before : List Frame) (c : ℕ) (o : List ℕ) (u : List Frame) → State before (c ∷ o) → Within m D (suc (length o)) b → length before + length (linesOf b) ≤ 65536 → Clean D M (before ++ linesOf b) u → Clean D M before (linesOf b ++ u)
 
-    two : (a r : Body) → Passes a → Passes r → (f : Frame) (n : ℕ) (before : List Frame) (c : ℕ) (o : List ℕ) (u : List Frame) → State (before ++ f ∷ []) (n ∷ c ∷ o) → Within m D (suc (suc (length o))) a → Within m D (suc (length o)) r
-        → length before + suc (length (linesOf a ++ linesOf r)) ≤ 65536 → Clean D M (before ++ f ∷ (linesOf a ++ linesOf r)) u → Clean D M (before ++ f ∷ []) ((linesOf a ++ linesOf r) ++ u)
-    two a r fa fr f n before c o u s ga gr l w =
-        let e = append-assoc (before ++ f ∷ []) (linesOf a) (linesOf r) ∙ append-snoc before f (linesOf a ++ linesOf r) in
-        let y = state-body a (before ++ f ∷ []) n (c ∷ o) s ga in
-        let la = length-append before (f ∷ []) in
-        let lb = length-append (before ++ f ∷ []) (linesOf a) in
-        let lc = length-append (linesOf a) (linesOf r) in
-        subst (Clean D M (before ++ f ∷ [])) (sym (append-assoc (linesOf a) (linesOf r) u))
-        (fa (before ++ f ∷ []) n (c ∷ o) (linesOf r ++ u) s ga (omega arith)
-        (fr ((before ++ f ∷ []) ++ linesOf a) c o u y gr (omega arith) (subst (λ (b : List Frame). Clean D M b u) (sym e) w)))
-
     clean-body : (b : Body) → Passes b
     clean-body done before c o u s g l w = (passes before c o Return tt tt refl refl (omega arith) s, tt, w)
-    clean-body (spend v r) before c o u s g l w = (
-      passes before c o (Cost v) tt (g .0, g .1) refl refl (omega arith) s,
-      (g .0, g .1),
-      clean-body r (before ++ Cost v ∷ []) c o u (state-snoc before (c ∷ o) (Cost v) tt (g .0, g .1) refl s) (g .2) (omega (arith, length-append before (Cost v ∷ [])))
-          (subst (λ (b : List Frame). Clean D M b u) (sym (append-snoc before (Cost v) (linesOf r))) w),
+    clean-body (leaf k r) before c o u s g l w = (
+      passes before c o (lineOf k) (leaf-not-site k) (leaf-in k (g .0)) (leaf-makes (λ i. eqb i 0 || not (declared i before)) false k) (leaf-deep before k) (omega arith) s,
+      leaf-in k (g .0),
+      clean-body r (before ++ lineOf k ∷ []) c o u (state-leaf before c o k (g .0) s) (g .1) (omega (arith, length-append before (lineOf k ∷ [])))
+          (subst (λ (b : List Frame). Clean D M b u) (sym (append-snoc before (lineOf k) (linesOf r))) w),
     )
-    clean-body (sync r) before c o u s g l w = (
-      passes before c o Sync tt tt refl refl (omega arith) s,
-      tt,
-      clean-body r (before ++ Sync ∷ []) c o u (state-snoc before (c ∷ o) Sync tt tt refl s) g (omega (arith, length-append before (Sync ∷ [])))
-          (subst (λ (b : List Frame). Clean D M b u) (sym (append-snoc before Sync (linesOf r))) w),
-    )
-    clean-body (call i a r) before c o u s g l w = (
-      passes before c o (Call i) tt tt (known before (c ∷ o) i s (g .0) (g .1)) (deep before c o s (g .2)) (omega arith) s,
-      tt,
-      two a r (clean-body a) (clean-body r) (Call i) (suc (length before)) before c o u (state-snoc before (c ∷ o) (Call i) tt tt (deep before c o s (g .2)) s) (g .3) (g .4) l w,
-    )
-    clean-body (spawn i a r) before c o u s g l w = (
-      passes before c o (Spawn i) tt tt (known before (c ∷ o) i s (g .0) (g .1)) (deep before c o s (g .2)) (omega arith) s,
-      tt,
-      two a r (clean-body a) (clean-body r) (Spawn i) (suc (length before)) before c o u (state-snoc before (c ∷ o) (Spawn i) tt tt (deep before c o s (g .2)) s) (g .3) (g .4) l w,
-    )
+    clean-body (child k i a r) before c o u s g l w =
+        let f = opening k i in
+        let x = state-opening before c o k i (g .2) s in
+        let y = state-body a (before ++ f ∷ []) (suc (length before)) (c ∷ o) x (g .3) in
+        let e = append-assoc (before ++ f ∷ []) (linesOf a) (linesOf r) ∙ append-snoc before f (linesOf a ++ linesOf r) in
+        let la = length-append before (f ∷ []) in
+        let lb = length-append (before ++ f ∷ []) (linesOf a) in
+        let lc = length-append (linesOf a) (linesOf r) in (
+          passes before c o f (opening-not-site k i) (opening-in k i) (opening-makes (λ i. eqb i 0 || not (declared i before)) false k i ∙ known before (c ∷ o) i s (g .0) (g .1)) (opening-deep before k i c o s (g .2)) (omega arith) s,
+          opening-in k i,
+          subst (Clean D M (before ++ f ∷ [])) (sym (append-assoc (linesOf a) (linesOf r) u))
+              (clean-body a (before ++ f ∷ []) (suc (length before)) (c ∷ o) (linesOf r ++ u) x (g .3) (omega arith)
+              (clean-body r ((before ++ f ∷ []) ++ linesOf a) c o u y (g .4) (omega arith) (subst (λ (b : List Frame). Clean D M b u) (sym e) w))),
+        )
 
   heads-open : (before h : List Frame) (o : List ℕ) → AllSites h → openNow before ≡ o → openNow (before ++ h) ≡ o
   heads-open before [] o s e = ap openNow (append-nil before) ∙ e

@@ -1,18 +1,25 @@
 -- The plan of a body is ordered, and two of its costs are apart in it exactly where their lines are beside each other.
-use mathlib.Core.Path.{_≡_, sym, ap, subst, subst₂}
+use mathlib.Core.Path.{_≡_, refl, sym, _∙_, ap, subst, subst₂}
 use mathlib.Core.Logic.{_⊎_, inl, inr, ⊎-map}
-use mathlib.Core.List.{List, _∷_, _++_, append-assoc, List·Memᴰ·not-nil, List·Memᴰ·cases-cons, List·Memᴰ·append-cases}
+use mathlib.Core.List.{List, _∷_, _++_, append-assoc, List·Memᴰ, List·Memᴰ·not-nil, List·Memᴰ·cases-cons, List·Memᴰ·append-cases}
 use Prim.Native.Nat.{ℕ, zero, suc, _+_, _≤_, _<_}
 use native.Mathlib.Nat.{le-dest}
 use native.Mathlib.Omega.{arith}
 use Rattle.line.specs.declared.Frame.{Frame}
-use Rattle.line.specs.declared.Frame.the-variants.{Call, Spawn, Sync, Cost}
 use Rattle.chain.specs.Plan.{CostLine, Plan, costs, All, Pairs, Less, Ordered, On, Apart}
 use Rattle.chain.proofs.Lists.{all-map, all-at, all-append, pairs-append}
 use Rattle.chain.proofs.Parts.{apart-on}
-use Rattle.trace.specs.Tree.{Body, done, spend, sync, call, spawn, linesOf, size}
-use Rattle.trace.specs.Fold.{costAt, block, after, plan}
-use Rattle.trace.proofs.Levels.{bsize, bsize-le, In, Past, Beside, in-lt, in-of, past-out, past-of, near-of, near-lt, beside-shift, beside-unshift, beside-within}
+use Rattle.trace.specs.Tree.{Way, call, spawn, opening, Leaf, spend, sync, lineOf, Body, done, leaf, child, linesOf, size}
+use Rattle.trace.specs.Fold.{costAt, together, block, after, plan}
+use Rattle.trace.proofs.Levels.{bsize, bsize-le, In, Past, Beside, beside-leaf, Spawning, spawning, beside-opening, opening-beside, in-lt, in-of, past-out, past-of, near-of, near-lt, beside-shift, beside-unshift, beside-within}
+
+-- the costs of a child and of what follows it in its block, however it is made
+pub costs-together : (w : Way) (a b : Plan) → costs (together w a b) ≡ costs a ++ costs b
+costs-together call a b = refl
+costs-together spawn a b = refl
+
+pub all-together : (p : CostLine → Type 0) (w : Way) (a b : Plan) → All p (costs a) → All p (costs b) → All p (costs (together w a b))
+all-together p w a b h k = subst (All p) (sym (costs-together w a b)) (all-append p (costs a) (costs b) h k)
 
 -- the line is from m on and before k
 abbrev Between : ℕ → ℕ → CostLine → Type 0
@@ -27,29 +34,19 @@ whole b n s h =
     all-append (Between n (n + size b)) (costs (block n s b)) (costs (after n s b)) (all-map (λ y w. omega (arith, bsize-le b)) (costs (block n s b)) (h .0))
     (all-map (λ y w. omega arith) (costs (after n s b)) (h .1))
 
--- a call or spawn at line n: g is its body, and r the rest
-module _ (n s v : ℕ) (g r : Body) where
-  abbrev gs : List CostLine
-  gs = costs (plan (suc n) v g)
-
-  abbrev rs : List CostLine
-  rs = costs (block (suc n + size g) s r)
-
-  range-step : Ranges (suc n) v g → Ranges (suc n + size g) s r
-      → All (Between n (n + suc (size g + bsize r))) (gs ++ rs) × All (Between (n + suc (size g + bsize r)) (n + suc (size g + size r))) (costs (after (suc n + size g) s r))
-  range-step h k = (
-    all-append (Between n (n + suc (size g + bsize r))) gs rs (all-map (λ y w. omega arith) gs (whole g (suc n) v h)) (all-map (λ y w. omega arith) rs (k .0)),
-    all-map (λ y w. omega arith) (costs (after (suc n + size g) s r)) (k .1),
-  )
-
 range : (b : Body) (n s : ℕ) → Ranges n s b
 range done n s = (tt, tt)
-range (spend v r) n s =
+range (leaf (spend v) r) n s =
     let k = range r (suc n) s in
     ((omega arith, all-map (λ y w. omega arith) (costs (block (suc n) s r)) (k .0)), all-map (λ y w. omega arith) (costs (after (suc n) s r)) (k .1))
-range (sync r) n s = (tt, all-map (λ y w. omega arith) (costs (plan (suc n) s r)) (whole r (suc n) s (range r (suc n) s)))
-range (call v g r) n s = range-step n s v g r (range g (suc n) v) (range r (suc n + size g) s)
-range (spawn v g r) n s = range-step n s v g r (range g (suc n) v) (range r (suc n + size g) s)
+range (leaf sync r) n s = (tt, all-map (λ y w. omega arith) (costs (plan (suc n) s r)) (whole r (suc n) s (range r (suc n) s)))
+range (child w v g r) n s =
+    let G = plan (suc n) v g in
+    let B = block (suc n + size g) s r in
+    let k = range r (suc n + size g) s in (
+      all-together (Between n (n + suc (size g + bsize r))) w G B (all-map (λ y w. omega arith) (costs G) (whole g (suc n) v (range g (suc n) v))) (all-map (λ y w. omega arith) (costs B) (k .0)),
+      all-map (λ y w. omega arith) (costs (after (suc n + size g) s r)) (k .1),
+    )
 
 -- ── the plan is ordered ──
 
@@ -61,24 +58,21 @@ whole-ordered b n s o =
     let h = range b n s in
     join (n + bsize b) (costs (block n s b)) (costs (after n s b)) (all-map (λ x w. w .1) (costs (block n s b)) (h .0)) (all-map (λ x w. w .0) (costs (after n s b)) (h .1)) (o .0) (o .1)
 
-module _ (n s v : ℕ) (g r : Body) where
-  ordered-step : Ordered (plan (suc n) v g) → Pairs Less (rs n s v g r) → Pairs Less (gs n s v g r ++ rs n s v g r)
-  ordered-step o q =
-      join (suc n + size g) (gs n s v g r) (rs n s v g r) (all-map (λ x w. w .1) (gs n s v g r) (whole g (suc n) v (range g (suc n) v)))
-      (all-map (λ x w. w .0) (rs n s v g r) (range r (suc n + size g) s .0)) o q
-
 ordered : (b : Body) (n s : ℕ) → Pairs Less (costs (block n s b)) × Pairs Less (costs (after n s b))
 ordered done n s = (tt, tt)
-ordered (spend v r) n s =
+ordered (leaf (spend v) r) n s =
     let k = ordered r (suc n) s in
     ((all-map (λ y w. omega arith) (costs (block (suc n) s r)) (range r (suc n) s .0), k .0), k .1)
-ordered (sync r) n s = (tt, whole-ordered r (suc n) s (ordered r (suc n) s))
-ordered (call v g r) n s =
-    let k = ordered r (suc n + size g) s in
-    (ordered-step n s v g r (whole-ordered g (suc n) v (ordered g (suc n) v)) (k .0), k .1)
-ordered (spawn v g r) n s =
-    let k = ordered r (suc n + size g) s in
-    (ordered-step n s v g r (whole-ordered g (suc n) v (ordered g (suc n) v)) (k .0), k .1)
+ordered (leaf sync r) n s = (tt, whole-ordered r (suc n) s (ordered r (suc n) s))
+ordered (child w v g r) n s =
+    let G = plan (suc n) v g in
+    let B = block (suc n + size g) s r in
+    let k = ordered r (suc n + size g) s in (
+      subst (Pairs Less) (sym (costs-together w G B))
+          (join (suc n + size g) (costs G) (costs B) (all-map (λ x w. w .1) (costs G) (whole g (suc n) v (range g (suc n) v)))
+          (all-map (λ x w. w .0) (costs B) (range r (suc n + size g) s .0)) (whole-ordered g (suc n) v (ordered g (suc n) v)) (k .0)),
+      k .1,
+    )
 
 -- LAW
 pub plan-ordered : (b : Body) (n s : ℕ) → Ordered (plan n s b)
@@ -114,6 +108,21 @@ To b = (n s : ℕ) (u : List Frame) (x y : CostLine) (i j : ℕ) → At n x i �
 abbrev From : Body → Type 0
 From b = (n s : ℕ) (u : List Frame) (x y : CostLine) (i j : ℕ) → At n x i → At n y j → On (plan n s b) x → On (plan n s b) y → Less x y → Beside (linesOf b ++ u) i j → Apart (plan n s b) x y
 
+-- a child's costs, and the rest's
+pub costs-two : (w : Way) (n s v : ℕ) (g r : Body) → costs (plan n s (child w v g r)) ≡ costs (plan (suc n) v g) ++ costs (plan (suc n + size g) s r)
+costs-two w n s v g r =
+    let G = plan (suc n) v g in
+    let B = block (suc n + size g) s r in
+    let A = after (suc n + size g) s r in
+    ap (λ (l : List CostLine). l ++ costs A) (costs-together w G B) ∙ append-assoc (costs G) (costs B) (costs A)
+
+pub on-two : (w : Way) (n s v : ℕ) (g r : Body) (z : CostLine) → On (plan n s (child w v g r)) z → On (plan (suc n) v g) z ⊎ On (plan (suc n + size g) s r) z
+on-two w n s v g r z m = List·Memᴰ·append-cases (costs (plan (suc n) v g)) (subst (λ (l : List CostLine). List·Memᴰ z l) (costs-two w n s v g r) m)
+
+later : (n s v : ℕ) (g r : Body) (z : CostLine) → On (plan (suc n) v g) z ⊎ On (plan (suc n + size g) s r) z → n < z .line
+later n s v g r z (inl o) = omega (arith, on-range g (suc n) v z o)
+later n s v g r z (inr o) = omega (arith, on-range r (suc n + size g) s z o)
+
 module _ (n s v : ℕ) (g r : Body) (x y : CostLine) where
   abbrev G : Plan
   G = plan (suc n) v g
@@ -124,33 +133,25 @@ module _ (n s v : ℕ) (g r : Body) (x y : CostLine) where
   abbrev B : Plan
   B = block (suc n + size g) s r
 
-  pub on-two : (z : CostLine) → On (plan n s (call v g r)) z → On G z ⊎ On R z
-  on-two z m = List·Memᴰ·append-cases (costs G) (rw (append-assoc (costs G) (costs B) (costs (after (suc n + size g) s r))) at m)
+  -- apart: in the child and in its block, where it is spawned, or in one of the two
+  two-of : (w : Way) → Apart (plan n s (child w v g r)) x y → Spawning w (On G x × On B y) ⊎ (Apart G x y ⊎ Apart R x y)
+  two-of call (inl (inl a)) = inr (inl a)
+  two-of call (inl (inr a)) = inr (inr (inl a))
+  two-of call (inr a) = inr (inr (inr a))
+  two-of spawn (inl (inl a)) = inl a
+  two-of spawn (inl (inr (inl a))) = inr (inl a)
+  two-of spawn (inl (inr (inr a))) = inr (inr (inl a))
+  two-of spawn (inr a) = inr (inr (inr a))
 
-  later : (z : CostLine) → On G z ⊎ On R z → n < z .line
-  later z (inl o) = omega (arith, on-range g (suc n) v z o)
-  later z (inr o) = omega (arith, on-range r (suc n + size g) s z o)
-
-  two-of-call : Apart (plan n s (call v g r)) x y → Apart G x y ⊎ Apart R x y
-  two-of-call (inl (inl a)) = inl a
-  two-of-call (inl (inr a)) = inr (inl a)
-  two-of-call (inr a) = inr (inr a)
-
-  call-of-two : Apart G x y ⊎ Apart R x y → Apart (plan n s (call v g r)) x y
-  call-of-two (inl a) = inl (inl a)
-  call-of-two (inr (inl a)) = inl (inr a)
-  call-of-two (inr (inr a)) = inr a
-
-  two-of-spawn : Apart (plan n s (spawn v g r)) x y → (On G x × On B y) ⊎ (Apart G x y ⊎ Apart R x y)
-  two-of-spawn (inl (inl a)) = inl a
-  two-of-spawn (inl (inr (inl a))) = inr (inl a)
-  two-of-spawn (inl (inr (inr a))) = inr (inr (inl a))
-  two-of-spawn (inr a) = inr (inr (inr a))
-
-  spawn-of-two : Apart G x y ⊎ Apart R x y → Apart (plan n s (spawn v g r)) x y
-  spawn-of-two (inl a) = inl (inr (inl a))
-  spawn-of-two (inr (inl a)) = inl (inr (inr a))
-  spawn-of-two (inr (inr a)) = inr a
+  of-two : (w : Way) → Spawning w (On G x × On B y) ⊎ (Apart G x y ⊎ Apart R x y) → Apart (plan n s (child w v g r)) x y
+  of-two call (inl a) = absurd a
+  of-two call (inr (inl a)) = inl (inl a)
+  of-two call (inr (inr (inl a))) = inl (inr a)
+  of-two call (inr (inr (inr a))) = inr a
+  of-two spawn (inl a) = inl (inl a)
+  of-two spawn (inr (inl a)) = inl (inr (inl a))
+  of-two spawn (inr (inr (inl a))) = inl (inr (inr a))
+  of-two spawn (inr (inr (inr a))) = inr a
 
   module _ (u : List Frame) (i j : ℕ) (p : At (suc n) x i) (q : At (suc n) y j) where
     abbrev lines : List Frame
@@ -213,70 +214,57 @@ module _ (n s v : ℕ) (g r : Body) (x y : CostLine) where
         right (inl o) m e l = absurd (omega (arith, on-range g (suc n) v y o))
         right (inr o) m e l = in-block (List·Memᴰ·append-cases (costs B) o) m e l
 
-rest-of-spend : (n s v : ℕ) (r : Body) (x y : CostLine) → Apart (plan n s (spend v r)) x y → Apart (plan (suc n) s r) x y
-rest-of-spend n s v r x y (inl (inl a)) = absurd a
-rest-of-spend n s v r x y (inl (inr a)) = inl a
-rest-of-spend n s v r x y (inr a) = inr a
+-- ── a leaf line, and the rest ──
 
-spend-of-rest : (n s v : ℕ) (r : Body) (x y : CostLine) → Apart (plan (suc n) s r) x y → Apart (plan n s (spend v r)) x y
-spend-of-rest n s v r x y (inl a) = inl (inr a)
-spend-of-rest n s v r x y (inr a) = inr a
+rest-of-leaf : (l : Leaf) (n s : ℕ) (r : Body) (x y : CostLine) → Apart (plan n s (leaf l r)) x y → Apart (plan (suc n) s r) x y
+rest-of-leaf (spend v) n s r x y (inl (inl a)) = absurd a
+rest-of-leaf (spend v) n s r x y (inl (inr a)) = inl a
+rest-of-leaf (spend v) n s r x y (inr a) = inr a
+rest-of-leaf sync n s r x y (inl a) = absurd a
+rest-of-leaf sync n s r x y (inr a) = a
 
-rest-of-sync : (n s : ℕ) (r : Body) (x y : CostLine) → Apart (plan n s (sync r)) x y → Apart (plan (suc n) s r) x y
-rest-of-sync n s r x y (inl a) = absurd a
-rest-of-sync n s r x y (inr a) = a
+leaf-of-rest : (l : Leaf) (n s : ℕ) (r : Body) (x y : CostLine) → Apart (plan (suc n) s r) x y → Apart (plan n s (leaf l r)) x y
+leaf-of-rest (spend v) n s r x y (inl a) = inl (inr a)
+leaf-of-rest (spend v) n s r x y (inr a) = inr a
+leaf-of-rest sync n s r x y a = inr a
+
+on-rest : (l : Leaf) (n s i : ℕ) (r : Body) (x : CostLine) → At n x (suc i) → On (plan n s (leaf l r)) x → On (plan (suc n) s r) x
+on-rest (spend v) n s i r x p m = go (List·Memᴰ·cases-cons m)
+  where
+    go : (x ≡ costAt n s v) ⊎ On (plan (suc n) s r) x → On (plan (suc n) s r) x
+    go (inl d) = absurd (omega (arith, ap (λ (w : CostLine). w .line) d))
+    go (inr o) = o
+on-rest sync n s i r x p m = m
 
 -- LAW
 pub apart-beside : (b : Body) → To b
 apart-beside done n s u x y i j p q (inl a) = absurd a
 apart-beside done n s u x y i j p q (inr a) = absurd a
-apart-beside (spend v r) n s u x y i j p q a =
-    let a′ = rest-of-spend n s v r x y a in
+apart-beside (leaf l r) n s u x y i j p q a =
+    let a′ = rest-of-leaf l n s r x y a in
     let on = apart-on (plan (suc n) s r) x y a′ in
-    enter (Cost v) (linesOf r ++ u) n x y i j p q (on-range r (suc n) s x (on .0) .0) (on-range r (suc n) s y (on .1) .0) (λ i′ j′ p′ q′. apart-beside r (suc n) s u x y i′ j′ p′ q′ a′)
-apart-beside (sync r) n s u x y i j p q a =
-    let a′ = rest-of-sync n s r x y a in
-    let on = apart-on (plan (suc n) s r) x y a′ in
-    enter Sync (linesOf r ++ u) n x y i j p q (on-range r (suc n) s x (on .0) .0) (on-range r (suc n) s y (on .1) .0) (λ i′ j′ p′ q′. apart-beside r (suc n) s u x y i′ j′ p′ q′ a′)
-apart-beside (call v g r) n s u x y i j p q a =
-    let on = apart-on (plan n s (call v g r)) x y a in
-    subst (λ (t : List Frame). Beside (Call v ∷ t) i j) (sym (append-assoc (linesOf g) (linesOf r) u))
-    (enter (Call v) (linesOf g ++ (linesOf r ++ u)) n x y i j p q (later n s v g r x y x (on-two n s v g r x y x (on .0))) (later n s v g r x y y (on-two n s v g r x y y (on .1)))
-    (λ i′ j′ p′ q′. to-two n s v g r x y u i′ j′ p′ q′ (apart-beside g) (apart-beside r) (two-of-call n s v g r x y a)))
-apart-beside (spawn v g r) n s u x y i j p q a =
-    let on = apart-on (plan n s (spawn v g r)) x y a in
-    subst (λ (t : List Frame). Beside (Spawn v ∷ t) i j) (sym (append-assoc (linesOf g) (linesOf r) u))
-    (enter (Spawn v) (linesOf g ++ (linesOf r ++ u)) n x y i j p q (later n s v g r x y x (on-two n s v g r x y x (on .0))) (later n s v g r x y y (on-two n s v g r x y y (on .1)))
-    (λ i′ j′ p′ q′. ⊎-map (to-here n s v g r x y u i′ j′ p′ q′) (to-two n s v g r x y u i′ j′ p′ q′ (apart-beside g) (apart-beside r)) (two-of-spawn n s v g r x y a)))
-
-on-rest : (n s v i : ℕ) (r : Body) (x : CostLine) → At n x (suc i) → On (plan n s (spend v r)) x → On (plan (suc n) s r) x
-on-rest n s v i r x p m = go (List·Memᴰ·cases-cons m)
-  where
-    go : (x ≡ costAt n s v) ⊎ On (plan (suc n) s r) x → On (plan (suc n) s r) x
-    go (inl d) = absurd (omega (arith, ap (λ (w : CostLine). w .line) d))
-    go (inr o) = o
+    enter (lineOf l) (linesOf r ++ u) n x y i j p q (on-range r (suc n) s x (on .0) .0) (on-range r (suc n) s y (on .1) .0)
+    (λ i′ j′ p′ q′. rw (beside-leaf l (linesOf r ++ u) i′ j′) (apart-beside r (suc n) s u x y i′ j′ p′ q′ a′))
+apart-beside (child w v g r) n s u x y i j p q a =
+    let on = apart-on (plan n s (child w v g r)) x y a in
+    subst (λ (t : List Frame). Beside (opening w v ∷ t) i j) (sym (append-assoc (linesOf g) (linesOf r) u))
+    (enter (opening w v) (linesOf g ++ (linesOf r ++ u)) n x y i j p q (later n s v g r x (on-two w n s v g r x (on .0))) (later n s v g r y (on-two w n s v g r y (on .1)))
+    (λ i′ j′ p′ q′. beside-opening w v (linesOf g ++ (linesOf r ++ u)) i′ j′
+    (⊎-map (spawning w (to-here n s v g r x y u i′ j′ p′ q′)) (to-two n s v g r x y u i′ j′ p′ q′ (apart-beside g) (apart-beside r)) (two-of n s v g r x y w a))))
 
 -- LAW
 pub beside-apart : (b : Body) → From b
 beside-apart done n s u x y i j p q ox oy l a = absurd (List·Memᴰ·not-nil ox)
-beside-apart (spend v r) n s u x y zero j p q ox oy l a = absurd a
-beside-apart (spend v r) n s u x y (suc i) zero p q ox oy l a = absurd a
-beside-apart (spend v r) n s u x y (suc i) (suc j) p q ox oy l a =
-    spend-of-rest n s v r x y (beside-apart r (suc n) s u x y i j (omega arith) (omega arith) (on-rest n s v i r x p ox) (on-rest n s v j r y q oy) l a)
-beside-apart (sync r) n s u x y zero j p q ox oy l a = absurd a
-beside-apart (sync r) n s u x y (suc i) zero p q ox oy l a = absurd a
-beside-apart (sync r) n s u x y (suc i) (suc j) p q ox oy l a = inr (beside-apart r (suc n) s u x y i j (omega arith) (omega arith) ox oy l a)
-beside-apart (call v g r) n s u x y zero j p q ox oy l a = absurd a
-beside-apart (call v g r) n s u x y (suc i) zero p q ox oy l a = absurd a
-beside-apart (call v g r) n s u x y (suc i) (suc j) p q ox oy l a =
-    call-of-two n s v g r x y
-    (from-two n s v g r x y u i j (omega arith) (omega arith) (beside-apart g) (beside-apart r) (on-two n s v g r x y x ox) (on-two n s v g r x y y oy) l (rw (append-assoc (linesOf g) (linesOf r) u) at a))
-beside-apart (spawn v g r) n s u x y zero j p q ox oy l a = absurd a
-beside-apart (spawn v g r) n s u x y (suc i) zero p q ox oy l a = absurd a
-beside-apart (spawn v g r) n s u x y (suc i) (suc j) p q ox oy l a =
-    go (from-two n s v g r x y u i j (omega arith) (omega arith) (beside-apart g) (beside-apart r) (on-two n s v g r x y x ox) (on-two n s v g r x y y oy) l) (rw (append-assoc (linesOf g) (linesOf r) u) at a)
-  where
-    go : (Beside (linesOf g ++ (linesOf r ++ u)) i j → Apart (plan (suc n) v g) x y ⊎ Apart (plan (suc n + size g) s r) x y) → Beside (Spawn v ∷ (linesOf g ++ (linesOf r ++ u))) (suc i) (suc j)
-        → Apart (plan n s (spawn v g r)) x y
-    go f (inl w) = inl (inl (from-here n s v g r x y u i j (omega arith) (omega arith) (on-two n s v g r x y x ox) (on-two n s v g r x y y oy) w))
-    go f (inr w) = spawn-of-two n s v g r x y (f w)
+beside-apart (leaf k r) n s u x y zero j p q ox oy l a = absurd a
+beside-apart (leaf k r) n s u x y (suc i) zero p q ox oy l a = absurd a
+beside-apart (leaf k r) n s u x y (suc i) (suc j) p q ox oy l a =
+    leaf-of-rest k n s r x y
+    (beside-apart r (suc n) s u x y i j (omega arith) (omega arith) (on-rest k n s i r x p ox) (on-rest k n s j r y q oy) l (rw (beside-leaf k (linesOf r ++ u) i j) at a))
+beside-apart (child w v g r) n s u x y zero j p q ox oy l a = absurd a
+beside-apart (child w v g r) n s u x y (suc i) zero p q ox oy l a = absurd a
+beside-apart (child w v g r) n s u x y (suc i) (suc j) p q ox oy l a =
+    let ox′ = on-two w n s v g r x ox in
+    let oy′ = on-two w n s v g r y oy in
+    of-two n s v g r x y w
+    (⊎-map (spawning w (from-here n s v g r x y u i j (omega arith) (omega arith) ox′ oy′)) (from-two n s v g r x y u i j (omega arith) (omega arith) (beside-apart g) (beside-apart r) ox′ oy′ l)
+    (opening-beside w v (linesOf g ++ (linesOf r ++ u)) i j (rw (append-assoc (linesOf g) (linesOf r) u) at a)))

@@ -9,8 +9,9 @@ use native.Mathlib.Nat.{le-dest}
 use lib.Dec.{T}
 use borrow.Author.Tests.{eq-eqb, ne-eqb}
 use Rattle.line.specs.declared.Frame.{Frame}
+use Rattle.chain.specs.Over.{Each, EachTwo}
 use Rattle.trace.specs.Shape.{step, walk, openAt, has, firstIs}
-use Rattle.trace.specs.Series.{Each, EachTwo, Series, value, valueAt, CostIn, Chain, weight, Span}
+use Rattle.trace.specs.Series.{Series, value, valueAt, CostIn, Chain, weight, Span}
 use Rattle.trace.specs.Rows.{ofRow, counted, sumOf, costsWhere, inside, direct, directOn, sum, Sum, work, Spans, local, onSpan}
 use Rattle.trace.proofs.Open.{has-cases}
 use Rattle.trace.proofs.Sums.{same-or-not}

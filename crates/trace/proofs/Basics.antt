@@ -2,7 +2,7 @@
 use mathlib.Core.Path.{_≡_, refl, sym}
 use mathlib.Core.Logic.{_⊎_, inl, inr}
 use mathlib.Core.Bool.{Bool, true, false, cond, _&&_, _||_}
-use Prim.Native.Nat.{ℕ, zero, suc, _+_, _<_}
+use Prim.Native.Nat.{ℕ, zero, suc, _+_, _≤_, _<_}
 use native.Mathlib.Omega.{arith}
 
 pub clash : {A : Type 0} → _≡_ {A = ℕ} 0 1 → A
@@ -33,3 +33,13 @@ below (suc m) (suc i) = go (below m i)
 pub cond-same : (b : Bool) → _≡_ {A = ℕ} (cond b 0 0) 0
 cond-same true = refl
 cond-same false = refl
+
+-- a sum where a test says so is a sum of two
+pub cond-add : (b : Bool) (x y : ℕ) → cond b (x + y) 0 ≡ cond b x 0 + cond b y 0
+cond-add true x y = refl
+cond-add false x y = refl
+
+-- what a test lets through is at most all
+pub cond-le : (b : Bool) (v : ℕ) → cond b v 0 ≤ v
+cond-le true v = omega arith
+cond-le false v = omega arith

@@ -13,6 +13,7 @@ use Rattle.trace.specs.Shape.{root, closed, step, walk, has, firstIs, si
 use Rattle.trace.specs.Series.{value}
 use Rattle.trace.specs.Rows.{makes, made, ofRow, sumOf, total, inside, direct, sum, calls, work, local}
 use Rattle.trace.specs.Refusals.{openNow, tooDeep, wide, wideRows, beyond}
+use Rattle.trace.proofs.Basics.{cond-le}
 use Rattle.trace.proofs.Scan.{InTable, now}
 use Rattle.trace.proofs.Sums.{sum-made, sum-add}
 
@@ -20,10 +21,6 @@ use Rattle.trace.proofs.Sums.{sum-made, sum-add}
 abbrev pub Tame : ℕ → List ℕ → List Frame → Type 0
 Tame n o [] = Unit {0}
 Tame n o (e ∷ u) = (value e ≤ 4294967295) × (length o ≤ 64) × Tame (suc n) (step n e o) u
-
-cond-le : (b : Bool) (v : ℕ) → cond b v 0 ≤ v
-cond-le true v = omega arith
-cond-le false v = omega arith
 
 or-le : (a b : Bool) (v : ℕ) → cond (a || b) v 0 ≤ cond (a && true) v 0 + cond b v 0
 or-le true b v = omega arith

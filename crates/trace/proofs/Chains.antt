@@ -1,24 +1,27 @@
 -- The chains, the span and the chosen chain of an invocation are those of its body's plan, which the recurrence gives.
-use mathlib.Core.Path.{_≡_, refl, sym, _∙_, ap, subst, subst₂}
-use mathlib.Core.Logic.{_⊎_, inl, inr}
-use mathlib.Core.List.{List, [], _∷_, _++_, append-assoc, List·Memᴰ, List·Memᴰ·head, List·Memᴰ·tail, List·Memᴰ·not-nil, List·Memᴰ·cases-cons, Memᴰ·append-left, Memᴰ·append-right}
+use mathlib.Core.Path.{_≡_, refl, sym, ap, subst, subst₂}
+use mathlib.Core.Logic.{inl, inr}
+use mathlib.Core.List.{List, [], _∷_, _++_, List·Memᴰ·head, List·Memᴰ·tail, List·Memᴰ·not-nil, List·Memᴰ·cases-cons, Memᴰ·append-left, Memᴰ·append-right}
 use Prim.Native.Nat.{ℕ, zero, suc, _+_, _≤_, _<_}
 use native.Mathlib.Omega.{arith}
 use native.Mathlib.Nat.{le-dest}
 use lib.ListN.{length, length-append}
 use lib.Dec.{T}
 use Rattle.line.specs.declared.Frame.{Frame}
-use Rattle.line.specs.declared.Frame.the-variants.{Call, Spawn, Cost}
-use Rattle.chain.specs.Plan.{CostLine, costs, All, Pairs, On, Apart}
+use Rattle.line.specs.declared.Frame.the-variants.{Cost}
+use Rattle.chain.specs.Plan.{CostLine, costs, On, Apart}
 use Rattle.chain.specs.Plan as P
+use Rattle.chain.specs.Over as Over
+use Rattle.chain.proofs.Over.{Found, Fits, chosen-by, span-by}
+use Rattle.chain.specs.Over.{linesIn}
 use Rattle.trace.specs.Shape.{Is, root, walk, openAt, has, Parallel}
-use Rattle.trace.specs.Series.{Each, EachTwo, Series, value, valueAt, CostIn, Chain, weight, Span, Before, Chosen}
-use Rattle.trace.specs.Tree.{Body, done, spend, sync, call, spawn, linesOf, size}
-use Rattle.trace.specs.Fold.{costAt, block, after, plan, chainOf, linesIn}
+use Rattle.trace.specs.Series.{value, valueAt, CostIn, rule, Span, Chosen}
+use Rattle.trace.specs.Tree.{Way, opening, spend, sync, Body, done, leaf, child, linesOf, size}
+use Rattle.trace.specs.Fold.{costAt, plan, chainOf}
 use Rattle.trace.proofs.Basics.{below, clash}
-use Rattle.trace.proofs.Tree.{size-is}
+use Rattle.trace.proofs.Tree.{size-is, leaf-not-opening}
 use Rattle.trace.proofs.Levels.{in-of, in-lt}
-use Rattle.trace.proofs.Apart.{on-two, apart-beside, beside-apart}
+use Rattle.trace.proofs.Apart.{costs-two, on-two, apart-beside, beside-apart}
 use Rattle.trace.proofs.Recurrence.{Paid, chain-chosen}
 use Rattle.trace.proofs.Open.{in-to, in-from}
 use Rattle.trace.proofs.Context.{Ctx, is-append, at-open, at-is, local-to, local-from}
@@ -61,29 +64,17 @@ right-on n m u v x l w = (length u + w .0, omega (arith, w .1), subst (λ (A : T
 
 pub on-where : (b : Body) (n s : ℕ) (x : CostLine) → On (plan n s b) x → Where n (linesOf b) x
 on-where done n s x m = absurd (List·Memᴰ·not-nil m)
-on-where (spend v r) n s x m =
+on-where (leaf (spend v) r) n s x m =
     elim (List·Memᴰ·cases-cons m) [
       | inl e ↦ (zero, (let l : x .line ≡ n = ap (λ (y : CostLine). y .line) e in omega arith), ap (λ (y : CostLine). Cost (y .value)) (sym e))
       | inr k ↦ one-on n (Cost v) (linesOf r) x (on-where r (suc n) s x k)
     ]
-on-where (sync r) n s x m = one-on n _ (linesOf r) x (on-where r (suc n) s x m)
-on-where (call v g r) n s x m =
-    one-on n (Call v) (linesOf g ++ linesOf r) x (elim (on-two n s v g r x x x m) [
+on-where (leaf sync r) n s x m = one-on n _ (linesOf r) x (on-where r (suc n) s x m)
+on-where (child w v g r) n s x m =
+    one-on n (opening w v) (linesOf g ++ linesOf r) x (elim (on-two w n s v g r x m) [
       | inl o ↦ left-on (suc n) (linesOf g) (linesOf r) x (on-where g (suc n) v x o)
       | inr o ↦ right-on (suc n) (size g) (linesOf g) (linesOf r) x (size-is g) (on-where r (suc n + size g) s x o)
     ])
-on-where (spawn v g r) n s x m =
-    one-on n (Spawn v) (linesOf g ++ linesOf r) x (elim (on-two n s v g r x x x m) [
-      | inl o ↦ left-on (suc n) (linesOf g) (linesOf r) x (on-where g (suc n) v x o)
-      | inr o ↦ right-on (suc n) (size g) (linesOf g) (linesOf r) x (size-is g) (on-where r (suc n + size g) s x o)
-    ])
-
--- one of these costs stands at this line and has this value
-pub record Found (l : List CostLine) (k v : ℕ) : Type 0 where
-  pub cost : CostLine
-  pub on : List·Memᴰ cost l
-  pub line-is : cost .line ≡ k
-  pub value-is : cost .value ≡ v
 
 found-line : (l : List CostLine) (k j v : ℕ) → k ≡ j → Found l k v → Found l j v
 found-line l k j v e f = subst (λ (i : ℕ). Found l i v) e f
@@ -97,10 +88,10 @@ found-right l m k v h = record { cost = h .cost; on = Memᴰ·append-right l (h 
 abbrev Finds : Body → Type 0
 Finds b = (n s i w : ℕ) → Is (linesOf b) i (Cost w) → Found (costs (plan n s b)) (n + i) w
 
-find-two : (n s v : ℕ) (g r : Body) → Finds g → Finds r → (i w : ℕ) → Is (linesOf g ++ linesOf r) i (Cost w) → Found (costs (plan n s (call v g r))) (n + suc i) w
-find-two n s v g r f f′ i w h =
-    found-line (costs (plan n s (call v g r))) (suc n + i) (n + suc i) w (omega arith)
-    (subst (λ (l : List CostLine). Found l (suc n + i) w) (sym (append-assoc (costs (plan (suc n) v g)) (costs (block (suc n + size g) s r)) (costs (after (suc n + size g) s r))))
+find-two : (m : Way) (n s v : ℕ) (g r : Body) → Finds g → Finds r → (i w : ℕ) → Is (linesOf g ++ linesOf r) i (Cost w) → Found (costs (plan n s (child m v g r))) (n + suc i) w
+find-two m n s v g r f f′ i w h =
+    found-line (costs (plan n s (child m v g r))) (suc n + i) (n + suc i) w (omega arith)
+    (subst (λ (l : List CostLine). Found l (suc n + i) w) (sym (costs-two m n s v g r))
     (elim (below (size g) i) [
       | inl l ↦ found-left (costs (plan (suc n) v g)) (costs (plan (suc n + size g) s r)) (suc n + i) w (f (suc n) v i w (is-left (linesOf g) (linesOf r) i (Cost w) (omega (arith, size-is g)) h))
       | inr k ↦ found-right (costs (plan (suc n) v g)) (costs (plan (suc n + size g) s r)) (suc n + i) w (behind k)
@@ -116,24 +107,16 @@ find-two n s v g r f f′ i w h =
 pub where-on : (b : Body) → Finds b
 where-on done n s zero w h = clash (cc)
 where-on done n s (suc i) w h = absurd h
-where-on (spend v r) n s zero w h = record { cost = costAt n s v; on = List·Memᴰ·head refl; line-is = omega arith; value-is = ap value h }
-where-on (spend v r) n s (suc i) w h =
+where-on (leaf (spend v) r) n s zero w h = record { cost = costAt n s v; on = List·Memᴰ·head refl; line-is = omega arith; value-is = ap value h }
+where-on (leaf (spend v) r) n s (suc i) w h =
     let f = where-on r (suc n) s i w h in
     record { cost = f .cost; on = List·Memᴰ·tail (f .on); line-is = omega (arith, f .line-is); value-is = f .value-is }
-where-on (sync r) n s zero w h = clash (cc)
-where-on (sync r) n s (suc i) w h = found-line (costs (plan n s (sync r))) (suc n + i) (n + suc i) w (omega arith) (where-on r (suc n) s i w h)
-where-on (call v g r) n s zero w h = clash (cc)
-where-on (call v g r) n s (suc i) w h = find-two n s v g r (where-on g) (where-on r) i w h
-where-on (spawn v g r) n s zero w h = clash (cc)
-where-on (spawn v g r) n s (suc i) w h = find-two n s v g r (where-on g) (where-on r) i w h
+where-on (leaf sync r) n s zero w h = clash (cc)
+where-on (leaf sync r) n s (suc i) w h = found-line (costs (plan n s (leaf sync r))) (suc n + i) (n + suc i) w (omega arith) (where-on r (suc n) s i w h)
+where-on (child m v g r) n s zero w h = leaf-not-opening (spend w) m v (sym h)
+where-on (child m v g r) n s (suc i) w h = find-two m n s v g r (where-on g) (where-on r) i w h
 
 -- ── one invocation ──
-
-before-from : (c d : List CostLine) → P.Before c d → Before (linesIn c) (linesIn d)
-before-from [] d h = absurd h
-before-from (x ∷ c) [] h = absurd h
-before-from (x ∷ c) (y ∷ d) (inl h) = inl h
-before-from (x ∷ c) (y ∷ d) (inr h) = inr (h .0, before-from c d (h .1))
 
 -- The invocation F, in row s, has the body g, whose first line is line n; no cost line inside it is before that.
 module _ (t : List Frame) (n s F : ℕ) (o : List ℕ) (g : Body) (post : List Frame) (x : Ctx t n (F ∷ o) (linesOf g ++ post)) (start : (k : ℕ) → CostIn t F k → n ≤ k) where
@@ -199,82 +182,14 @@ module _ (t : List Frame) (n s F : ℕ) (o : List ℕ) (g : Body) (post : List F
             (omega (arith, u .1, w .1)) (omega (arith, length-append (linesOf g) post))
             (subst₂ (λ (i j : ℕ). Parallel t i j) (u .1) (w .1) p))
 
-  -- ── its chains ──
-
-  -- a chain's lines, found in the plan
-  pub record Same (c : List ℕ) : Type 0 where
-    pub chain : List CostLine
-    pub lines-are : linesIn chain ≡ c
-    pub on : All (On (plan n s g)) chain
-    pub weighs : P.weight chain ≡ weight t c
-
-  found-all : (c : List ℕ) → Each (CostIn t F) c → Same c
-  found-all [] h = record { chain = []; lines-are = refl; on = tt; weighs = refl }
-  found-all (k ∷ c) h =
-      let f = cost-on k (h .0) in
-      let r = found-all c (h .1) in
-      record {
-        chain = f .cost ∷ r .chain;
-        lines-are = ap (λ (i : ℕ). i ∷ linesIn (r .chain)) (f .line-is) ∙ ap (λ (l : List ℕ). k ∷ l) (r .lines-are);
-        on = (f .on, r .on);
-        weighs = omega (arith, f .value-is, r .weighs);
-      }
-
-  to-series : (y : CostLine) (d : List CostLine) → On (plan n s g) y → All (On (plan n s g)) d → Each (Series t (y .line)) (linesIn d) → All (P.Series (plan n s g) y) d
-  to-series y [] a h r = tt
-  to-series y (z ∷ d) a h r = ((r .0 .0, λ p. r .0 .1 (apart-is-parallel y z a (h .0) (r .0 .0) p)), to-series y d a (h .1) (r .1))
-
-  to-pairs : (d : List CostLine) → All (On (plan n s g)) d → EachTwo (Series t) (linesIn d) → Pairs (P.Series (plan n s g)) d
-  to-pairs [] h r = tt
-  to-pairs (y ∷ d) h r = (to-series y d (h .0) (h .1) (r .0), to-pairs d (h .1) (r .1))
-
-  pub chain-to : (c : List ℕ) → Chain t F c → (e : Same c) × P.Chain (plan n s g) (e .chain)
-  chain-to c h =
-      let e = found-all c (h .costs) in
-      (e, record { on = e .on; series = to-pairs (e .chain) (e .on) (subst (EachTwo (Series t)) (sym (e .lines-are)) (h .series)) })
-
-  from-costs : (d : List CostLine) → All (On (plan n s g)) d → Each (CostIn t F) (linesIn d)
-  from-costs [] h = tt
-  from-costs (y ∷ d) h = (on-cost y (h .0) .0, from-costs d (h .1))
-
-  from-series : (y : CostLine) (d : List CostLine) → On (plan n s g) y → All (On (plan n s g)) d → All (P.Series (plan n s g) y) d → Each (Series t (y .line)) (linesIn d)
-  from-series y [] a h r = tt
-  from-series y (z ∷ d) a h r = ((r .0 .0, λ p. r .0 .1 (parallel-is-apart y z a (h .0) (r .0 .0) p)), from-series y d a (h .1) (r .1))
-
-  from-pairs : (d : List CostLine) → All (On (plan n s g)) d → Pairs (P.Series (plan n s g)) d → EachTwo (Series t) (linesIn d)
-  from-pairs [] h r = tt
-  from-pairs (y ∷ d) h r = (from-series y d (h .0) (h .1) (r .0), from-pairs d (h .1) (r .1))
-
-  pub chain-from : (d : List CostLine) → P.Chain (plan n s g) d → Chain t F (linesIn d)
-  chain-from d h = record { costs = from-costs d (h .on); series = from-pairs d (h .on) (h .series) }
-
-  pub weight-from : (d : List CostLine) → All (On (plan n s g)) d → weight t (linesIn d) ≡ P.weight d
-  weight-from [] h = refl
-  weight-from (y ∷ d) h = let e = on-cost y (h .0) .1 in let r = weight-from d (h .1) in omega arith
+  -- LAW: the body's plan fits the rule of the invocation's cost lines
+  fits : Fits (rule t F) (plan n s g)
+  fits = record { found = cost-on; on = on-cost; apart = apart-is-parallel; parallel = parallel-is-apart }
 
   -- LAW: the span is the weight of the recurrence's chain
   pub span-of : Paid g → Span t F (P.weight (chainOf n s g))
-  span-of h =
-      let w = chain-chosen g n s h in
-      record {
-        chain = linesIn (chainOf n s g);
-        is-chain = chain-from (chainOf n s g) (w .chain);
-        weighs = weight-from (chainOf n s g) (w .chain .on);
-        greatest = λ c k. (let e = chain-to c k in omega (arith, w .heaviest (e .0 .chain) (e .1), e .0 .weighs));
-      }
+  span-of h = span-by (rule t F) (plan n s g) fits (chainOf n s g) (chain-chosen g n s h)
 
   -- LAW: the chosen chain of the root is the recurrence's chain
   pub chosen-of : Paid g → F ≡ root → Chosen t (linesIn (chainOf n s g))
-  chosen-of h r =
-      let w = chain-chosen g n s h in
-      let back : (c : List ℕ) → Chain t root c → Chain t F c = λ c k. subst (λ (G : ℕ). Chain t G c) (sym r) k in
-      let we = weight-from (chainOf n s g) (w .chain .on) in
-      record {
-        chain = subst (λ (G : ℕ). Chain t G (linesIn (chainOf n s g))) r (chain-from (chainOf n s g) (w .chain));
-        heaviest = λ c k. (let e = chain-to c (back c k) in omega (arith, w .heaviest (e .0 .chain) (e .1), e .0 .weighs));
-        first = λ c k q. (let e = chain-to c (back c k) in go c (e .0) (w .first (e .0 .chain) (e .1) (omega (arith, e .0 .weighs))));
-      }
-    where
-      go : (c : List ℕ) (e : Same c) → (e .chain ≡ chainOf n s g) ⊎ P.Before (chainOf n s g) (e .chain) → (c ≡ linesIn (chainOf n s g)) ⊎ Before (linesIn (chainOf n s g)) c
-      go c e (inl q) = inl (sym (e .lines-are) ∙ ap linesIn q)
-      go c e (inr q) = inr (subst (Before (linesIn (chainOf n s g))) (e .lines-are) (before-from (chainOf n s g) (e .chain) q))
+  chosen-of h r = subst (λ (G : ℕ). Over.Chosen (rule t G) (linesIn (chainOf n s g))) r (chosen-by (rule t F) (plan n s g) fits (chainOf n s g) (chain-chosen g n s h))

@@ -1,6 +1,5 @@
 -- The five columns by the tree: what an engine adds up. Columns 4 and 5 by the costs of the plan, each with its row.
 use mathlib.Core.Path.{_≡_, refl, sym, _∙_, ap, subst}
-use mathlib.Core.Logic.{_⊎_, inl, inr}
 use mathlib.Core.Bool.{Bool, true, false, cond, _&&_, and-true}
 use mathlib.Core.List.{List, [], _∷_, _++_, append-assoc, append-nil}
 use Prim.Native.Nat.{ℕ, zero, suc, _+_, _≤_}
@@ -9,17 +8,19 @@ use lib.ListN.{length}
 use lib.Dec.{eqb}
 use borrow.Author.Tests.{eq-eqb, ne-eqb}
 use Rattle.line.specs.declared.Frame.{Frame}
-use Rattle.line.specs.declared.Frame.the-variants.{Call, Spawn, Sync, Return, Cost}
+use Rattle.line.specs.declared.Frame.the-variants.{Return}
 use Rattle.chain.specs.Plan.{CostLine, costs}
 use Rattle.trace.specs.Shape.{Is, root, step, walk, has, firstIs}
 use Rattle.trace.specs.Series.{value, Span}
 use Rattle.trace.specs.Rows.{makes, made, ofRow, sumOf, costsWhere, total, inside, sum, Sum, calls, work, Spans, local, onSpan}
-use Rattle.trace.specs.Tree.{Body, done, spend, sync, call, spawn, linesOf, size, Within, Parts, workOf, spanOf, localOf, madeSum, callsIn, workIn, spansIn, localIn}
-use Rattle.trace.specs.Fold.{block, after, plan}
-use Rattle.trace.proofs.Basics.{cond-same}
+use Rattle.trace.specs.Tree.{Way, opening, Leaf, spend, sync, lineOf, leafWork, Body, done, leaf, child, linesOf, size, Within, Parts, workOf, spanOf, localOf, madeSum, callsIn, workIn, spansIn, localIn}
+use Rattle.trace.specs.Fold.{costAt, plan}
+use Rattle.trace.proofs.Basics.{cond-same, cond-add}
+use Rattle.trace.proofs.Tree.{leaf-step, opening-step, opening-makes, leaf-value, opening-value}
+use Rattle.trace.proofs.Apart.{costs-two}
 use Rattle.trace.proofs.Sums.{not-made, makesAt, has-made, sum-made, sum-zero, sum-add, sum-same}
 use Rattle.trace.proofs.Context.{Ctx, at-is}
-use Rattle.trace.proofs.Invocations.{ctx-step, ctx-in, ctx-skip, root-ctx, heads-open, whole, row-sum}
+use Rattle.trace.proofs.Invocations.{ctx-leaf, ctx-child, ctx-skip, root-ctx, heads-open, whole, row-sum}
 use Rattle.trace.proofs.Stretches.{sum-append, all-costs, heads-sum, span-is, inside-is}
 
 -- ── columns 1, 2 and 3 ──
@@ -59,15 +60,14 @@ where-same : (w v : CostLine → Bool) → ((x : CostLine) → w x ≡ v x) → 
 where-same w v h [] = refl
 where-same w v h (x ∷ l) = omega (arith, ap (λ (b : Bool). cond b (x .value) 0) (h x), where-same w v h l)
 
--- a call or spawn: its body's costs, and the rest's
-pub where-two : (w : CostLine → Bool) (n s i : ℕ) (g r : Body) → sumWhere w (costs (plan n s (call i g r))) ≡ sumWhere w (costs (plan (suc n) i g)) + sumWhere w (costs (plan (suc n + size g) s r))
-where-two w n s i g r =
-    omega (
-      arith,
-      where-append w (costs (plan (suc n) i g) ++ costs (block (suc n + size g) s r)) (costs (after (suc n + size g) s r)),
-      where-append w (costs (plan (suc n) i g)) (costs (block (suc n + size g) s r)),
-      where-append w (costs (block (suc n + size g) s r)) (costs (after (suc n + size g) s r)),
-    )
+-- a leaf line and the rest; a child's costs and the rest's
+pub where-leaf : (w : CostLine → Bool) (l : Leaf) (n s : ℕ) (r : Body) → sumWhere w (costs (plan n s (leaf l r))) ≡ cond (w (costAt n s (leafWork l))) (leafWork l) 0 + sumWhere w (costs (plan (suc n) s r))
+where-leaf w (spend v) n s r = refl
+where-leaf w sync n s r = omega (arith, cond-same (w (costAt n s 0)))
+
+pub where-two : (w : CostLine → Bool) (m : Way) (n s i : ℕ) (g r : Body) → sumWhere w (costs (plan n s (child m i g r))) ≡ sumWhere w (costs (plan (suc n) i g)) + sumWhere w (costs (plan (suc n + size g) s r))
+where-two w m n s i g r =
+    ap (sumWhere w) (costs-two m n s i g r) ∙ where-append w (costs (plan (suc n) i g)) (costs (plan (suc n + size g) s r))
 
 -- the invocation c is one of row r, once, and of no other row
 abbrev Known : List Frame → ℕ → ℕ → Type 0
@@ -78,22 +78,19 @@ known-root t zero v b = omega (arith, ap (λ (x : Bool). cond (x && b) v 0) (eq-
 known-root t (suc s) v b =
     sum-made 0 t (suc s) root v b ∙ ap (λ (x : Bool). cond (x && b) v 0) (not-made 0 t (suc s) root (omega arith)) ∙ sym (ap (λ (x : Bool). cond (x && b) v 0) (ne-eqb 0 (suc s) (λ q. omega arith)))
 
-makes-at : (t : List Frame) (k i s : ℕ) → Is t k (Call i) ⊎ Is t k (Spawn i) → makesAt t k s ≡ eqb i s
-makes-at [] k i s (inl h) = absurd h
-makes-at [] k i s (inr h) = absurd h
-makes-at (e ∷ t) zero i s (inl h) = ap (makes s) h
-makes-at (e ∷ t) zero i s (inr h) = ap (makes s) h
-makes-at (e ∷ t) (suc k) i s (inl h) = makes-at t k i s (inl h)
-makes-at (e ∷ t) (suc k) i s (inr h) = makes-at t k i s (inr h)
+makes-at : (t : List Frame) (k i s : ℕ) (w : Way) → Is t k (opening w i) → makesAt t k s ≡ eqb i s
+makes-at [] k i s w h = absurd h
+makes-at (e ∷ t) zero i s w h = ap (makes s) h ∙ opening-makes (λ j. eqb j s) false w i
+makes-at (e ∷ t) (suc k) i s w h = makes-at t k i s w h
 
-known-made : (t : List Frame) (n i : ℕ) → 1 ≤ i → Is t n (Call i) ⊎ Is t n (Spawn i) → Known t (suc n) i
-known-made t n i l h zero v b =
+known-made : (t : List Frame) (n i : ℕ) (w : Way) → 1 ≤ i → Is t n (opening w i) → Known t (suc n) i
+known-made t n i w l h zero v b =
     let a : cond (eqb root (suc n) && b) v 0 ≡ 0 = ap (λ (x : Bool). cond (x && b) v 0) (ne-eqb root (suc n) (λ q. omega arith)) in
     let z : cond (eqb i 0 && b) v 0 ≡ 0 = ap (λ (x : Bool). cond (x && b) v 0) (ne-eqb i 0 (λ q. omega arith)) in
     omega arith
-known-made t n i l h (suc s) v b =
+known-made t n i w l h (suc s) v b =
     let q : suc n ≡ suc (0 + n) = omega arith in
-    let e : has (suc n) (made 0 t (suc s)) ≡ eqb i (suc s) = ap (λ (c : ℕ). has c (made 0 t (suc s))) q ∙ has-made 0 t n (suc s) ∙ makes-at t n i (suc s) h in
+    let e : has (suc n) (made 0 t (suc s)) ≡ eqb i (suc s) = ap (λ (c : ℕ). has c (made 0 t (suc s))) q ∙ has-made 0 t n (suc s) ∙ makes-at t n i (suc s) w h in
     sum-made 0 t (suc s) (suc n) v b ∙ ap (λ (x : Bool). cond (x && b) v 0) e
 
 -- line n of the trace is the first of the context's lines
@@ -134,52 +131,31 @@ module _ (t : List Frame) (s : ℕ) (q : ℕ → Bool) (pick : ℕ → ℕ → L
   abbrev Picks : Body → Type 0
   Picks b = (m D d n c r : ℕ) (o : List ℕ) (u : List Frame) → Within m D d b → Known t c r → Ctx t n (c ∷ o) (linesOf b ++ u) → inRow n (c ∷ o) (linesOf b ++ u) ≡ sumWhere picked (costs (plan n r b)) + inRow (n + size b) o u
 
-  picks-two : (i : ℕ) (g b : Body) → Picks g → Picks b → (m D d n c r : ℕ) (o : List ℕ) (u : List Frame) → 1 ≤ i → Within m D (suc d) g → Within m D d b → Known t c r
-      → Is t n (Call i) ⊎ Is t n (Spawn i) → Ctx t (suc n) (suc n ∷ c ∷ o) ((linesOf g ++ linesOf b) ++ u)
-      → inRow (suc n) (suc n ∷ c ∷ o) ((linesOf g ++ linesOf b) ++ u) ≡ sumWhere picked (costs (plan n r (call i g b))) + inRow (n + suc (size g + size b)) o u
-  picks-two i g b f f′ m D d n c r o u l wg wb kn at x =
-      let y = ctx-in t n c o g b u x in
-      omega (
-        arith,
-        ap (inRow (suc n) (suc n ∷ c ∷ o)) (append-assoc (linesOf g) (linesOf b) u),
-        f m D (suc d) (suc n) (suc n) i (c ∷ o) (linesOf b ++ u) wg (known-made t n i l at) y,
-        f′ m D d (suc n + size g) c r o u wb kn (ctx-skip t g (suc n) (suc n) (c ∷ o) (linesOf b ++ u) y),
-        where-two picked n r i g b,
-        move (suc n + size g + size b) (n + suc (size g + size b)) o u (omega arith),
-      )
-
   picks : (b : Body) → Picks b
   picks done m D d n c r o u w kn x = omega (arith, line n c r o Return u kn, cond-same (eqb r s && q n), move (suc n) (n + 1) o u (omega arith))
-  picks (spend v b) m D d n c r o u w kn x =
+  picks (leaf l b) m D d n c r o u w kn x =
       omega (
         arith,
-        line n c r o (Cost v) (linesOf b ++ u) kn,
-        picks b m D d (suc n) c r o u (w .2) kn (ctx-step t n c o (Cost v) (linesOf b ++ u) x),
+        line n c r o (lineOf l) (linesOf b ++ u) kn,
+        ap (λ (v : ℕ). cond (eqb r s && q n) v 0) (leaf-value l),
+        ap (λ (k : List ℕ). inRow (suc n) k (linesOf b ++ u)) (leaf-step l n (c ∷ o)),
+        where-leaf picked l n r b,
+        picks b m D d (suc n) c r o u (w .1) kn (ctx-leaf t n c o l (linesOf b ++ u) x),
         move (suc n + size b) (n + suc (size b)) o u (omega arith),
       )
-  picks (sync b) m D d n c r o u w kn x =
+  picks (child k i g b) m D d n c r o u w kn x =
+      let y = ctx-child t n c o k i g b u x in
       omega (
         arith,
-        line n c r o Sync (linesOf b ++ u) kn,
+        line n c r o (opening k i) ((linesOf g ++ linesOf b) ++ u) kn,
+        ap (λ (v : ℕ). cond (eqb r s && q n) v 0) (opening-value k i),
         cond-same (eqb r s && q n),
-        picks b m D d (suc n) c r o u w kn (ctx-step t n c o Sync (linesOf b ++ u) x),
-        move (suc n + size b) (n + suc (size b)) o u (omega arith),
-      )
-  picks (call i g b) m D d n c r o u w kn x =
-      omega (
-        arith,
-        line n c r o (Call i) ((linesOf g ++ linesOf b) ++ u) kn,
-        cond-same (eqb r s && q n),
-        picks-two i g b (picks g) (picks b) m D d n c r o u (w .0) (w .3) (w .4) kn (inl (first-is t n (c ∷ o) (Call i) ((linesOf g ++ linesOf b) ++ u) x))
-            (ctx-step t n c o (Call i) ((linesOf g ++ linesOf b) ++ u) x),
-      )
-  picks (spawn i g b) m D d n c r o u w kn x =
-      omega (
-        arith,
-        line n c r o (Spawn i) ((linesOf g ++ linesOf b) ++ u) kn,
-        cond-same (eqb r s && q n),
-        picks-two i g b (picks g) (picks b) m D d n c r o u (w .0) (w .3) (w .4) kn (inr (first-is t n (c ∷ o) (Spawn i) ((linesOf g ++ linesOf b) ++ u) x))
-            (ctx-step t n c o (Spawn i) ((linesOf g ++ linesOf b) ++ u) x),
+        ap (λ (z : List ℕ). inRow (suc n) z ((linesOf g ++ linesOf b) ++ u)) (opening-step k i n (c ∷ o)),
+        ap (inRow (suc n) (suc n ∷ c ∷ o)) (append-assoc (linesOf g) (linesOf b) u),
+        picks g m D (suc d) (suc n) (suc n) i (c ∷ o) (linesOf b ++ u) (w .3) (known-made t n i k (w .0) (first-is t n (c ∷ o) (opening k i) ((linesOf g ++ linesOf b) ++ u) x)) y,
+        picks b m D d (suc n + size g) c r o u (w .4) kn (ctx-skip t g (suc n) (suc n) (c ∷ o) (linesOf b ++ u) y),
+        where-two picked k n r i g b,
+        move (suc n + size g + size b) (n + suc (size g + size b)) o u (omega arith),
       )
 
   pub column : (D : ℕ) (x : Parts D t) → sum (λ F. costsWhere t (pick F)) (ofRow t s) ≡ sumWhere picked (costs (plan (length (x .heads)) 0 (x .body)))
@@ -196,23 +172,14 @@ module _ (t : List Frame) (s : ℕ) (q : ℕ → Bool) (pick : ℕ → ℕ → L
 -- the costs of a plan that stand in row s: those directly in the body, where that is its row, and those of the invocations made from s
 row-costs : (s : ℕ) (b : Body) (n r : ℕ) → sumWhere (λ x. eqb (x .row) s) (costs (plan n r b)) ≡ cond (eqb r s) (localOf b) 0 + madeSum localOf s b
 row-costs s done n r = omega (arith, cond-same (eqb r s))
-row-costs s (spend v b) n r = omega (arith, cond-add (eqb r s) v (localOf b), row-costs s b (suc n) r)
-  where
-    cond-add : (b : Bool) (x y : ℕ) → cond b (x + y) 0 ≡ cond b x 0 + cond b y 0
-    cond-add true x y = refl
-    cond-add false x y = refl
-row-costs s (sync b) n r = row-costs s b (suc n) r
-row-costs s (call i g b) n r = omega (arith, where-two (λ x. eqb (x .row) s) n r i g b, row-costs s g (suc n) i, row-costs s b (suc n + size g) r)
-row-costs s (spawn i g b) n r = omega (arith, where-two (λ x. eqb (x .row) s) n r i g b, row-costs s g (suc n) i, row-costs s b (suc n + size g) r)
+row-costs s (leaf l b) n r = omega (arith, where-leaf (λ x. eqb (x .row) s) l n r b, cond-add (eqb r s) (leafWork l) (localOf b), row-costs s b (suc n) r)
+row-costs s (child m i g b) n r = omega (arith, where-two (λ x. eqb (x .row) s) m n r i g b, row-costs s g (suc n) i, row-costs s b (suc n + size g) r)
 
 -- no site is 0
-none-from-root : (h : Body → ℕ) (m D d : ℕ) (b : Body) → Within m D d b → madeSum h 0 b ≡ 0
+pub none-from-root : (h : Body → ℕ) (m D d : ℕ) (b : Body) → Within m D d b → madeSum h 0 b ≡ 0
 none-from-root h m D d done w = refl
-none-from-root h m D d (spend v r) w = none-from-root h m D d r (w .2)
-none-from-root h m D d (sync r) w = none-from-root h m D d r w
-none-from-root h m D d (call i g r) w =
-    omega (arith, ap (λ (b : Bool). cond b (h g) 0) (ne-eqb i 0 (λ q. omega (arith, w .0))), none-from-root h m D (suc d) g (w .3), none-from-root h m D d r (w .4))
-none-from-root h m D d (spawn i g r) w =
+none-from-root h m D d (leaf l r) w = none-from-root h m D d r (w .1)
+none-from-root h m D d (child k i g r) w =
     omega (arith, ap (λ (b : Bool). cond b (h g) 0) (ne-eqb i 0 (λ q. omega (arith, w .0))), none-from-root h m D (suc d) g (w .3), none-from-root h m D d r (w .4))
 
 module _ (D : ℕ) (t : List Frame) (p : Parts D t) where

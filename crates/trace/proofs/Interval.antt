@@ -8,15 +8,15 @@ use native.Mathlib.Nat.{le-dest}
 use lib.ListN.{length, length-append}
 use lib.Dec.{T}
 use Rattle.line.specs.declared.Frame.{Frame}
-use Rattle.line.specs.declared.Frame.the-variants.{Call, Spawn, Sync, Return, Cost}
+use Rattle.line.specs.declared.Frame.the-variants.{Return}
 use Rattle.trace.specs.Shape.{Is, closed, step, walk, openAt, has, firstIs, Contains, Directly, Returns}
-use Rattle.trace.specs.Tree.{Body, done, spend, sync, call, spawn, linesOf, size}
+use Rattle.trace.specs.Tree.{Body, done, leaf, child, linesOf, size}
 use Rattle.trace.proofs.Basics.{below}
 use Rattle.trace.proofs.Tree.{size-is}
 use Rattle.trace.proofs.Open.{first-has, first-of, first-eq, Below, Low, below-not}
 use Rattle.trace.proofs.Context.{Ctx, at-open, low-walk}
 use Rattle.trace.proofs.Chains.{is-length, inside, within}
-use Rattle.trace.proofs.Invocations.{ctx-step, ctx-in, ctx-skip, Inv}
+use Rattle.trace.proofs.Invocations.{ctx-leaf, ctx-child, ctx-skip, Inv}
 use Rattle.trace.proofs.Stretches.{starts}
 use Rattle.trace.proofs.Columns.{first-is}
 
@@ -35,14 +35,8 @@ last-line : (t : List Frame) (b : Body) (n c : ℕ) (o : List ℕ) (u : List Fra
 last-line t done n c o u x r e =
     let q : n ≡ r = omega arith in
     subst (Returns t c) q (record { is = first-is t n (c ∷ o) Return u x; its-own = first-in t n c o (Return ∷ u) x })
-last-line t (spend v b) n c o u x r e = last-line t b (suc n) c o u (ctx-step t n c o (Cost v) (linesOf b ++ u) x) r (omega arith)
-last-line t (sync b) n c o u x r e = last-line t b (suc n) c o u (ctx-step t n c o Sync (linesOf b ++ u) x) r (omega arith)
-last-line t (call s a b) n c o u x r e =
-    let y = ctx-in t n c o a b u (ctx-step t n c o (Call s) ((linesOf a ++ linesOf b) ++ u) x) in
-    last-line t b (suc n + size a) c o u (ctx-skip t a (suc n) (suc n) (c ∷ o) (linesOf b ++ u) y) r (omega arith)
-last-line t (spawn s a b) n c o u x r e =
-    let y = ctx-in t n c o a b u (ctx-step t n c o (Spawn s) ((linesOf a ++ linesOf b) ++ u) x) in
-    last-line t b (suc n + size a) c o u (ctx-skip t a (suc n) (suc n) (c ∷ o) (linesOf b ++ u) y) r (omega arith)
+last-line t (leaf l b) n c o u x r e = last-line t b (suc n) c o u (ctx-leaf t n c o l (linesOf b ++ u) x) r (omega arith)
+last-line t (child w s a b) n c o u x r e = last-line t b (suc n + size a) c o u (ctx-skip t a (suc n) (suc n) (c ∷ o) (linesOf b ++ u) (ctx-child t n c o w s a b u x)) r (omega arith)
 
 -- what is open one line further
 open-suc : (n : ℕ) (o : List ℕ) (u : List Frame) (k : ℕ) (e : Frame) → Is u k e → walk n o u (suc k) ≡ step (n + k) e (walk n o u k)

@@ -1,6 +1,6 @@
 -- Every invocation of a trace has a body and stands in its context; and sums over the invocations of a row, by the tree.
 use mathlib.Core.Path.{_≡_, refl, sym, _∙_, ap, subst}
-use mathlib.Core.Logic.{_⊎_, inl, inr}
+use mathlib.Core.Logic.{inl, inr}
 use mathlib.Core.Bool.{Bool, true, false, cond}
 use mathlib.Core.List.{List, [], _∷_, _++_, append-assoc, append-nil}
 use Prim.Native.Nat.{ℕ, zero, suc, _+_, _<_}
@@ -12,9 +12,9 @@ use Rattle.line.specs.declared.Frame.{Frame}
 use Rattle.line.specs.declared.Frame.the-variants.{Site, Call, Spawn, Sync, Return, Cost}
 use Rattle.trace.specs.Shape.{Is, root, step, walk, openAt, has, sites}
 use Rattle.trace.specs.Rows.{made, ofRow, Sum}
-use Rattle.trace.specs.Tree.{Body, done, spend, sync, call, spawn, linesOf, size, AllSites, Parts, madeSum, rowSum}
-use Rattle.trace.proofs.Basics.{below, clash}
-use Rattle.trace.proofs.Tree.{IsSite, size-is, no-sites-lines}
+use Rattle.trace.specs.Tree.{Way, opening, Leaf, lineOf, Body, done, leaf, child, linesOf, size, AllSites, Parts, madeSum, rowSum}
+use Rattle.trace.proofs.Basics.{below}
+use Rattle.trace.proofs.Tree.{IsSite, site-or-not, opening-not-site, size-is, no-sites-lines, leaf-step, opening-step, leaf-makes, opening-makes, return-not-opening, leaf-not-opening}
 use Rattle.trace.proofs.Scan.{now}
 use Rattle.trace.proofs.Sites.{sites-append, sites-all, sites-none}
 use Rattle.trace.proofs.Recurrence.{Paid, paid}
@@ -26,20 +26,18 @@ use Rattle.trace.proofs.Chains.{is-left}
 
 alive : (b : Body) (n c : ℕ) (o : List ℕ) (u : List Frame) → Alive (n + size b) o u → Alive n (c ∷ o) (linesOf b ++ u)
 alive done n c o u h = let e : n + 1 ≡ suc n = omega arith in subst (λ (k : ℕ). Alive k o u) e h
-alive (spend v r) n c o u h = let e : n + suc (size r) ≡ suc n + size r = omega arith in alive r (suc n) c o u (subst (λ (k : ℕ). Alive k o u) e h)
-alive (sync r) n c o u h = let e : n + suc (size r) ≡ suc n + size r = omega arith in alive r (suc n) c o u (subst (λ (k : ℕ). Alive k o u) e h)
-alive (call s g r) n c o u h =
+alive (leaf l r) n c o u h =
+    let e : n + suc (size r) ≡ suc n + size r = omega arith in
+    subst (λ (x : List ℕ). Alive (suc n) x (linesOf r ++ u)) (sym (leaf-step l n (c ∷ o))) (alive r (suc n) c o u (subst (λ (k : ℕ). Alive k o u) e h))
+alive (child w s g r) n c o u h =
     let e : n + suc (size g + size r) ≡ suc n + size g + size r = omega arith in
-    subst (Alive (suc n) (suc n ∷ c ∷ o)) (sym (append-assoc (linesOf g) (linesOf r) u))
-    (alive g (suc n) (suc n) (c ∷ o) (linesOf r ++ u) (alive r (suc n + size g) c o u (subst (λ (k : ℕ). Alive k o u) e h)))
-alive (spawn s g r) n c o u h =
-    let e : n + suc (size g + size r) ≡ suc n + size g + size r = omega arith in
-    subst (Alive (suc n) (suc n ∷ c ∷ o)) (sym (append-assoc (linesOf g) (linesOf r) u))
-    (alive g (suc n) (suc n) (c ∷ o) (linesOf r ++ u) (alive r (suc n + size g) c o u (subst (λ (k : ℕ). Alive k o u) e h)))
+    subst (λ (x : List ℕ). Alive (suc n) x ((linesOf g ++ linesOf r) ++ u)) (sym (opening-step w s n (c ∷ o)))
+    (subst (Alive (suc n) (suc n ∷ c ∷ o)) (sym (append-assoc (linesOf g) (linesOf r) u))
+    (alive g (suc n) (suc n) (c ∷ o) (linesOf r ++ u) (alive r (suc n + size g) c o u (subst (λ (k : ℕ). Alive k o u) e h))))
 
 module _ (t : List Frame) where
   -- one line further
-  pub ctx-step : (n c : ℕ) (o : List ℕ) (e : Frame) (v : List Frame) → Ctx t n (c ∷ o) (e ∷ v) → Ctx t (suc n) (step n e (c ∷ o)) v
+  ctx-step : (n c : ℕ) (o : List ℕ) (e : Frame) (v : List Frame) → Ctx t n (c ∷ o) (e ∷ v) → Ctx t (suc n) (step n e (c ∷ o)) v
   ctx-step n c o e v x =
       record {
         pre = x .pre ++ e ∷ [];
@@ -50,27 +48,25 @@ module _ (t : List Frame) where
         alive = x .alive;
       }
 
-  -- into the body of a call or spawn
-  pub ctx-in : (n c : ℕ) (o : List ℕ) (g r : Body) (u : List Frame) → Ctx t (suc n) (suc n ∷ c ∷ o) ((linesOf g ++ linesOf r) ++ u) → Ctx t (suc n) (suc n ∷ c ∷ o) (linesOf g ++ (linesOf r ++ u))
-  ctx-in n c o g r u x = subst (Ctx t (suc n) (suc n ∷ c ∷ o)) (append-assoc (linesOf g) (linesOf r) u) x
+  -- behind a leaf line
+  pub ctx-leaf : (n c : ℕ) (o : List ℕ) (l : Leaf) (v : List Frame) → Ctx t n (c ∷ o) (lineOf l ∷ v) → Ctx t (suc n) (c ∷ o) v
+  ctx-leaf n c o l v x = subst (λ (k : List ℕ). Ctx t (suc n) k v) (leaf-step l n (c ∷ o)) (ctx-step n c o (lineOf l) v x)
+
+  -- into the body of a child
+  pub ctx-child : (n c : ℕ) (o : List ℕ) (w : Way) (s : ℕ) (g r : Body) (u : List Frame) → Ctx t n (c ∷ o) (linesOf (child w s g r) ++ u) → Ctx t (suc n) (suc n ∷ c ∷ o) (linesOf g ++ (linesOf r ++ u))
+  ctx-child n c o w s g r u x =
+      subst (Ctx t (suc n) (suc n ∷ c ∷ o)) (append-assoc (linesOf g) (linesOf r) u)
+      (subst (λ (k : List ℕ). Ctx t (suc n) k ((linesOf g ++ linesOf r) ++ u)) (opening-step w s n (c ∷ o)) (ctx-step n c o (opening w s) ((linesOf g ++ linesOf r) ++ u) x))
 
   -- a whole body further
   pub ctx-skip : (b : Body) (n c : ℕ) (o : List ℕ) (u : List Frame) → Ctx t n (c ∷ o) (linesOf b ++ u) → Ctx t (n + size b) o u
   ctx-skip done n c o u x = let e : suc n ≡ n + 1 = omega arith in subst (λ (k : ℕ). Ctx t k o u) e (ctx-step n c o Return u x)
-  ctx-skip (spend v r) n c o u x =
+  ctx-skip (leaf l r) n c o u x =
       let e : suc n + size r ≡ n + suc (size r) = omega arith in
-      subst (λ (k : ℕ). Ctx t k o u) e (ctx-skip r (suc n) c o u (ctx-step n c o (Cost v) (linesOf r ++ u) x))
-  ctx-skip (sync r) n c o u x =
-      let e : suc n + size r ≡ n + suc (size r) = omega arith in
-      subst (λ (k : ℕ). Ctx t k o u) e (ctx-skip r (suc n) c o u (ctx-step n c o Sync (linesOf r ++ u) x))
-  ctx-skip (call s g r) n c o u x =
+      subst (λ (k : ℕ). Ctx t k o u) e (ctx-skip r (suc n) c o u (ctx-leaf n c o l (linesOf r ++ u) x))
+  ctx-skip (child w s g r) n c o u x =
       let e : suc n + size g + size r ≡ n + suc (size g + size r) = omega arith in
-      let y = ctx-in n c o g r u (ctx-step n c o (Call s) ((linesOf g ++ linesOf r) ++ u) x) in
-      subst (λ (k : ℕ). Ctx t k o u) e (ctx-skip r (suc n + size g) c o u (ctx-skip g (suc n) (suc n) (c ∷ o) (linesOf r ++ u) y))
-  ctx-skip (spawn s g r) n c o u x =
-      let e : suc n + size g + size r ≡ n + suc (size g + size r) = omega arith in
-      let y = ctx-in n c o g r u (ctx-step n c o (Spawn s) ((linesOf g ++ linesOf r) ++ u) x) in
-      subst (λ (k : ℕ). Ctx t k o u) e (ctx-skip r (suc n + size g) c o u (ctx-skip g (suc n) (suc n) (c ∷ o) (linesOf r ++ u) y))
+      subst (λ (k : ℕ). Ctx t k o u) e (ctx-skip r (suc n + size g) c o u (ctx-skip g (suc n) (suc n) (c ∷ o) (linesOf r ++ u) (ctx-child n c o w s g r u x)))
 
 -- ── invocations ──
 
@@ -134,7 +130,7 @@ module _ (D : ℕ) (t : List Frame) (p : Parts D t) where
 -- ── the invocation that a line opens ──
 
 abbrev Makes : List Frame → ℕ → ℕ → Type 0
-Makes u k i = Is u k (Call i) ⊎ Is u k (Spawn i)
+Makes u k i = (w : Way) × Is u k (opening w i)
 
 module _ (t : List Frame) where
   abbrev Opens : Body → Type 0
@@ -146,67 +142,34 @@ module _ (t : List Frame) where
   opens-two : (g r : Body) → Opens g → Opens r → (n c : ℕ) (o : List ℕ) (u : List Frame) → Ctx t (suc n) (suc n ∷ c ∷ o) (linesOf g ++ (linesOf r ++ u)) → Paid g → Paid r
       → (k i : ℕ) → Makes (linesOf g ++ linesOf r) k i → (b : Body) × Inv t (suc (n + suc k)) (suc (n + suc k)) b
   opens-two g r f f′ n c o u x pg pr k i h = elim (below (size g) k) [
-    | inl l ↦ found-at (suc n + k) (n + suc k) (omega arith) (f (suc n) (suc n) (c ∷ o) (linesOf r ++ u) x pg k i (left l h))
-    | inr w ↦ found-at (suc n + size g + w .0) (n + suc k) (omega (arith, w .1)) (f′ (suc n + size g) c o u (ctx-skip t g (suc n) (suc n) (c ∷ o) (linesOf r ++ u) x) pr (w .0) i (right w h))
+    | inl l ↦ found-at (suc n + k) (n + suc k) (omega arith) (f (suc n) (suc n) (c ∷ o) (linesOf r ++ u) x pg k i (h .0, is-left (linesOf g) (linesOf r) k (opening (h .0) i) (omega (arith, size-is g)) (h .1)))
+    | inr w ↦ found-at (suc n + size g + w .0) (n + suc k) (omega (arith, w .1)) (f′ (suc n + size g) c o u (ctx-skip t g (suc n) (suc n) (c ∷ o) (linesOf r ++ u) x) pr (w .0) i (h .0, right w))
   ]
     where
-      left : k < size g → Makes (linesOf g ++ linesOf r) k i → Makes (linesOf g) k i
-      left l (inl a) = inl (is-left (linesOf g) (linesOf r) k (Call i) (omega (arith, size-is g)) a)
-      left l (inr a) = inr (is-left (linesOf g) (linesOf r) k (Spawn i) (omega (arith, size-is g)) a)
-
-      shift : (f : Frame) (w : (j : ℕ) × (k ≡ size g + j)) → Is (linesOf g ++ linesOf r) k f → Is (linesOf r) (w .0) f
-      shift f w a =
+      right : (w : (j : ℕ) × (k ≡ size g + j)) → Is (linesOf r) (w .0) (opening (h .0) i)
+      right w =
           let e : k ≡ length (linesOf g) + w .0 = omega (arith, w .1, size-is g) in
-          subst (λ (A : Type 0). A) (is-append (linesOf g) (linesOf r) (w .0) f) (subst (λ (j : ℕ). Is (linesOf g ++ linesOf r) j f) e a)
-
-      right : (w : (j : ℕ) × (k ≡ size g + j)) → Makes (linesOf g ++ linesOf r) k i → Makes (linesOf r) (w .0) i
-      right w (inl a) = inl (shift (Call i) w a)
-      right w (inr a) = inr (shift (Spawn i) w a)
-
-  opens-later : (e : Frame) (n c : ℕ) (o : List ℕ) (r : Body) (u : List Frame) → Opens r → step n e (c ∷ o) ≡ c ∷ o → Ctx t n (c ∷ o) (e ∷ (linesOf r ++ u)) → Paid r
-      → (k i : ℕ) → Makes (linesOf r) k i → (g : Body) × Inv t (suc (n + suc k)) (suc (n + suc k)) g
-  opens-later e n c o r u f s x h k i m =
-      found-at (suc n + k) (n + suc k) (omega arith) (f (suc n) c o u (subst (λ (l : List ℕ). Ctx t (suc n) l (linesOf r ++ u)) s (ctx-step t n c o e (linesOf r ++ u) x)) h k i m)
+          subst (λ (A : Type 0). A) (is-append (linesOf g) (linesOf r) (w .0) (opening (h .0) i)) (subst (λ (j : ℕ). Is (linesOf g ++ linesOf r) j (opening (h .0) i)) e (h .1))
 
   opens : (b : Body) → Opens b
-  opens done n c o u x h zero i (inl m) = clash (cc)
-  opens done n c o u x h zero i (inr m) = clash (cc)
-  opens done n c o u x h (suc k) i (inl m) = absurd m
-  opens done n c o u x h (suc k) i (inr m) = absurd m
-  opens (spend v r) n c o u x h zero i (inl m) = clash (cc)
-  opens (spend v r) n c o u x h zero i (inr m) = clash (cc)
-  opens (spend v r) n c o u x h (suc k) i m = opens-later (Cost v) n c o r u (opens r) refl x (h .1) k i m
-  opens (sync r) n c o u x h zero i (inl m) = clash (cc)
-  opens (sync r) n c o u x h zero i (inr m) = clash (cc)
-  opens (sync r) n c o u x h (suc k) i m = opens-later Sync n c o r u (opens r) refl x h k i m
-  opens (call s g r) n c o u x h zero i m =
-      found-at n (n + 0) (omega arith) (g, inner t n (c ∷ o) g (linesOf r ++ u) (ctx-in t n c o g r u (ctx-step t n c o (Call s) ((linesOf g ++ linesOf r) ++ u) x)) (h .0))
-  opens (call s g r) n c o u x h (suc k) i m =
-      opens-two g r (opens g) (opens r) n c o u (ctx-in t n c o g r u (ctx-step t n c o (Call s) ((linesOf g ++ linesOf r) ++ u) x)) (h .0) (h .1) k i m
-  opens (spawn s g r) n c o u x h zero i m =
-      found-at n (n + 0) (omega arith) (g, inner t n (c ∷ o) g (linesOf r ++ u) (ctx-in t n c o g r u (ctx-step t n c o (Spawn s) ((linesOf g ++ linesOf r) ++ u) x)) (h .0))
-  opens (spawn s g r) n c o u x h (suc k) i m =
-      opens-two g r (opens g) (opens r) n c o u (ctx-in t n c o g r u (ctx-step t n c o (Spawn s) ((linesOf g ++ linesOf r) ++ u) x)) (h .0) (h .1) k i m
+  opens done n c o u x h zero i m = return-not-opening (m .0) i (m .1)
+  opens done n c o u x h (suc k) i m = absurd (m .1)
+  opens (leaf l r) n c o u x h zero i m = leaf-not-opening l (m .0) i (m .1)
+  opens (leaf l r) n c o u x h (suc k) i m = found-at (suc n + k) (n + suc k) (omega arith) (opens r (suc n) c o u (ctx-leaf t n c o l (linesOf r ++ u) x) (h .1) k i m)
+  opens (child w s g r) n c o u x h zero i m = found-at n (n + 0) (omega arith) (g, inner t n (c ∷ o) g (linesOf r ++ u) (ctx-child t n c o w s g r u x) (h .0))
+  opens (child w s g r) n c o u x h (suc k) i m = opens-two g r (opens g) (opens r) n c o u (ctx-child t n c o w s g r u x) (h .0) (h .1) k i m
 
 -- LAW: every call or spawn line opens an invocation with a body
 pub made-inv : (D : ℕ) (t : List Frame) → Parts D t → (k i : ℕ) → Makes t k i → (g : Body) × Inv t (suc k) (suc k) g
 made-inv D t p k i m = elim (below (length (p .heads)) k) [
-  | inl l ↦ absurd (early l m)
-  | inr w ↦ found-at t (length (p .heads) + w .0) k (sym (w .1)) (opens t (p .body) (length (p .heads)) root [] [] (root-ctx D t p) (root-paid D t p) (w .0) i (late w m))
+  | inl l ↦ absurd (site-or-not (opening (m .0) i) (before-body D t p k (opening (m .0) i) l (m .1)) (opening-not-site (m .0) i))
+  | inr w ↦ found-at t (length (p .heads) + w .0) k (sym (w .1)) (opens t (p .body) (length (p .heads)) root [] [] (root-ctx D t p) (root-paid D t p) (w .0) i (m .0, late w))
 ]
   where
-    early : k < length (p .heads) → Makes t k i → ⊥
-    early l (inl a) = before-body D t p k (Call i) l a
-    early l (inr a) = before-body D t p k (Spawn i) l a
-
-    shift : (f : Frame) (w : (j : ℕ) × (k ≡ length (p .heads) + j)) → Is t k f → Is (linesOf (p .body)) (w .0) f
-    shift f w a =
-        subst (λ (A : Type 0). A) (is-append (p .heads) (linesOf (p .body)) (w .0) f)
-        (subst (λ (j : ℕ). Is (p .heads ++ linesOf (p .body)) j f) (w .1) (subst (λ (z : List Frame). Is z k f) (p .lines) a))
-
-    late : (w : (j : ℕ) × (k ≡ length (p .heads) + j)) → Makes t k i → Makes (linesOf (p .body)) (w .0) i
-    late w (inl a) = inl (shift (Call i) w a)
-    late w (inr a) = inr (shift (Spawn i) w a)
+    late : (w : (j : ℕ) × (k ≡ length (p .heads) + j)) → Is (linesOf (p .body)) (w .0) (opening (m .0) i)
+    late w =
+        subst (λ (A : Type 0). A) (is-append (p .heads) (linesOf (p .body)) (w .0) (opening (m .0) i))
+        (subst (λ (j : ℕ). Is (p .heads ++ linesOf (p .body)) j (opening (m .0) i)) (w .1) (subst (λ (z : List Frame). Is z k (opening (m .0) i)) (p .lines) (m .1)))
 
 -- ── sums over the invocations of a row ──
 
@@ -221,26 +184,29 @@ module _ (t : List Frame) (s : ℕ) (p : ℕ → ℕ → Type 0) (h : Body → �
   one-more true F a q l x y = (a, q, x, y, refl)
   one-more false F a q l x y = let e : q ≡ 0 + q = omega arith in subst (Sum p l) e y
 
-  adds-two : (i : ℕ) (g r : Body) → Adds g → Adds r → (n c : ℕ) (o : List ℕ) (u : List Frame) (q : ℕ) → Paid g → Paid r
-      → Ctx t (suc n) (suc n ∷ c ∷ o) ((linesOf g ++ linesOf r) ++ u) → Sum p (made (n + suc (size g + size r)) u s) q
-      → Sum p (cond (eqb i s) (suc n ∷ made (suc n) ((linesOf g ++ linesOf r) ++ u) s) (made (suc n) ((linesOf g ++ linesOf r) ++ u) s)) (cond (eqb i s) (h g) 0 + (madeSum h s g + madeSum h s r) + q)
-  adds-two i g r f f′ n c o u q pg pr x w =
-      let y = ctx-in t n c o g r u x in
-      let a = f′ (suc n + size g) c o u q pr (ctx-skip t g (suc n) (suc n) (c ∷ o) (linesOf r ++ u) y) (move (n + suc (size g + size r)) (suc n + size g + size r) u q (omega arith) w) in
-      let b = f (suc n) (suc n) (c ∷ o) (linesOf r ++ u) (madeSum h s r + q) pg y a in
-      let d = subst (λ (l : List Frame). Sum p (made (suc n) l s) (madeSum h s g + (madeSum h s r + q))) (sym (append-assoc (linesOf g) (linesOf r) u)) b in
-      let e : cond (eqb i s) (h g) 0 + (madeSum h s g + (madeSum h s r + q)) ≡ cond (eqb i s) (h g) 0 + (madeSum h s g + madeSum h s r) + q = omega arith in
-      subst (Sum p (cond (eqb i s) (suc n ∷ made (suc n) ((linesOf g ++ linesOf r) ++ u) s) (made (suc n) ((linesOf g ++ linesOf r) ++ u) s))) e
-      (one-more (eqb i s) (suc n) (h g) (madeSum h s g + (madeSum h s r + q)) (made (suc n) ((linesOf g ++ linesOf r) ++ u) s) (is (suc n) (suc n) g (inner t n (c ∷ o) g (linesOf r ++ u) y pg)) d)
+  made-leaf : (l : Leaf) (n : ℕ) (u : List Frame) → made n (lineOf l ∷ u) s ≡ made (suc n) u s
+  made-leaf l n u = ap (λ (b : Bool). cond b (suc n ∷ made (suc n) u s) (made (suc n) u s)) (leaf-makes (λ i. eqb i s) false l)
+
+  made-opening : (w : Way) (i n : ℕ) (u : List Frame) → made n (opening w i ∷ u) s ≡ cond (eqb i s) (suc n ∷ made (suc n) u s) (made (suc n) u s)
+  made-opening w i n u = ap (λ (b : Bool). cond b (suc n ∷ made (suc n) u s) (made (suc n) u s)) (opening-makes (λ i. eqb i s) false w i)
 
   adds : (b : Body) → Adds b
-  adds done n c o u q h x w =
+  adds done n c o u q pd x w =
       let e : q ≡ 0 + q = omega arith in
       subst (Sum p (made (suc n) u s)) e (move (n + 1) (suc n) u q (omega arith) w)
-  adds (spend v r) n c o u q h x w = adds r (suc n) c o u q (h .1) (ctx-step t n c o (Cost v) (linesOf r ++ u) x) (move (n + suc (size r)) (suc n + size r) u q (omega arith) w)
-  adds (sync r) n c o u q h x w = adds r (suc n) c o u q h (ctx-step t n c o Sync (linesOf r ++ u) x) (move (n + suc (size r)) (suc n + size r) u q (omega arith) w)
-  adds (call i g r) n c o u q h x w = adds-two i g r (adds g) (adds r) n c o u q (h .0) (h .1) (ctx-step t n c o (Call i) ((linesOf g ++ linesOf r) ++ u) x) w
-  adds (spawn i g r) n c o u q h x w = adds-two i g r (adds g) (adds r) n c o u q (h .0) (h .1) (ctx-step t n c o (Spawn i) ((linesOf g ++ linesOf r) ++ u) x) w
+  adds (leaf l r) n c o u q pd x w =
+      subst (λ (z : List ℕ). Sum p z (madeSum h s r + q)) (sym (made-leaf l n (linesOf r ++ u)))
+      (adds r (suc n) c o u q (pd .1) (ctx-leaf t n c o l (linesOf r ++ u) x) (move (n + suc (size r)) (suc n + size r) u q (omega arith) w))
+  adds (child m i g r) n c o u q pd x w =
+      let y = ctx-child t n c o m i g r u x in
+      let v = (linesOf g ++ linesOf r) ++ u in
+      let a = adds r (suc n + size g) c o u q (pd .1) (ctx-skip t g (suc n) (suc n) (c ∷ o) (linesOf r ++ u) y) (move (n + suc (size g + size r)) (suc n + size g + size r) u q (omega arith) w) in
+      let b = adds g (suc n) (suc n) (c ∷ o) (linesOf r ++ u) (madeSum h s r + q) (pd .0) y a in
+      let d = subst (λ (l : List Frame). Sum p (made (suc n) l s) (madeSum h s g + (madeSum h s r + q))) (sym (append-assoc (linesOf g) (linesOf r) u)) b in
+      let e : cond (eqb i s) (h g) 0 + (madeSum h s g + (madeSum h s r + q)) ≡ cond (eqb i s) (h g) 0 + (madeSum h s g + madeSum h s r) + q = omega arith in
+      subst (λ (z : List ℕ). Sum p z (madeSum h s (child m i g r) + q)) (sym (made-opening m i n v))
+      (subst (Sum p (cond (eqb i s) (suc n ∷ made (suc n) v s) (made (suc n) v s))) e
+      (one-more (eqb i s) (suc n) (h g) (madeSum h s g + (madeSum h s r + q)) (made (suc n) v s) (is (suc n) (suc n) g (inner t n (c ∷ o) g (linesOf r ++ u) y (pd .0))) d))
 
 -- sites make nothing
 pub made-heads : (h u : List Frame) (n s : ℕ) → AllSites h → made n (h ++ u) s ≡ made (n + length h) u s

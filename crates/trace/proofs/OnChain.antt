@@ -11,18 +11,20 @@ use borrow.Author.Tests.{eq-eqb, ne-eqb}
 use Rattle.line.specs.declared.Frame.{Frame}
 use Rattle.chain.specs.Plan.{CostLine, costs, All, Pairs, Less}
 use Rattle.chain.specs.Plan as P
+use Rattle.chain.specs.Over.{linesIn}
 use Rattle.chain.proofs.Lists.{all-map, all-both, all-at, all-append, pairs-map}
 use Rattle.trace.specs.Shape.{root, has, sites}
 use Rattle.trace.specs.Series.{Span, Chosen}
 use Rattle.trace.specs.Rows.{total, local, onSpan}
-use Rattle.trace.specs.Tree.{Body, done, spend, sync, call, spawn, size, Within, Parts, workOf}
-use Rattle.trace.specs.Fold.{block, after, plan, onRow, linesIn}
-use Rattle.trace.proofs.Apart.{plan-ordered}
+use Rattle.trace.specs.Tree.{spend, sync, Body, done, leaf, child, size, Within, Parts, workOf}
+use Rattle.trace.specs.Fold.{block, after, plan, onRow}
+use Rattle.trace.proofs.Basics.{cond-le}
+use Rattle.trace.proofs.Apart.{all-together, plan-ordered}
 use Rattle.trace.proofs.Recurrence.{chain-chosen, weight-chain}
 use Rattle.trace.proofs.Sums.{upTo, up-add, up-same, up-one}
 use Rattle.trace.proofs.Invocations.{sites-are, root-paid}
 use Rattle.trace.proofs.Root.{rootChain, root-span-only, root-chosen-only}
-use Rattle.trace.proofs.Columns.{sumWhere, where-two, local-costs, on-span-costs, total-tree}
+use Rattle.trace.proofs.Columns.{sumWhere, where-leaf, where-two, local-costs, on-span-costs, total-tree}
 
 -- ── the costs of a list that stand on a chain of it are the chain's ──
 
@@ -84,11 +86,7 @@ row-append s (x ∷ c) d = omega (arith, row-append s c d)
 
 pub row-le : (s : ℕ) (c : List CostLine) → onRow s c ≤ P.weight c
 row-le s [] = omega arith
-row-le s (x ∷ c) = omega (arith, row-le s c, go (eqb (x .row) s))
-  where
-    go : (b : Bool) → cond b (x .value) 0 ≤ x .value
-    go true = omega arith
-    go false = omega arith
+row-le s (x ∷ c) = omega (arith, row-le s c, cond-le (eqb (x .row) s) (x .value))
 
 weight-of : (d : List CostLine) → sumWhere (λ x. true) d ≡ P.weight d
 weight-of [] = refl
@@ -96,10 +94,8 @@ weight-of (x ∷ d) = omega (arith, weight-of d)
 
 all-work : (b : Body) (n r : ℕ) → sumWhere (λ x. true) (costs (plan n r b)) ≡ workOf b
 all-work done n r = refl
-all-work (spend v b) n r = omega (arith, all-work b (suc n) r)
-all-work (sync b) n r = all-work b (suc n) r
-all-work (call i g b) n r = omega (arith, where-two (λ x. true) n r i g b, all-work g (suc n) i, all-work b (suc n + size g) r)
-all-work (spawn i g b) n r = omega (arith, where-two (λ x. true) n r i g b, all-work g (suc n) i, all-work b (suc n + size g) r)
+all-work (leaf l b) n r = omega (arith, where-leaf (λ x. true) l n r b, all-work b (suc n) r)
+all-work (child w i g b) n r = omega (arith, where-two (λ x. true) w n r i g b, all-work g (suc n) i, all-work b (suc n + size g) r)
 
 module _ (D : ℕ) (t : List Frame) (p : Parts D t) where
   abbrev all : List CostLine
@@ -122,16 +118,12 @@ Row-to m x = x .row ≤ m
 -- every cost's row is its invocation's, and so one of 0 to m
 rows-within : (m D d : ℕ) (b : Body) (n r : ℕ) → r ≤ m → Within m D d b → All (Row-to m) (costs (block n r b)) × All (Row-to m) (costs (after n r b))
 rows-within m D d done n r l w = (tt, tt)
-rows-within m D d (spend v b) n r l w = let k = rows-within m D d b (suc n) r l (w .2) in ((l, k .0), k .1)
-rows-within m D d (sync b) n r l w = let k = rows-within m D d b (suc n) r l w in (tt, all-append (Row-to m) (costs (block (suc n) r b)) (costs (after (suc n) r b)) (k .0) (k .1))
-rows-within m D d (call i g b) n r l w =
+rows-within m D d (leaf (spend v) b) n r l w = let k = rows-within m D d b (suc n) r l (w .1) in ((l, k .0), k .1)
+rows-within m D d (leaf sync b) n r l w = let k = rows-within m D d b (suc n) r l (w .1) in (tt, all-append (Row-to m) (costs (block (suc n) r b)) (costs (after (suc n) r b)) (k .0) (k .1))
+rows-within m D d (child v i g b) n r l w =
     let h = rows-within m D (suc d) g (suc n) i (w .1) (w .3) in
     let k = rows-within m D d b (suc n + size g) r l (w .4) in
-    (all-append (Row-to m) (costs (plan (suc n) i g)) (costs (block (suc n + size g) r b)) (all-append (Row-to m) (costs (block (suc n) i g)) (costs (after (suc n) i g)) (h .0) (h .1)) (k .0), k .1)
-rows-within m D d (spawn i g b) n r l w =
-    let h = rows-within m D (suc d) g (suc n) i (w .1) (w .3) in
-    let k = rows-within m D d b (suc n + size g) r l (w .4) in
-    (all-append (Row-to m) (costs (plan (suc n) i g)) (costs (block (suc n + size g) r b)) (all-append (Row-to m) (costs (block (suc n) i g)) (costs (after (suc n) i g)) (h .0) (h .1)) (k .0), k .1)
+    (all-together (Row-to m) v (plan (suc n) i g) (block (suc n + size g) r b) (all-append (Row-to m) (costs (block (suc n) i g)) (costs (after (suc n) i g)) (h .0) (h .1)) (k .0), k .1)
 
 rows-add : (w : CostLine → Bool) (m : ℕ) (l : List CostLine) → All (Row-to m) l → upTo (λ s. sumWhere (λ x. eqb (x .row) s && w x) l) m ≡ sumWhere w l
 rows-add w m [] h = zeros m

@@ -10,6 +10,7 @@ use lib.Dec.{ltb, leb}
 use lib.Seq.{ext-getD}
 use borrow.Author.Tests.{leb-true, lt-ltb, le-ltb}
 use Rattle.line.specs.declared.Frame.{Frame}
+use Rattle.chain.specs.Over.{linesIn}
 use Rattle.trace.specs.declared.Answer.{Answer}
 use Rattle.trace.specs.declared.Answer.the-variants.{Accepted}
 use Rattle.trace.specs.Shape.{has, sites}
@@ -17,7 +18,7 @@ use Rattle.trace.specs.Rows.{columns, Spans}
 use Rattle.trace.specs.Refusals.{lineCount, Verdict, accepted, refused, verdict}
 use Rattle.trace.specs.Promise.{Engine, tables, marks, Lent, scratchRoom, marksRoom, rowsRoom, enough, acceptance, refusal, Row, Marked, Profile, Promise}
 use Rattle.trace.specs.Tree.{Body, linesOf, size, Parts, workOf, spanOf, spansIn}
-use Rattle.trace.specs.Fold.{chainOf, linesIn}
+use Rattle.trace.specs.Fold.{chainOf}
 use Rattle.trace.specs.ByTree.{cell, RowsBy, ProfileBy}
 use Rattle.trace.proofs.Basics.{clash, below, both}
 use Rattle.trace.proofs.Tree.{size-is}

@@ -12,9 +12,9 @@ use Rattle.line.specs.declared.Frame.{Frame}
 use Rattle.line.specs.declared.Frame.the-variants.{Site, Call, Spawn, Sync, Return, Cost}
 use Rattle.trace.specs.Shape.{root, step}
 use Rattle.trace.specs.Refusals.{openNow, empty, allSites, lastSite, declared, accepted, verdict}
-use Rattle.trace.specs.Tree.{Body, done, spend, sync, call, spawn, linesOf, Within, AllSites, Parts}
+use Rattle.trace.specs.Tree.{Way, call, spawn, opening, Leaf, spend, sync, lineOf, LeafWithin, Body, done, leaf, child, linesOf, Within, AllSites, Parts}
 use Rattle.trace.proofs.Basics.{no-way, neither}
-use Rattle.trace.proofs.Tree.{NotSite, NoSites, no-sites-right, no-sites-lines, parts-one}
+use Rattle.trace.proofs.Tree.{NotSite, NoSites, no-sites-right, leaf-not-site, opening-not-site, no-sites-lines, leaf-step, opening-step, parts-one}
 use Rattle.trace.proofs.Scan.{Clean, Fine, accepted-fine, faultless, now}
 use Rattle.trace.proofs.Sites.{other-before, no-sites-after, Numb, numb-start, numb-snoc, declared-same}
 
@@ -85,49 +85,6 @@ module _ (D M m : ℕ) where
     same-on : (f : Frame) → NotSite f → (s : ℕ) → declared s (before ++ f ∷ []) ≡ true → s ≤ m
     same-on f h s d = same s (sym (declared-same s before (f ∷ []) (h, tt)) ∙ d)
 
-    -- a line that opens and closes nothing
-    plain : (f : Frame) (i : Body → Body) → NotSite f → ((b : Body) → linesOf (i b) ≡ f ∷ linesOf b) → openNow (before ++ f ∷ []) ≡ F ∷ o
-        → ((b : Body) → Within m D (suc (length o)) b → Within m D (suc (length o)) (i b)) → Clean D M (before ++ f ∷ []) u → Found before (f ∷ u) o
-    plain f i h li w gi c =
-        let x = rec (before ++ f ∷ []) u F o l n (same-on f h) w c in
-        let a : (before ++ f ∷ []) ++ linesOf (x .body) ≡ before ++ linesOf (i (x .body)) = append-snoc before f (linesOf (x .body)) ∙ ap (λ (z : List Frame). before ++ z) (sym (li (x .body))) in
-        record {
-          body = i (x .body);
-          rest = x .rest;
-          lines = ap (λ (z : List Frame). f ∷ z) (x .lines) ∙ ap (λ (z : List Frame). z ++ x .rest) (sym (li (x .body)));
-          now-open = subst (λ (b : List Frame). openNow b ≡ o) a (x .now-open);
-          clean = subst (λ (b : List Frame). Clean D M b (x .rest)) a (x .clean);
-          within = gi (x .body) (x .within);
-          shorter = omega (arith, x .shorter);
-        }
-
-    -- a line that opens an invocation
-    nested : (f : Frame) (i : Body → Body → Body) → NotSite f → ((g r : Body) → linesOf (i g r) ≡ f ∷ (linesOf g ++ linesOf r)) → (G : ℕ) → openNow (before ++ f ∷ []) ≡ G ∷ F ∷ o
-        → ((g r : Body) → Within m D (suc (suc (length o))) g → Within m D (suc (length o)) r → Within m D (suc (length o)) (i g r)) → Clean D M (before ++ f ∷ []) u → Found before (f ∷ u) o
-    nested f i h li G w gi c = opened (rec (before ++ f ∷ []) u G (F ∷ o) l n (same-on f h) w c)
-      where
-        both : (x : Found (before ++ f ∷ []) u (F ∷ o)) → Found ((before ++ f ∷ []) ++ linesOf (x .body)) (x .rest) o → Found before (f ∷ u) o
-        both x y =
-            let e : ((before ++ f ∷ []) ++ linesOf (x .body)) ++ linesOf (y .body) ≡ before ++ linesOf (i (x .body) (y .body)) =
-            append-assoc (before ++ f ∷ []) (linesOf (x .body)) (linesOf (y .body)) ∙ append-snoc before f (linesOf (x .body) ++ linesOf (y .body)) ∙ ap (λ (z : List Frame). before ++ z) (sym (li (x .body) (y .body))) in
-            record {
-              body = i (x .body) (y .body);
-              rest = y .rest;
-              lines =
-                  ap (λ (z : List Frame). f ∷ z) (x .lines ∙ ap (λ (z : List Frame). linesOf (x .body) ++ z) (y .lines) ∙ sym (append-assoc (linesOf (x .body)) (linesOf (y .body)) (y .rest)))
-                  ∙ ap (λ (z : List Frame). z ++ y .rest) (sym (li (x .body) (y .body)));
-              now-open = subst (λ (b : List Frame). openNow b ≡ o) e (y .now-open);
-              clean = subst (λ (b : List Frame). Clean D M b (y .rest)) e (y .clean);
-              within = gi (x .body) (y .body) (x .within) (y .within);
-              shorter = omega (arith, x .shorter, y .shorter);
-            }
-
-        opened : Found (before ++ f ∷ []) u (F ∷ o) → Found before (f ∷ u) o
-        opened x =
-            both x
-            (rec ((before ++ f ∷ []) ++ linesOf (x .body)) (x .rest) F o (omega (arith, x .shorter)) (no-sites-right (linesOf (x .body)) (x .rest) (subst NoSites (x .lines) n))
-            (λ s d. same-on f h s (sym (declared-same s (before ++ f ∷ []) (linesOf (x .body)) (no-sites-lines (x .body))) ∙ d)) (x .now-open) (x .clean))
-
     allowed : (s : ℕ) → (eqb s 0 || not (declared s before)) ≡ false → (1 ≤ s) × (s ≤ m)
     allowed s e =
         let h = neither (eqb s 0) (not (declared s before)) e in
@@ -141,15 +98,60 @@ module _ (D M m : ℕ) where
     room : ltb D (suc (length (openNow before))) ≡ false → suc (suc (length o)) ≤ D
     room e = omega (arith, ltb-false D (suc (length (openNow before))) e, ap length op)
 
+    -- a line that opens and closes nothing
+    plain : (i : Leaf) → LeafWithin i → Clean D M (before ++ lineOf i ∷ []) u → Found before (lineOf i ∷ u) o
+    plain i w c =
+        let f = lineOf i in
+        let x = rec (before ++ f ∷ []) u F o l n (same-on f (leaf-not-site i)) (now before f ∙ leaf-step i (length before) (openNow before) ∙ op) c in
+        let a = append-snoc before f (linesOf (x .body)) in
+        record {
+          body = leaf i (x .body);
+          rest = x .rest;
+          lines = ap (λ (z : List Frame). f ∷ z) (x .lines);
+          now-open = subst (λ (b : List Frame). openNow b ≡ o) a (x .now-open);
+          clean = subst (λ (b : List Frame). Clean D M b (x .rest)) a (x .clean);
+          within = (w, x .within);
+          shorter = omega (arith, x .shorter);
+        }
+
+    -- a line that opens an invocation
+    nested : (i : Way) (s : ℕ) → (eqb s 0 || not (declared s before)) ≡ false → ltb D (suc (length (openNow before))) ≡ false → Clean D M (before ++ opening i s ∷ []) u → Found before (opening i s ∷ u) o
+    nested i s d e c =
+        let f = opening i s in
+        opened (rec (before ++ f ∷ []) u (suc (length before)) (F ∷ o) l n (same-on f (opening-not-site i s))
+        (now before f ∙ opening-step i s (length before) (openNow before) ∙ ap (λ (z : List ℕ). suc (length before) ∷ z) op) c)
+      where
+        f : Frame
+        f = opening i s
+
+        both : (x : Found (before ++ f ∷ []) u (F ∷ o)) → Found ((before ++ f ∷ []) ++ linesOf (x .body)) (x .rest) o → Found before (f ∷ u) o
+        both x y =
+            let e′ : ((before ++ f ∷ []) ++ linesOf (x .body)) ++ linesOf (y .body) ≡ before ++ (f ∷ (linesOf (x .body) ++ linesOf (y .body))) =
+            append-assoc (before ++ f ∷ []) (linesOf (x .body)) (linesOf (y .body)) ∙ append-snoc before f (linesOf (x .body) ++ linesOf (y .body)) in
+            let a = allowed s d in
+            record {
+              body = child i s (x .body) (y .body);
+              rest = y .rest;
+              lines = ap (λ (z : List Frame). f ∷ z) (x .lines ∙ ap (λ (z : List Frame). linesOf (x .body) ++ z) (y .lines) ∙ sym (append-assoc (linesOf (x .body)) (linesOf (y .body)) (y .rest)));
+              now-open = subst (λ (b : List Frame). openNow b ≡ o) e′ (y .now-open);
+              clean = subst (λ (b : List Frame). Clean D M b (y .rest)) e′ (y .clean);
+              within = (a .0, a .1, room e, x .within, y .within);
+              shorter = omega (arith, x .shorter, y .shorter);
+            }
+
+        opened : Found (before ++ f ∷ []) u (F ∷ o) → Found before (f ∷ u) o
+        opened x =
+            both x
+            (rec ((before ++ f ∷ []) ++ linesOf (x .body)) (x .rest) F o (omega (arith, x .shorter)) (no-sites-right (linesOf (x .body)) (x .rest) (subst NoSites (x .lines) n))
+            (λ j q. same-on f (opening-not-site i s) j (sym (declared-same j (before ++ f ∷ []) (linesOf (x .body)) (no-sites-lines (x .body))) ∙ q)) (x .now-open) (x .clean))
+
   pub parse : (k : ℕ) → Parsed k
   parse zero before [] F o l n same op c = absurd (no-way (sym (ap empty op) ∙ c))
   parse zero before (f ∷ u) F o l n same op c = absurd (omega arith)
   parse (suc k) before [] F o l n same op c = absurd (no-way (sym (ap empty op) ∙ c))
   parse (suc k) before (Site s p ∷ u) F o l n same op c = absurd (n .0)
-  parse (suc k) before (Cost v ∷ u) F o l n same op c =
-      plain k (parse k) before u F o (omega arith) (n .1) same op (Cost v) (spend v) tt (λ b. refl) (now before (Cost v) ∙ op) (λ b q. (c .1 .0, c .1 .1, q)) (c .2)
-  parse (suc k) before (Sync ∷ u) F o l n same op c =
-      plain k (parse k) before u F o (omega arith) (n .1) same op Sync sync tt (λ b. refl) (now before Sync ∙ op) (λ b q. q) (c .2)
+  parse (suc k) before (Cost v ∷ u) F o l n same op c = plain k (parse k) before u F o (omega arith) (n .1) same op (spend v) (c .1) (c .2)
+  parse (suc k) before (Sync ∷ u) F o l n same op c = plain k (parse k) before u F o (omega arith) (n .1) same op sync tt (c .2)
   parse (suc k) before (Return ∷ u) F o l n same op c =
       record {
         body = done;
@@ -162,16 +164,10 @@ module _ (D M m : ℕ) where
       }
   parse (suc k) before (Call s ∷ u) F o l n same op c =
       let h = faultless D M before (Call s) (c .0) in
-      let a = allowed k (parse k) before u F o (omega arith) (n .1) same op s (h .not11) in
-      let d = room k (parse k) before u F o (omega arith) (n .1) same op (h .not12) in
-      nested k (parse k) before u F o (omega arith) (n .1) same op (Call s) (call s) tt (λ g r. refl) (suc (length before))
-      (now before (Call s) ∙ ap (step (length before) (Call s)) op) (λ g r x y. (a .0, a .1, d, x, y)) (c .2)
+      nested k (parse k) before u F o (omega arith) (n .1) same op call s (h .not11) (h .not12) (c .2)
   parse (suc k) before (Spawn s ∷ u) F o l n same op c =
       let h = faultless D M before (Spawn s) (c .0) in
-      let a = allowed k (parse k) before u F o (omega arith) (n .1) same op s (h .not11) in
-      let d = room k (parse k) before u F o (omega arith) (n .1) same op (h .not12) in
-      nested k (parse k) before u F o (omega arith) (n .1) same op (Spawn s) (spawn s) tt (λ g r. refl) (suc (length before))
-      (now before (Spawn s) ∙ ap (step (length before) (Spawn s)) op) (λ g r x y. (a .0, a .1, d, x, y)) (c .2)
+      nested k (parse k) before u F o (omega arith) (n .1) same op spawn s (h .not11) (h .not12) (c .2)
 
 -- no line passes behind the root's return
 closed : (D M : ℕ) (before u : List Frame) → openNow before ≡ [] → Clean D M before u → u ≡ []

@@ -14,7 +14,7 @@ use Rattle.trace.specs.Rows.{columns}
 use Rattle.trace.specs.Refusals.{Verdict, accepted, refused, verdict}
 use Rattle.trace.specs.Promise.{Engine, tables, marks, Lent, marksRoom, enough, refusal, Promise}
 use Rattle.trace.specs.Places.{OnlyPlaces, RefusedWith}
-use Rattle.trace.specs.Tree.{Body, done, spend, sync, call, spawn, linesOf, AllSites, Parts}
+use Rattle.trace.specs.Tree.{Way, call, spawn, opening, Leaf, spend, sync, lineOf, Body, done, leaf, child, linesOf, AllSites, Parts}
 use Rattle.trace.specs.ByTree.{ProfileBy}
 use Rattle.trace.proofs.Tree.{IsSite, parts-one}
 use Rattle.trace.proofs.Parse.{accepted-parts}
@@ -22,12 +22,18 @@ use Rattle.trace.proofs.Invocations.{sites-are}
 use Rattle.trace.proofs.Outcome.{profile-tree, by-tree-unique}
 use Rattle.trace.proofs.Unseen.{blank, blanks, ButPlaces, blanks-append, blanks-length, SameVerdict, verdict-same}
 
+blank-leaf : (l : Leaf) → blank (lineOf l) ≡ lineOf l
+blank-leaf (spend v) = refl
+blank-leaf sync = refl
+
+blank-opening : (w : Way) (s : ℕ) → blank (opening w s) ≡ opening w s
+blank-opening call s = refl
+blank-opening spawn s = refl
+
 blanks-lines : (b : Body) → blanks (linesOf b) ≡ linesOf b
 blanks-lines done = refl
-blanks-lines (spend v r) = ap (λ (l : List Frame). Cost v ∷ l) (blanks-lines r)
-blanks-lines (sync r) = ap (λ (l : List Frame). Sync ∷ l) (blanks-lines r)
-blanks-lines (call s g r) = ap (λ (l : List Frame). Call s ∷ l) (blanks-append (linesOf g) (linesOf r) ∙ rw (blanks-lines g, blanks-lines r))
-blanks-lines (spawn s g r) = ap (λ (l : List Frame). Spawn s ∷ l) (blanks-append (linesOf g) (linesOf r) ∙ rw (blanks-lines g, blanks-lines r))
+blanks-lines (leaf l r) = rw (blank-leaf l, blanks-lines r)
+blanks-lines (child w s g r) = rw (blank-opening w s, blanks-append (linesOf g) (linesOf r), blanks-lines g, blanks-lines r)
 
 blanks-sites : (h : List Frame) → AllSites h → AllSites (blanks h)
 blanks-sites [] s = tt

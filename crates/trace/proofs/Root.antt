@@ -6,12 +6,14 @@ use Prim.Native.Nat.{ℕ, _<_}
 use lib.ListN.{length}
 use Rattle.line.specs.declared.Frame.{Frame}
 use Rattle.chain.specs.Plan.{CostLine, Plan, costs, On, Apart}
+use Rattle.chain.specs.Over.{linesIn}
+use Rattle.chain.proofs.Over.{Found}
 use Rattle.trace.specs.Shape.{root, Parallel}
 use Rattle.trace.specs.Series.{valueAt, CostIn, Span, Chosen}
 use Rattle.trace.specs.Tree.{Parts, spanOf}
-use Rattle.trace.specs.Fold.{plan, chainOf, linesIn}
+use Rattle.trace.specs.Fold.{plan, chainOf}
 use Rattle.trace.proofs.Unique.{span-unique, chosen-unique}
-use Rattle.trace.proofs.Chains.{Found, cost-on, on-cost, apart-is-parallel, parallel-is-apart, chosen-of}
+use Rattle.trace.proofs.Chains.{cost-on, on-cost, apart-is-parallel, parallel-is-apart, chosen-of}
 use Rattle.trace.proofs.Invocations.{root-ctx, root-paid, root-inv}
 use Rattle.trace.proofs.Stretches.{starts, span-is}
 

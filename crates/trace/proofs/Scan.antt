@@ -161,6 +161,10 @@ in-range D M e =
     (leb-true 1 D (y .0), leb-true D 64 (y .1), leb-true M 255 (x .1))
 
 -- LAW: a text that is accepted, check by check
+-- a verdict accepts one trace
+pub accepted-same : (t u : List Frame) → accepted t ≡ accepted u → t ≡ u
+accepted-same t u e = cc
+
 pub accepted-is : (s : List ℕ) (D M : ℕ) (room : Bool) (t : List Frame) → verdict s D M room ≡ accepted t → (room ≡ true) × Accepts s D M t
 accepted-is s D M room t e = go (outOfRange D M) (broken s) (tooMany s) room refl refl refl e
   where

@@ -12,9 +12,9 @@ use Rattle.line.specs.declared.Frame.the-variants.{Site, Call, Spawn, Sync, Ret
 use Rattle.trace.specs.Shape.{Is, step, walk, openAt, has}
 use Rattle.trace.specs.Series.{value, valueAt, CostIn, Span}
 use Rattle.trace.specs.Rows.{sumOf, inside}
-use Rattle.trace.specs.Tree.{Body, done, spend, sync, call, spawn, linesOf, AllSites, workOf, spanOf}
+use Rattle.trace.specs.Tree.{opening, lineOf, Body, done, leaf, child, linesOf, AllSites, workOf, spanOf}
 use Rattle.trace.proofs.Basics.{below, cond-same}
-use Rattle.trace.proofs.Tree.{IsSite, size-is}
+use Rattle.trace.proofs.Tree.{IsSite, size-is, leaf-value, opening-value}
 use Rattle.trace.proofs.Recurrence.{weight-chain}
 use Rattle.trace.proofs.Context.{walk-append}
 use Rattle.trace.proofs.Chains.{is-length, is-right, span-of}
@@ -68,21 +68,15 @@ module _ (p : ℕ → List ℕ → Bool) where
 -- all costs of a body's lines
 pub all-costs : (b : Body) (n : ℕ) (o : List ℕ) → sumOf (λ k o. true) n o (linesOf b) ≡ workOf b
 all-costs done n o = refl
-all-costs (spend v r) n o = omega (arith, all-costs r (suc n) o)
-all-costs (sync r) n o = omega (arith, all-costs r (suc n) o)
-all-costs (call s g r) n o =
+all-costs (leaf l r) n o = omega (arith, leaf-value l, all-costs r (suc n) (step n (lineOf l) o))
+all-costs (child w s g r) n o =
+    let k = step n (opening w s) o in
     omega (
       arith,
-      sum-append (λ k o. true) (suc n) (suc n ∷ o) (linesOf g) (linesOf r),
-      all-costs g (suc n) (suc n ∷ o),
-      all-costs r (suc n + length (linesOf g)) (walk (suc n) (suc n ∷ o) (linesOf g) (length (linesOf g))),
-    )
-all-costs (spawn s g r) n o =
-    omega (
-      arith,
-      sum-append (λ k o. true) (suc n) (suc n ∷ o) (linesOf g) (linesOf r),
-      all-costs g (suc n) (suc n ∷ o),
-      all-costs r (suc n + length (linesOf g)) (walk (suc n) (suc n ∷ o) (linesOf g) (length (linesOf g))),
+      opening-value w s,
+      sum-append (λ k o. true) (suc n) k (linesOf g) (linesOf r),
+      all-costs g (suc n) k,
+      all-costs r (suc n + length (linesOf g)) (walk (suc n) k (linesOf g) (length (linesOf g))),
     )
 
 site-weighs : (f : Frame) → IsSite f → value f ≡ 0

@@ -7,12 +7,13 @@ use lib.ListN.{length}
 use Rattle.line.specs.declared.Frame.{Frame}
 use Rattle.line.specs.declared.Frame.the-variants.{Site}
 use Rattle.chain.specs.Plan.{choose}
+use Rattle.chain.specs.Over.{linesIn}
 use Rattle.trace.specs.Shape.{root}
 use Rattle.trace.specs.Series.{Span, Chosen}
 use Rattle.trace.specs.Rows.{total, Spans, onSpan}
 use Rattle.trace.specs.Refusals.{Verdict, accepted, verdict}
-use Rattle.trace.specs.Tree.{Body, done, spend, sync, call, spawn, linesOf, Parts, spanOf, spansIn}
-use Rattle.trace.specs.Fold.{chainOf, linesIn}
+use Rattle.trace.specs.Tree.{call, spawn, spend, sync, Body, done, leaf, child, linesOf, Parts, spanOf, spansIn}
+use Rattle.trace.specs.Fold.{chainOf}
 use Rattle.trace.specs.Twelve.{Case, twelve, Holds, AllHold, K, RowOne, Claim}
 use Rattle.trace.proofs.Basics.{clash}
 use Rattle.trace.proofs.Tree.{parts-one}
@@ -24,17 +25,17 @@ use Rattle.trace.proofs.Columns.{spans-tree}
 abbrev pub trees : List Body
 trees =
     done
-    ∷ spend 5 (spend 3 done)
-    ∷ spawn 1 (spend 4 done) (spend 4 done)
-    ∷ spawn 1 (spend 4 done) (spend 5 done)
-    ∷ spawn 1 (spend 4 done) (sync (spend 4 done))
-    ∷ call 1 (spend 4 done) (spend 4 done)
-    ∷ spend 1 (spawn 1 (spend 10 done) (spend 2 (spawn 2 (spend 8 done) (spend 1 done))))
-    ∷ spend 1 (spawn 1 (spend 10 done) (spend 2 (spawn 2 (spend 9 done) (spend 1 done))))
-    ∷ call 1 (spawn 2 (spend 7 done) (spend 1 done)) (spend 2 done)
-    ∷ spawn 1 (spend 3 done) (call 2 (spend 1 (sync (spend 1 done))) done)
-    ∷ call 1 (spend 1 (call 1 (spend 2 done) done)) done
-    ∷ spawn 1 (spawn 2 (spend 6 done) (spend 1 done)) (spend 2 (sync (spend 1 done)))
+    ∷ leaf (spend 5) (leaf (spend 3) done)
+    ∷ child spawn 1 (leaf (spend 4) done) (leaf (spend 4) done)
+    ∷ child spawn 1 (leaf (spend 4) done) (leaf (spend 5) done)
+    ∷ child spawn 1 (leaf (spend 4) done) (leaf sync (leaf (spend 4) done))
+    ∷ child call 1 (leaf (spend 4) done) (leaf (spend 4) done)
+    ∷ leaf (spend 1) (child spawn 1 (leaf (spend 10) done) (leaf (spend 2) (child spawn 2 (leaf (spend 8) done) (leaf (spend 1) done))))
+    ∷ leaf (spend 1) (child spawn 1 (leaf (spend 10) done) (leaf (spend 2) (child spawn 2 (leaf (spend 9) done) (leaf (spend 1) done))))
+    ∷ child call 1 (child spawn 2 (leaf (spend 7) done) (leaf (spend 1) done)) (leaf (spend 2) done)
+    ∷ child spawn 1 (leaf (spend 3) done) (child call 2 (leaf (spend 1) (leaf sync (leaf (spend 1) done))) done)
+    ∷ child call 1 (leaf (spend 1) (child call 1 (leaf (spend 2) done) done)) done
+    ∷ child spawn 1 (child spawn 2 (leaf (spend 6) done) (leaf (spend 1) done)) (leaf (spend 2) (leaf sync (leaf (spend 1) done)))
     ∷ []
 
 -- the two sites
@@ -114,7 +115,7 @@ all-hold (c ∷ cs) (b ∷ bs) e =
     (holds c b h, all-hold cs bs k)
 
 abbrev K-tree : Body
-K-tree = call 1 (spend 1 (call 1 (spend 2 done) done)) done
+K-tree = child call 1 (leaf (spend 1) (child call 1 (leaf (spend 2) done) done)) done
 
 K-row : RowOne K 2 5 5 3
 K-row = record { t = heads ++ linesOf K-tree; is-accepted = refl; calls-is = refl; work-is = refl; span-is = spans-here (K .trace) K-tree refl 1; local-is = refl }

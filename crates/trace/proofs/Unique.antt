@@ -1,36 +1,21 @@
 -- There is one span of an invocation, one chosen chain, and one sum of spans.
-use mathlib.Core.Path.{_≡_, sym}
-use mathlib.Core.Logic.{_⊎_, inl, inr}
+use mathlib.Core.Path.{_≡_}
 use mathlib.Core.List.{List, [], _∷_}
 use Prim.Native.Nat.{ℕ}
 use native.Mathlib.Omega.{arith}
 use Rattle.line.specs.declared.Frame.{Frame}
-use Rattle.trace.specs.Series.{Span, Before, Chosen}
+use Rattle.chain.proofs.Over as Over
+use Rattle.trace.specs.Shape.{root}
+use Rattle.trace.specs.Series.{rule, Span, Chosen}
 use Rattle.trace.specs.Rows.{counted, Sum, Spans}
 
 -- LAW
 pub span-unique : (t : List Frame) (F m n : ℕ) → Span t F m → Span t F n → m ≡ n
-span-unique t F m n h k = omega (arith, h .greatest (k .chain) (k .is-chain), k .greatest (h .chain) (h .is-chain), h .weighs, k .weighs)
-
-before-asym : (c d : List ℕ) → Before c d → Before d c → ⊥
-before-asym [] d h k = h
-before-asym (x ∷ c) [] h k = h
-before-asym (x ∷ c) (y ∷ d) (inl h) (inl k) = omega arith
-before-asym (x ∷ c) (y ∷ d) (inl h) (inr k) = omega arith
-before-asym (x ∷ c) (y ∷ d) (inr h) (inl k) = omega arith
-before-asym (x ∷ c) (y ∷ d) (inr h) (inr k) = before-asym c d (h .1) (k .1)
+span-unique t F = Over.span-unique (rule t F)
 
 -- LAW
 pub chosen-unique : (t : List Frame) (c d : List ℕ) → Chosen t c → Chosen t d → c ≡ d
-chosen-unique t c d h k =
-    let l = h .heaviest d (k .chain) in
-    let m = k .heaviest c (h .chain) in
-    go (h .first d (k .chain) (omega arith)) (k .first c (h .chain) (omega arith))
-  where
-    go : (d ≡ c) ⊎ Before c d → (c ≡ d) ⊎ Before d c → c ≡ d
-    go (inl e) f = sym e
-    go (inr e) (inl f) = f
-    go (inr e) (inr f) = absurd (before-asym c d e f)
+chosen-unique t = Over.chosen-unique (rule t root)
 
 sum-unique : (p : ℕ → ℕ → Type 0) → ((x a b : ℕ) → p x a → p x b → a ≡ b) → (l : List ℕ) (m n : ℕ) → Sum p l m → Sum p l n → m ≡ n
 sum-unique p u [] m n h k = omega arith

@@ -4,12 +4,13 @@ use Prim.Native.Nat.{ℕ, zero, suc, _+_, _*_, _≤_, _<_}
 use mathlib.Core.Path.{_≡_}
 use mathlib.Core.List.{List}
 use lib.ListN.{length, getD, replicate}
+use Rattle.chain.specs.Over.{linesIn}
 use Rattle.trace.specs.declared.Answer.{Answer}
 use Rattle.trace.specs.declared.Answer.the-variants.{Accepted}
 use Rattle.trace.specs.Rows.{columns}
 use Rattle.trace.specs.Promise.{Engine, Lent, Marked}
 use Rattle.trace.specs.Tree.{Body, size, workOf, spanOf, callsIn, workIn, spansIn, localIn}
-use Rattle.trace.specs.Fold.{chainOf, onRow, linesIn}
+use Rattle.trace.specs.Fold.{chainOf, onRow}
 
 -- column j of row s, the first column 0
 abbrev pub cell : ℕ → Body → ℕ → ℕ → ℕ

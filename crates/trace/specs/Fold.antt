@@ -5,27 +5,30 @@ use mathlib.Core.Bool.{cond}
 use mathlib.Core.List.{List, [], _∷_, _++_}
 use lib.Dec.{eqb, ltb}
 use Rattle.chain.specs.Plan.{CostLine, Plan, none, cost, seq, par, weight, choose}
-use Rattle.trace.specs.Tree.{Body, done, spend, sync, call, spawn, size}
+use Rattle.trace.specs.Tree.{Way, call, spawn, Leaf, spend, sync, Body, done, leaf, child, size}
 
 abbrev pub costAt : ℕ → ℕ → ℕ → CostLine
 costAt n s v = record { line = n; row = s; value = v }
 
+-- a called child is in series with what follows it in its block, a spawned child parallel to all of that
+abbrev pub together : Way → Plan → Plan → Plan
+together call g r = seq g r
+together spawn g r = par g r
+
 abbrev mutual
-  -- what stands before the next sync directly in the body: a spawned child is parallel to all that follows it there
+  -- what stands before the next sync directly in the body
   pub block : ℕ → ℕ → Body → Plan
   block n s done = none
-  block n s (spend v r) = seq (cost (costAt n s v)) (block (suc n) s r)
-  block n s (sync r) = none
-  block n s (call i g r) = seq (seq (block (suc n) i g) (after (suc n) i g)) (block (suc n + size g) s r)
-  block n s (spawn i g r) = par (seq (block (suc n) i g) (after (suc n) i g)) (block (suc n + size g) s r)
+  block n s (leaf (spend v) r) = seq (cost (costAt n s v)) (block (suc n) s r)
+  block n s (leaf sync r) = none
+  block n s (child w i g r) = together w (seq (block (suc n) i g) (after (suc n) i g)) (block (suc n + size g) s r)
 
   -- what stands behind that sync
   pub after : ℕ → ℕ → Body → Plan
   after n s done = none
-  after n s (spend v r) = after (suc n) s r
-  after n s (sync r) = seq (block (suc n) s r) (after (suc n) s r)
-  after n s (call i g r) = after (suc n + size g) s r
-  after n s (spawn i g r) = after (suc n + size g) s r
+  after n s (leaf (spend v) r) = after (suc n) s r
+  after n s (leaf sync r) = seq (block (suc n) s r) (after (suc n) s r)
+  after n s (child w i g r) = after (suc n + size g) s r
 
 abbrev pub plan : ℕ → ℕ → Body → Plan
 plan n s b = seq (block n s b) (after n s b)
@@ -52,23 +55,31 @@ called g k = record { p = k .p; l = k .l; c = k .c ++ g }
 abbrev pub spawned : List CostLine → Chains → Chains
 spawned g k = cond (ltb (weight (k .l)) (weight (k .c) + weight g)) (record { p = k .p ++ k .c; l = g; c = [] }) k
 
--- the chain of the whole invocation, from the chains that it has come to
-abbrev pub run : ℕ → ℕ → Chains → Body → List CostLine
-run n s k done = joined k .p
-run n s k (spend v r) = run (suc n) s (spent (costAt n s v) k) r
-run n s k (sync r) = run (suc n) s (joined k) r
-run n s k (call i g r) = run (suc n + size g) s (called (run (suc n) i nothing g) k) r
-run n s k (spawn i g r) = run (suc n + size g) s (spawned (run (suc n) i nothing g) k) r
+-- the chains behind a leaf line
+abbrev pub leafChains : ℕ → ℕ → Leaf → Chains → Chains
+leafChains n s (spend v) k = spent (costAt n s v) k
+leafChains n s sync k = joined k
 
+-- the chain of an invocation whose items make this of its chains, with the join at its return
+abbrev pub ended : (Chains → Chains) → List CostLine
+ended f = joined (f nothing) .p
+
+-- the chains behind a child whose items make this of its chains
+abbrev pub childChains : Way → (Chains → Chains) → Chains → Chains
+childChains call f k = called (ended f) k
+childChains spawn f k = spawned (ended f) k
+
+-- what the items of a body make of the chains that its invocation has come to; the join at its return is left to the caller
+abbrev pub run : ℕ → ℕ → Body → Chains → Chains
+run n s done k = k
+run n s (leaf l r) k = run (suc n) s r (leafChains n s l k)
+run n s (child w i g r) k = run (suc n + size g) s r (childChains w (run (suc n) i g) k)
+
+-- the chain of the whole invocation
 abbrev pub chainOf : ℕ → ℕ → Body → List CostLine
-chainOf n s b = run n s nothing b
+chainOf n s b = ended (run n s b)
 
 -- the part of a chain that stands in row s
 abbrev pub onRow : ℕ → List CostLine → ℕ
 onRow s [] = 0
 onRow s (x ∷ c) = cond (eqb (x .row) s) (x .value) 0 + onRow s c
-
--- the line numbers of a chain
-abbrev pub linesIn : List CostLine → List ℕ
-linesIn [] = []
-linesIn (x ∷ c) = x .line ∷ linesIn c

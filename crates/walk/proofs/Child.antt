@@ -1,7 +1,6 @@
 -- A cost, a call and a spawn by what their line says; and a child's body, which a reader may read where it may read the item.
 use mathlib.Core.Path.{_≡_, refl, ap, _∙_, sym, subst}
 use mathlib.Core.Bool.{Bool, true, false}
-use mathlib.Core.Logic.{_⊎_, inl, inr}
 use mathlib.Core.List.{List}
 use Prim.Native.Nat.{ℕ, suc, _+_, _*_, _-_, _^_, _≤_, _<_}
 use native.Mathlib.Omega.{arith}
@@ -11,8 +10,8 @@ use borrow.Author.Tests.{eqb-true, eqb-false}
 use Rattle.line.specs.declared.Frame.the-variants.{Call, Spawn, Cost}
 use Rattle.chain.specs.Plan.{weight}
 use Rattle.trace.specs.Rows.{columns}
-use Rattle.trace.specs.Tree.{Body, spend, call, spawn, linesOf, size, Within, workOf, spanOf}
-use Rattle.trace.specs.Fold.{Chains, nothing, run}
+use Rattle.trace.specs.Tree.{Way, call, spawn, spend, Body, leaf, child, linesOf, size, Within, workOf, spanOf}
+use Rattle.trace.specs.Fold.{Chains, nothing, chainOf}
 use Rattle.trace.proofs.Recurrence.{weight-chain}
 use Rattle.walk.specs.declared.Open.{Open}
 use Rattle.walk.specs.Stands.{Stands, Says, kindOf, siteOf, valueOf}
@@ -26,54 +25,51 @@ use Rattle.walk.proofs.Rows.{one-same}
 
 -- what stands at line n, where a line of this kind does
 module _ (s : List ℕ) (n kind : ℕ) (says : Says kindOf s n kind) where
-  pub cost-is : (v : ℕ) → Says valueOf s n v → kind ≡ 6 → (b : Body) → Stands s n (linesOf b) → (r : Body) × (b ≡ spend v r)
+  pub cost-is : (v : ℕ) → Says valueOf s n v → kind ≡ 6 → (b : Body) → Stands s n (linesOf b) → (r : Body) × (b ≡ leaf (spend v) r)
   cost-is v costs k6 b h =
       let e = is-spend s n kind says b h k6 in
       let q : v ≡ e .0 = costs (Cost (e .0)) (subst (λ (x : Body). Stands s n (linesOf x)) (e .2) h .0) in
-      (e .1, e .2 ∙ ap (λ (x : ℕ). spend x (e .1)) (sym q))
+      (e .1, e .2 ∙ ap (λ (x : ℕ). leaf (spend x) (e .1)) (sym q))
 
   -- a call or a spawn of site
   module _ (site : ℕ) (sited : Says siteOf s n site) where
-    pub call-is : (b : Body) → Stands s n (linesOf b) → kind ≡ 2 → (g : Body) × (r : Body) × (b ≡ call site g r) × Stands s (n + 1) (linesOf g)
+    pub call-is : (b : Body) → Stands s n (linesOf b) → kind ≡ 2 → (g : Body) × (r : Body) × (b ≡ child call site g r) × Stands s (n + 1) (linesOf g)
     call-is b h k2 =
         let e = is-call s n kind says b h k2 in
         let z = subst (λ (x : Body). Stands s n (linesOf x)) (e .3) h in
         let q : site ≡ e .0 = sited (Call (e .0)) (z .0) in
-        (e .1, e .2, e .3 ∙ ap (λ (x : ℕ). call x (e .1) (e .2)) (sym q), stands-left s (linesOf (e .1)) (linesOf (e .2)) (n + 1) (z .1))
+        (e .1, e .2, e .3 ∙ ap (λ (x : ℕ). child call x (e .1) (e .2)) (sym q), stands-left s (linesOf (e .1)) (linesOf (e .2)) (n + 1) (z .1))
 
     module _ (k6 : kind ≡ 6 → ⊥) (k4 : kind ≡ 4 → ⊥) where
-      pub spawn-is : (b : Body) → Stands s n (linesOf b) → More b → (kind ≡ 2 → ⊥) → (g : Body) × (r : Body) × (b ≡ spawn site g r) × Stands s (n + 1) (linesOf g)
+      pub spawn-is : (b : Body) → Stands s n (linesOf b) → More b → (kind ≡ 2 → ⊥) → (g : Body) × (r : Body) × (b ≡ child spawn site g r) × Stands s (n + 1) (linesOf g)
       spawn-is b h m k2 =
           let e = is-spawn s n kind says b h k2 k4 k6 m in
           let z = subst (λ (x : Body). Stands s n (linesOf x)) (e .3) h in
           let q : site ≡ e .0 = sited (Spawn (e .0)) (z .0) in
-          (e .1, e .2, e .3 ∙ ap (λ (x : ℕ). spawn x (e .1) (e .2)) (sym q), stands-left s (linesOf (e .1)) (linesOf (e .2)) (n + 1) (z .1))
+          (e .1, e .2, e .3 ∙ ap (λ (x : ℕ). child spawn x (e .1) (e .2)) (sym q), stands-left s (linesOf (e .1)) (linesOf (e .2)) (n + 1) (z .1))
 
 -- the first item of b, at line n, is a call or a spawn of site: its body g, and what stands behind it
 pub record Child (s : List ℕ) (n site : ℕ) (b : Body) : Type 0 where
+  pub way : Way
   pub g : Body
   pub r : Body
-  pub is : (b ≡ call site g r) ⊎ (b ≡ spawn site g r)
+  pub is : b ≡ child way site g r
   pub stands : Stands s (n + 1) (linesOf g)
 
 pub child-is : (s : List ℕ) (n kind site : ℕ) → Says kindOf s n kind → Says siteOf s n site → (kind ≡ 6 → ⊥) → (kind ≡ 4 → ⊥) → (b : Body) → Stands s n (linesOf b) → More b → Child s n site b
 child-is s n kind site says sited k6 k4 b h m = go (eqb kind 2) refl
   where
     go : (t : Bool) → eqb kind 2 ≡ t → Child s n site b
-    go true e = let q = call-is s n kind says site sited b h (eqb-true kind 2 e) in record { g = q .0; r = q .1; is = inl (q .2); stands = q .3 }
-    go false e = let q = spawn-is s n kind says site sited k6 k4 b h m (eqb-false kind 2 e) in record { g = q .0; r = q .1; is = inr (q .2); stands = q .3 }
+    go true e = let q = call-is s n kind says site sited b h (eqb-true kind 2 e) in record { way = call; g = q .0; r = q .1; is = q .2; stands = q .3 }
+    go false e = let q = spawn-is s n kind says site sited k6 k4 b h m (eqb-false kind 2 e) in record { way = spawn; g = q .0; r = q .1; is = q .2; stands = q .3 }
 
 -- a child's lines are among the item's, and its invocation is one more that is open
 pub within-child : (s : List ℕ) (n site m D d : ℕ) (b : Body) (c : Child s n site b) → Within m D d b → (site ≤ m) × (suc d ≤ D) × Within m D (suc d) (c .g) × (1 + size (c .g) ≤ size b)
-within-child s n site m D d b c w = go (c .is)
-  where
-    go : ((b ≡ call site (c .g) (c .r)) ⊎ (b ≡ spawn site (c .g) (c .r))) → (site ≤ m) × (suc d ≤ D) × Within m D (suc d) (c .g) × (1 + size (c .g) ≤ size b)
-    go (inl e) = let h = subst (Within m D d) e w in (h .1, h .2, h .3, omega (arith, ap size e))
-    go (inr e) = let h = subst (Within m D d) e w in (h .1, h .2, h .3, omega (arith, ap size e))
+within-child s n site m D d b c w = let h = subst (Within m D d) (c .is) w in (h .1, h .2, h .3, omega (arith, ap size (c .is)))
 
 module _ (s : List ℕ) (row m deep : ℕ) (f : Open) (rows : List ℕ) (y : Ready s row m deep f rows) where
   -- a cost of v fits the rows, the work and the chains
-  pub cost-fits : (v : ℕ) (r : Body) → y .body ≡ spend v r
+  pub cost-fits : (v : ℕ) (r : Body) → y .body ≡ leaf (spend v) r
       → ((columns * row + 3 < length rows) × (getD rows (columns * row + 3) 0 + v < 2 ^ 64)) × ((f .work + v < 2 ^ 64) × (f .prefix + (f .longest + f .since) + v < 2 ^ 64))
   cost-fits v r e = (
     (omega (arith, y .row-in, y .rows-long), omega (arith, y .rows-fit (columns * row + 3), ap (λ (x : Body). gain row x (columns * row + 3)) e, one-same (columns * row + 3) v)),
@@ -82,36 +78,28 @@ module _ (s : List ℕ) (row m deep : ℕ) (f : Open) (rows : List ℕ) (y : Rea
 
   -- a call or a spawn of site
   module _ (site : ℕ) (c : Child s (f .at) site (y .body)) where
-    abbrev child : Body
-    child = c .g
+    abbrev inner : Body
+    inner = c .g
 
-    pub child-work : (f .work + workOf child < 2 ^ 64) × (f .prefix + (f .longest + f .since) + workOf child < 2 ^ 64)
-    child-work = go (c .is)
-      where
-        go : ((y .body ≡ call site child (c .r)) ⊎ (y .body ≡ spawn site child (c .r))) → (f .work + workOf child < 2 ^ 64) × (f .prefix + (f .longest + f .since) + workOf child < 2 ^ 64)
-        go (inl e) = (omega (arith, y .work-fits, ap workOf e), omega (arith, y .load-fits, ap workOf e))
-        go (inr e) = (omega (arith, y .work-fits, ap workOf e), omega (arith, y .load-fits, ap workOf e))
+    pub child-work : (f .work + workOf inner < 2 ^ 64) × (f .prefix + (f .longest + f .since) + workOf inner < 2 ^ 64)
+    child-work = (omega (arith, y .work-fits, ap workOf (c .is)), omega (arith, y .load-fits, ap workOf (c .is)))
 
-    child-gains : (i : ℕ) → getD rows i 0 + (made site child i + gain site child i) < 2 ^ 64
-    child-gains i = go (c .is)
-      where
-        go : ((y .body ≡ call site child (c .r)) ⊎ (y .body ≡ spawn site child (c .r))) → getD rows i 0 + (made site child i + gain site child i) < 2 ^ 64
-        go (inl e) = omega (arith, y .rows-fit i, ap (λ (x : Body). gain row x i) e)
-        go (inr e) = omega (arith, y .rows-fit i, ap (λ (x : Body). gain row x i) e)
+    child-gains : (i : ℕ) → getD rows i 0 + (made site inner i + gain site inner i) < 2 ^ 64
+    child-gains i = omega (arith, y .rows-fit i, ap (λ (x : Body). gain row x i) (c .is))
 
-    in-it : (site ≤ m) × (suc (y .d) ≤ y .D) × Within m (y .D) (suc (y .d)) child × (1 + size child ≤ size (y .body))
+    in-it : (site ≤ m) × (suc (y .d) ≤ y .D) × Within m (y .D) (suc (y .d)) inner × (1 + size inner ≤ size (y .body))
     in-it = within-child s (f .at) site m (y .D) (y .d) (y .body) c (y .within)
 
     pub deeper : 1 ≤ deep
     deeper = omega (arith, in-it .1, y .depth)
 
-    pub child-ends : f .at + 1 + size child ≤ f .at + size (y .body)
+    pub child-ends : f .at + 1 + size inner ≤ f .at + size (y .body)
     child-ends = omega (arith, in-it .3)
 
     pub child-ready : Ready s site m (deep - 1) (numbers (f .at + 1) 0 nothing) rows
     child-ready =
         record {
-          body = child;
+          body = inner;
           stands = c .stands;
           D = y .D;
           d = suc (y .d);
@@ -126,12 +114,12 @@ module _ (s : List ℕ) (row m deep : ℕ) (f : Open) (rows : List ℕ) (y : Rea
         }
 
     -- what the child came to can be counted
-    module _ (r : Open) (rows₁ : List ℕ) (len : length rows₁ ≡ length rows) (done : BodyDone (f .at + 1) site rows child r rows₁) where
-      work-is : r .work ≡ workOf child
+    module _ (r : Open) (rows₁ : List ℕ) (len : length rows₁ ≡ length rows) (done : BodyDone (f .at + 1) site rows inner r rows₁) where
+      work-is : r .work ≡ workOf inner
       work-is = ap (λ (x : Open). x .work) (done .numbers-are)
 
-      pub span-is : r .prefix ≡ spanOf child
-      span-is = ap (λ (x : Open). x .prefix) (done .numbers-are) ∙ weight-chain child (f .at + 1) site
+      pub span-is : r .prefix ≡ spanOf inner
+      span-is = ap (λ (x : Open). x .prefix) (done .numbers-are) ∙ weight-chain inner (f .at + 1) site
 
       in-rows : columns * site + 4 < length rows
       in-rows = omega (arith, y .rows-long, in-it .0)
@@ -143,8 +131,8 @@ module _ (s : List ℕ) (row m deep : ℕ) (f : Open) (rows : List ℕ) (y : Rea
       count-fits = (
         omega (arith, done .rows-are (columns * site) (omega (arith, in-rows)), child-gains (columns * site), one-same (columns * site) 1),
         (
-          omega (arith, done .rows-are (columns * site + 1) (omega (arith, in-rows)), child-gains (columns * site + 1), one-same (columns * site + 1) (workOf child), work-is),
-          omega (arith, done .rows-are (columns * site + 2) (omega (arith, in-rows)), child-gains (columns * site + 2), one-same (columns * site + 2) (spanOf child), span-is),
+          omega (arith, done .rows-are (columns * site + 1) (omega (arith, in-rows)), child-gains (columns * site + 1), one-same (columns * site + 1) (workOf inner), work-is),
+          omega (arith, done .rows-are (columns * site + 2) (omega (arith, in-rows)), child-gains (columns * site + 2), one-same (columns * site + 2) (spanOf inner), span-is),
         ),
       )
 
@@ -152,13 +140,13 @@ module _ (s : List ℕ) (row m deep : ℕ) (f : Open) (rows : List ℕ) (y : Rea
 pub record ChildDone (f : Open) (site : ℕ) (rows : List ℕ) (g : Body) (r : Open) (rows₂ : List ℕ) : Type 0 where
   pub at-is : r .at ≡ f .at + (1 + size g)
   pub work-is : r .work ≡ workOf g
-  pub chain : weight (run (f .at + 1) site nothing g) ≡ r .prefix
+  pub chain : weight (chainOf (f .at + 1) site g) ≡ r .prefix
   pub rows-are : (i : ℕ) → i < length rows → getD rows₂ i 0 ≡ getD rows i 0 + (made site g i + gain site g i)
   pub numbers-are : (k : Chains) → numbers (r .at) (f .work + r .work) k ≡ numbers (f .at + (1 + size g)) (f .work + workOf g) k
 
 pub child-done : (f : Open) (site : ℕ) (rows rows₁ rows₂ : List ℕ) (g : Body) (r : Open) → length rows₁ ≡ length rows → BodyDone (f .at + 1) site rows g r rows₁ → Grown rows₁ (counted site (r .work) (r .prefix)) rows₂ → ChildDone f site rows g r rows₂
 child-done f site rows rows₁ rows₂ g r len done counts =
-    let p : r .prefix ≡ weight (run (f .at + 1) site nothing g) = ap (λ (x : Open). x .prefix) (done .numbers-are) in
+    let p : r .prefix ≡ weight (chainOf (f .at + 1) site g) = ap (λ (x : Open). x .prefix) (done .numbers-are) in
     let v : r .work ≡ workOf g = ap (λ (x : Open). x .work) (done .numbers-are) in
     let u : r .prefix ≡ spanOf g = p ∙ weight-chain g (f .at + 1) site in
     let a : r .at ≡ f .at + (1 + size g) = omega (arith, ap (λ (x : Open). x .at) (done .numbers-are)) in

@@ -9,7 +9,9 @@ use lib.ListN.{length, getD}
 use borrow.Author.Tests.{eqb-true, eqb-false, eq-eqb, ne-eqb}
 use Rattle.trace.specs.Rows.{columns}
 use Rattle.trace.specs.ByTree.{cell}
-use Rattle.trace.specs.Tree.{Body, done, spend, sync, call, spawn, Within, workOf, localOf, spanOf, madeSum, rowSum, callsIn, workIn, spansIn, localIn}
+use Rattle.trace.specs.Tree.{leafWork, Body, done, leaf, child, Within, workOf, localOf, spanOf, madeSum, rowSum, callsIn, workIn, spansIn, localIn}
+use Rattle.trace.proofs.Basics.{cond-same, cond-add}
+use Rattle.trace.proofs.Columns.{none-from-root}
 use Rattle.walk.specs.Gain.{one, counted, made, gain, Grown}
 use Rattle.walk.proofs.Rows.{one-same, one-other}
 
@@ -44,10 +46,8 @@ module _ (j s : ℕ) (g : Body) where
 
 sum-made : (h : Body → ℕ) (a : ℕ) → ((j : ℕ) (g : Body) (s : ℕ) → made j g (columns * s + a) ≡ cond (eqb j s) (h g) 0) → ((row v s : ℕ) → one (columns * row + 3) v (columns * s + a) ≡ 0) → (row s : ℕ) (b : Body) → gain row b (columns * s + a) ≡ madeSum h s b
 sum-made h a made-is none row s done = refl
-sum-made h a made-is none row s (spend v r) = omega (arith, none row v s, sum-made h a made-is none row s r)
-sum-made h a made-is none row s (sync r) = sum-made h a made-is none row s r
-sum-made h a made-is none row s (call j g r) = omega (arith, made-is j g s, sum-made h a made-is none j s g, sum-made h a made-is none row s r)
-sum-made h a made-is none row s (spawn j g r) = omega (arith, made-is j g s, sum-made h a made-is none j s g, sum-made h a made-is none row s r)
+sum-made h a made-is none row s (leaf l r) = omega (arith, none row (leafWork l) s, sum-made h a made-is none row s r)
+sum-made h a made-is none row s (child k j g r) = omega (arith, made-is j g s, sum-made h a made-is none j s g, sum-made h a made-is none row s r)
 
 spent-cross : (b : ℕ) → b < 3 → (row v s : ℕ) → one (columns * row + 3) v (columns * s + b) ≡ 0
 spent-cross b h row v s = one-cross 3 b row s v (columns * row + 3) (columns * s + b) refl refl (omega arith) (omega arith) (λ z. omega arith)
@@ -64,29 +64,17 @@ gain-work row s b = sum-made workOf 1 (λ j g s. made-work j s g) (spent-cross 1
 pub gain-span : (row s : ℕ) (b : Body) → gain row b (columns * s + 2) ≡ madeSum spanOf s b
 gain-span row s b = sum-made spanOf 2 (λ j g s. made-span j s g) (spent-cross 2 (omega arith)) row s b
 
-cond-add : (b : Bool) (x y : ℕ) → cond b (x + y) 0 ≡ cond b x 0 + cond b y 0
-cond-add true x y = refl
-cond-add false x y = refl
-
-cond-none : (b : Bool) → _≡_ {A = ℕ} (cond b 0 0) 0
-cond-none true = refl
-cond-none false = refl
-
 -- column 4: what is spent directly in the body belongs to its own row
 pub gain-local : (row s : ℕ) (b : Body) → gain row b (columns * s + 3) ≡ cond (eqb row s) (localOf b) 0 + madeSum localOf s b
-gain-local row s done = omega (arith, cond-none (eqb row s))
-gain-local row s (spend v r) = omega (arith, one-here 3 row s v (columns * row + 3) (columns * s + 3) refl refl, cond-add (eqb row s) v (localOf r), gain-local row s r)
-gain-local row s (sync r) = gain-local row s r
-gain-local row s (call j g r) = omega (arith, made-local j s g, gain-local j s g, gain-local row s r)
-gain-local row s (spawn j g r) = omega (arith, made-local j s g, gain-local j s g, gain-local row s r)
+gain-local row s done = omega (arith, cond-same (eqb row s))
+gain-local row s (leaf l r) = omega (arith, one-here 3 row s (leafWork l) (columns * row + 3) (columns * s + 3) refl refl, cond-add (eqb row s) (leafWork l) (localOf r), gain-local row s r)
+gain-local row s (child k j g r) = omega (arith, made-local j s g, gain-local j s g, gain-local row s r)
 
 -- column 5 is left alone
 pub gain-on : (row s : ℕ) (b : Body) → gain row b (columns * s + 4) ≡ 0
 gain-on row s done = refl
-gain-on row s (spend v r) = omega (arith, one-cross 3 4 row s v (columns * row + 3) (columns * s + 4) refl refl (omega arith) (omega arith) (λ z. omega arith), gain-on row s r)
-gain-on row s (sync r) = gain-on row s r
-gain-on row s (call j g r) = omega (arith, made-on j s g, gain-on j s g, gain-on row s r)
-gain-on row s (spawn j g r) = omega (arith, made-on j s g, gain-on j s g, gain-on row s r)
+gain-on row s (leaf l r) = omega (arith, one-cross 3 4 row s (leafWork l) (columns * row + 3) (columns * s + 4) refl refl (omega arith) (omega arith) (λ z. omega arith), gain-on row s r)
+gain-on row s (child k j g r) = omega (arith, made-on j s g, gain-on j s g, gain-on row s r)
 
 -- and so are the numbers behind the rows
 counted-out : (m j work span i : ℕ) → j ≤ m → columns * (m + 1) ≤ i → counted j work span i ≡ 0
@@ -95,18 +83,8 @@ counted-out m j work span i h l =
 
 pub gain-out : (m D d row i : ℕ) (b : Body) → Within m D d b → row ≤ m → columns * (m + 1) ≤ i → gain row b i ≡ 0
 gain-out m D d row i done h w l = refl
-gain-out m D d row i (spend v r) h w l = omega (arith, one-other (columns * row + 3) v i (λ z. omega arith), gain-out m D d row i r (h .2) w l)
-gain-out m D d row i (sync r) h w l = gain-out m D d row i r h w l
-gain-out m D d row i (call j g r) h w l = omega (arith, counted-out m j (workOf g) (spanOf g) i (h .1) l, gain-out m D (suc d) j i g (h .3) (h .1) l, gain-out m D d row i r (h .4) w l)
-gain-out m D d row i (spawn j g r) h w l = omega (arith, counted-out m j (workOf g) (spanOf g) i (h .1) l, gain-out m D (suc d) j i g (h .3) (h .1) l, gain-out m D d row i r (h .4) w l)
-
--- no invocation is made from site 0
-made-none : (h : Body → ℕ) (m D d : ℕ) (b : Body) → Within m D d b → madeSum h 0 b ≡ 0
-made-none h m D d done w = refl
-made-none h m D d (spend v r) w = made-none h m D d r (w .2)
-made-none h m D d (sync r) w = made-none h m D d r w
-made-none h m D d (call j g r) w = omega (arith, ap (λ (x : Bool). cond x (h g) 0) (ne-eqb j 0 (λ z. omega (arith, w .0))), made-none h m D (suc d) g (w .3), made-none h m D d r (w .4))
-made-none h m D d (spawn j g r) w = omega (arith, ap (λ (x : Bool). cond x (h g) 0) (ne-eqb j 0 (λ z. omega (arith, w .0))), made-none h m D (suc d) g (w .3), made-none h m D d r (w .4))
+gain-out m D d row i (leaf k r) h w l = omega (arith, one-other (columns * row + 3) (leafWork k) i (λ z. omega arith), gain-out m D d row i r (h .1) w l)
+gain-out m D d row i (child k j g r) h w l = omega (arith, counted-out m j (workOf g) (spanOf g) i (h .1) l, gain-out m D (suc d) j i g (h .3) (h .1) l, gain-out m D d row i r (h .4) w l)
 
 -- what the root comes to in number i, by its body b: all that is inside, and the root itself
 abbrev pub whole : Body → ℕ → ℕ
@@ -117,19 +95,19 @@ module _ (m D d : ℕ) (b : Body) (w : Within m D d b) where
   later i h = omega (arith, one-other 0 1 i (λ z. omega arith), one-other 1 (workOf b) i (λ z. omega arith), one-other 2 (spanOf b) i (λ z. omega arith))
 
   whole-calls : (s : ℕ) → whole b (columns * s) ≡ callsIn s b
-  whole-calls zero = omega (arith, gain-calls 0 0 b, made-none (λ g. 1) m D d b w)
+  whole-calls zero = omega (arith, gain-calls 0 0 b, none-from-root (λ g. 1) m D d b w)
   whole-calls (suc s) = omega (arith, gain-calls 0 (suc s) b, later (columns * suc s) (omega arith))
 
   whole-work : (s : ℕ) → whole b (columns * s + 1) ≡ workIn s b
-  whole-work zero = omega (arith, gain-work 0 0 b, made-none workOf m D d b w)
+  whole-work zero = omega (arith, gain-work 0 0 b, none-from-root workOf m D d b w)
   whole-work (suc s) = omega (arith, gain-work 0 (suc s) b, later (columns * suc s + 1) (omega arith))
 
   whole-span : (s : ℕ) → whole b (columns * s + 2) ≡ spansIn s b
-  whole-span zero = omega (arith, gain-span 0 0 b, made-none spanOf m D d b w)
+  whole-span zero = omega (arith, gain-span 0 0 b, none-from-root spanOf m D d b w)
   whole-span (suc s) = omega (arith, gain-span 0 (suc s) b, later (columns * suc s + 2) (omega arith))
 
   whole-local : (s : ℕ) → whole b (columns * s + 3) ≡ localIn s b
-  whole-local zero = omega (arith, gain-local 0 0 b, made-none localOf m D d b w)
+  whole-local zero = omega (arith, gain-local 0 0 b, none-from-root localOf m D d b w)
   whole-local (suc s) = omega (arith, gain-local 0 (suc s) b, ap (λ (x : Bool). cond x (localOf b) 0) (ne-eqb 0 (suc s) (λ z. omega arith)), later (columns * suc s + 3) (omega arith))
 
   pub whole-on : (s : ℕ) → whole b (columns * s + 4) ≡ 0

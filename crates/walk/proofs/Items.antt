@@ -13,8 +13,8 @@ use Rattle.chain.specs.Plan.{CostLine, weight, choose}
 use Rattle.chain.proofs.Lists.{weight-append}
 use Rattle.chain.proofs.Choose.{choose-cases}
 use Rattle.trace.specs.Rows.{columns}
-use Rattle.trace.specs.Tree.{Body, done, spend, sync, call, spawn, linesOf, size, Within, workOf}
-use Rattle.trace.specs.Fold.{costAt, Chains, nothing, spent, joined, called, spawned, run}
+use Rattle.trace.specs.Tree.{Way, call, spawn, Leaf, spend, sync, leafWork, Body, done, leaf, child, linesOf, size, Within, workOf}
+use Rattle.trace.specs.Fold.{costAt, Chains, nothing, joined, spawned, leafChains, ended, childChains, run, chainOf}
 use Rattle.trace.proofs.Tree.{size-is}
 use Rattle.walk.specs.Stands.{Stands}
 use Rattle.walk.specs.Numbers.{load}
@@ -23,49 +23,37 @@ use Rattle.walk.specs.Item.{More, rest, itemSize, itemWork, itemGain, it
 
 pub size-item : (b : Body) → More b → size b ≡ itemSize b + size (rest b)
 size-item done h = absurd h
-size-item (spend v r) h = omega arith
-size-item (sync r) h = omega arith
-size-item (call j g r) h = omega arith
-size-item (spawn j g r) h = omega arith
+size-item (leaf l r) h = omega arith
+size-item (child w j g r) h = omega arith
 
 pub size-some : (b : Body) → 1 ≤ size b
 size-some done = omega arith
-size-some (spend v r) = omega arith
-size-some (sync r) = omega arith
-size-some (call j g r) = omega arith
-size-some (spawn j g r) = omega arith
+size-some (leaf l r) = omega arith
+size-some (child w j g r) = omega arith
 
 pub item-some : (b : Body) → More b → 1 ≤ itemSize b
 item-some done h = absurd h
-item-some (spend v r) h = omega arith
-item-some (sync r) h = omega arith
-item-some (call j g r) h = omega arith
-item-some (spawn j g r) h = omega arith
+item-some (leaf l r) h = omega arith
+item-some (child w j g r) h = omega arith
 
 pub work-item : (b : Body) → workOf b ≡ itemWork b + workOf (rest b)
 work-item done = refl
-work-item (spend v r) = refl
-work-item (sync r) = omega arith
-work-item (call j g r) = refl
-work-item (spawn j g r) = refl
+work-item (leaf l r) = refl
+work-item (child w j g r) = refl
 
 pub gain-item : (b : Body) (s i : ℕ) → gain s b i ≡ itemGain s b i + gain s (rest b) i
 gain-item done s i = refl
-gain-item (spend v r) s i = refl
-gain-item (sync r) s i = omega arith
-gain-item (call j g r) s i = omega arith
-gain-item (spawn j g r) s i = omega arith
+gain-item (leaf l r) s i = refl
+gain-item (child w j g r) s i = omega arith
 
 -- the line behind an item of one line and z more
 behind : (n z : ℕ) → n + (1 + z) ≡ suc n + z
 behind n z = omega arith
 
-pub run-item : (b : Body) (n s : ℕ) (k : Chains) → More b → run n s k b ≡ run (n + itemSize b) s (itemChains n s b k) (rest b)
+pub run-item : (b : Body) (n s : ℕ) (k : Chains) → More b → run n s b k ≡ run (n + itemSize b) s (rest b) (itemChains n s b k)
 run-item done n s k h = absurd h
-run-item (spend v r) n s k h = ap (λ (m : ℕ). run m s (spent (costAt n s v) k) r) (sym (add-one n))
-run-item (sync r) n s k h = ap (λ (m : ℕ). run m s (joined k) r) (sym (add-one n))
-run-item (call j g r) n s k h = rw (behind n (size g), add-one n)
-run-item (spawn j g r) n s k h = rw (behind n (size g), add-one n)
+run-item (leaf l r) n s k h = ap (λ (m : ℕ). run m s r (leafChains n s l k)) (sym (add-one n))
+run-item (child w j g r) n s k h = rw (behind n (size g), add-one n)
 
 choose-le : (l c : List CostLine) → weight (choose l c) ≤ weight l + weight c
 choose-le l c = go (choose-cases l c)
@@ -84,24 +72,29 @@ spawn-load k g = go (ltb (weight (k .l)) (weight (k .c) + weight g))
     go true = omega (arith, weight-append (k .p) (k .c))
     go false = omega arith
 
--- a chain weighs at most what the chains so far weigh and what is left to be spent
-pub run-le : (b : Body) (n s : ℕ) (k : Chains) → weight (run n s k b) ≤ load k + workOf b
-run-le done n s k = omega (arith, join-load k)
-run-le (spend v r) n s k = omega (arith, run-le r (suc n) s (spent (costAt n s v) k), weight-append (k .c) (costAt n s v ∷ []))
-run-le (sync r) n s k = omega (arith, run-le r (suc n) s (joined k), join-load k)
-run-le (call j g r) n s k =
-    let c = run (suc n) j nothing g in
-    omega (arith, run-le r (suc n + size g) s (called c k), weight-append (k .c) c, run-le g (suc n) j nothing)
-run-le (spawn j g r) n s k =
-    let c = run (suc n) j nothing g in
-    omega (arith, run-le r (suc n + size g) s (spawned c k), spawn-load k c, run-le g (suc n) j nothing)
+leaf-load : (l : Leaf) (n s : ℕ) (k : Chains) → load (leafChains n s l k) ≤ load k + leafWork l
+leaf-load (spend v) n s k = omega (arith, weight-append (k .c) (costAt n s v ∷ []))
+leaf-load sync n s k = omega (arith, join-load k)
+
+child-load : (w : Way) (f : Chains → Chains) (k : Chains) → load (childChains w f k) ≤ load k + load (f nothing)
+child-load call f k = omega (arith, weight-append (k .c) (ended f), join-load (f nothing))
+child-load spawn f k = omega (arith, spawn-load k (ended f), join-load (f nothing))
+
+-- chains weigh at most what they weighed and what was spent
+run-load : (b : Body) (n s : ℕ) (k : Chains) → load (run n s b k) ≤ load k + workOf b
+run-load done n s k = omega arith
+run-load (leaf l r) n s k = omega (arith, run-load r (suc n) s (leafChains n s l k), leaf-load l n s k)
+run-load (child w j g r) n s k =
+    let f = run (suc n) j g in
+    omega (arith, run-load r (suc n + size g) s (childChains w f k), child-load w f k, run-load g (suc n) j nothing)
+
+pub chain-le : (b : Body) (n s : ℕ) → weight (chainOf n s b) ≤ workOf b
+chain-le b n s = omega (arith, join-load (run n s b nothing), run-load b n s nothing)
 
 pub load-item : (b : Body) (n s : ℕ) (k : Chains) → load (itemChains n s b k) ≤ load k + itemWork b
 load-item done n s k = omega arith
-load-item (spend v r) n s k = omega (arith, weight-append (k .c) (costAt n s v ∷ []))
-load-item (sync r) n s k = omega (arith, join-load k)
-load-item (call j g r) n s k = omega (arith, weight-append (k .c) (run (n + 1) j nothing g), run-le g (n + 1) j nothing)
-load-item (spawn j g r) n s k = omega (arith, spawn-load k (run (n + 1) j nothing g), run-le g (n + 1) j nothing)
+load-item (leaf l r) n s k = leaf-load l n s k
+load-item (child w j g r) n s k = omega (arith, child-load w (run (n + 1) j g) k, run-load g (n + 1) j nothing)
 
 -- lines that stand one behind the other
 pub stands-left : (s : List ℕ) (u v : List Frame) (n : ℕ) → Stands s n (u ++ v) → Stands s n u
@@ -121,14 +114,10 @@ past-child s g r n h =
 
 pub stands-rest : (s : List ℕ) (b : Body) (n : ℕ) → More b → Stands s n (linesOf b) → Stands s (n + itemSize b) (linesOf (rest b))
 stands-rest s done n m h = absurd m
-stands-rest s (spend v r) n m h = h .1
-stands-rest s (sync r) n m h = h .1
-stands-rest s (call j g r) n m h = past-child s g r n (h .1)
-stands-rest s (spawn j g r) n m h = past-child s g r n (h .1)
+stands-rest s (leaf l r) n m h = h .1
+stands-rest s (child w j g r) n m h = past-child s g r n (h .1)
 
 pub within-rest : (m D d : ℕ) (b : Body) → Within m D d b → Within m D d (rest b)
 within-rest m D d done h = tt
-within-rest m D d (spend v r) h = h .2
-within-rest m D d (sync r) h = h
-within-rest m D d (call j g r) h = h .4
-within-rest m D d (spawn j g r) h = h .4
+within-rest m D d (leaf l r) h = h .1
+within-rest m D d (child w j g r) h = h .4

@@ -1,17 +1,14 @@
 -- The numbers of an open invocation follow its chains.
-use mathlib.Core.Path.{_≡_, refl, ap, _∙_, sym}
-use mathlib.Core.Logic.{_⊎_, inl, inr}
+use mathlib.Core.Path.{_≡_, refl, _∙_, sym}
 use mathlib.Core.Bool.{Bool, true, false, cond}
 use mathlib.Core.List.{List, [], _∷_, _++_}
-use Prim.Native.Nat.{ℕ, _+_, _≤_, _<_}
+use Prim.Native.Nat.{ℕ, _+_}
 use native.Mathlib.Omega.{arith}
 use lib.Dec.{ltb}
-use borrow.Author.Tests.{lt-ltb, le-ltb}
-use Rattle.chain.specs.Plan.{CostLine, weight, choose}
+use Rattle.chain.specs.Plan.{CostLine, weight}
 use Rattle.chain.proofs.Lists.{weight-append}
-use Rattle.chain.proofs.Choose.{choose-cases}
-use Rattle.trace.specs.Tree.{larger}
 use Rattle.trace.specs.Fold.{costAt, Chains, spent, joined, called, spawned}
+use Rattle.trace.proofs.Recurrence.{weight-joined}
 use Rattle.walk.specs.declared.Open.{Open}
 use Rattle.walk.specs.Numbers.{numbers, spentN, joinedN, calledN, spawnedN}
 
@@ -20,15 +17,8 @@ spent-numbers n w s v k =
     let e : weight (k .c) + v ≡ weight (k .c ++ costAt n s v ∷ []) = omega (arith, weight-append (k .c) (costAt n s v ∷ [])) in
     rw e
 
-choose-weighs : (l c : List CostLine) → weight (choose l c) ≡ larger (weight l) (weight c)
-choose-weighs l c = go (choose-cases l c)
-  where
-    go : ((weight l < weight c) × (choose l c ≡ c)) ⊎ ((weight c ≤ weight l) × (choose l c ≡ l)) → weight (choose l c) ≡ larger (weight l) (weight c)
-    go (inl k) = simp (lt-ltb _ _ (k .0)) (ap weight (k .1))
-    go (inr k) = simp (le-ltb _ _ (k .0)) (ap weight (k .1))
-
 pub joined-numbers : (n w : ℕ) (k : Chains) → joinedN (numbers n w k) ≡ numbers (n + 1) w (joined k)
-joined-numbers n w k = rw (weight-append (k .p) (choose (k .l) (k .c)), choose-weighs (k .l) (k .c))
+joined-numbers n w k = rw (weight-joined k)
 
 pub called-numbers : (n w : ℕ) (k : Chains) (c : Open) (g : List CostLine) → weight g ≡ c .prefix → calledN c (numbers n w k) ≡ numbers (c .at) (w + c .work) (called g k)
 called-numbers n w k c g e = rw (weight-append (k .c) g, e)

@@ -5,7 +5,7 @@ use Prim.Native.Nat.{ℕ, _+_, _*_, _^_, _≤_, _<_}
 use native.Mathlib.Decide.{decLt}
 use native.Mathlib.Omega.{arith}
 use lib.ListN.{length, getD, List·getD-eq-default}
-use Rattle.chain.specs.Plan.{CostLine, weight}
+use Rattle.chain.specs.Plan.{weight}
 use Rattle.trace.specs.Rows.{columns}
 use Rattle.trace.specs.Tree.{Body, done, linesOf, size, Within, workOf}
 use Rattle.trace.specs.Fold.{Chains, nothing, joined, run}
@@ -14,7 +14,7 @@ use Rattle.walk.specs.Stands.{Stands}
 use Rattle.walk.specs.Numbers.{numbers, load}
 use Rattle.walk.specs.Gain.{gain}
 use Rattle.walk.specs.Item.{More, rest, itemSize, itemWork, itemGain, itemChains}
-use Rattle.walk.specs.Reader.{Ready, ItemDone, alone, BodyDone, Turn}
+use Rattle.walk.specs.Reader.{Ready, ItemDone, BodyDone, Turn}
 use Rattle.walk.proofs.Items.{size-item, item-some, work-item, gain-item, run-item, load-item, stands-rest, within-rest}
 
 -- what the numbers of f are, where they are those of chains
@@ -59,7 +59,7 @@ module _ (s : List ℕ) (row m deep : ℕ) (f : Open) (rows : List ℕ) (r : Rea
 
 module _ (s : List ℕ) (n row : ℕ) (rows₀ : List ℕ) (b : Body) where
   pub turn-start : Stands s n (linesOf b) → Turn s n row rows₀ b (numbers n 0 nothing) rows₀ b nothing
-  turn-start h = record { stands = h; weighs = refl; same-end = refl; same-work = omega arith; same-chain = refl; same-rows = λ i l. refl }
+  turn-start h = record { stands = h; weighs = refl; same-end = refl; same-work = omega arith; same-chains = refl; same-rows = λ i l. refl }
 
   module _ (f : Open) (rows : List ℕ) (l : Body) (k : Chains) (u : Turn s n row rows₀ b f rows l k) (len : length rows ≡ length rows₀) where
     pub turn-again : (f′ : Open) (rows′ : List ℕ) → More l → ItemDone row f rows l k f′ rows′ → Turn s n row rows₀ b f′ rows′ (rest l) (itemChains (f .at) row l k)
@@ -70,17 +70,17 @@ module _ (s : List ℕ) (n row : ℕ) (rows₀ : List ℕ) (b : Body) where
           weighs = own-numbers f′ (f .at + itemSize l) (f .work + itemWork l) (itemChains (f .at) row l k) (h .numbers-are);
           same-end = omega (arith, at, size-item l more, u .same-end);
           same-work = omega (arith, ap (λ (x : Open). x .work) (h .numbers-are), work-item l, u .same-work);
-          same-chain = ap (λ (j : ℕ). run j row (itemChains (f .at) row l k) (rest l)) at ∙ sym (run-item l (f .at) row k more) ∙ u .same-chain;
+          same-chains = ap (λ (j : ℕ). run j row (rest l) (itemChains (f .at) row l k)) at ∙ sym (run-item l (f .at) row k more) ∙ u .same-chains;
           same-rows = λ i q. omega (arith, h .rows-are i (omega (arith, len)), gain-item l row i, u .same-rows i q);
         }
 
     -- at the return, where the chains are joined
     pub turn-done : (r : Open) → l ≡ done → r ≡ numbers (f .at + 1) (f .work) (joined k) → BodyDone n row rows₀ b r rows
     turn-done r e h =
-        let c : run (f .at) row k l ≡ joined k .p = ap (run (f .at) row k) e in
+        let c : run (f .at) row l k ≡ k = ap (λ (x : Body). run (f .at) row x k) e in
         let at : f .at + 1 ≡ n + size b = omega (arith, u .same-end, ap size e) in
         let w : f .work ≡ workOf b = omega (arith, u .same-work, ap workOf e) in
         record {
-          numbers-are = h ∙ ap (λ (j : ℕ). numbers j (f .work) (joined k)) at ∙ ap (λ (x : ℕ). numbers (n + size b) x (joined k)) w ∙ ap (λ (x : List CostLine). numbers (n + size b) (workOf b) (alone x)) (sym c ∙ u .same-chain);
+          numbers-are = h ∙ ap (λ (j : ℕ). numbers j (f .work) (joined k)) at ∙ ap (λ (x : ℕ). numbers (n + size b) x (joined k)) w ∙ ap (λ (x : Chains). numbers (n + size b) (workOf b) (joined x)) (sym c ∙ u .same-chains);
           rows-are = λ i q. omega (arith, u .same-rows i q, ap (λ (x : Body). gain row x i) e);
         }

@@ -7,7 +7,7 @@ use mathlib.Core.List.{List}
 use lib.Dec.{eqb}
 use lib.ListN.{length, getD}
 use Rattle.trace.specs.Rows.{columns}
-use Rattle.trace.specs.Tree.{Body, done, spend, sync, call, spawn, workOf, spanOf}
+use Rattle.trace.specs.Tree.{leafWork, Body, done, leaf, child, workOf, spanOf}
 
 -- v where row number i is number j, else nothing
 abbrev pub one : ℕ → ℕ → ℕ → ℕ
@@ -24,10 +24,8 @@ made s g i = counted s (workOf g) (spanOf g) i
 -- s is the row of the invocation whose body is read
 abbrev pub gain : ℕ → Body → ℕ → ℕ
 gain s done i = 0
-gain s (spend v r) i = one (columns * s + 3) v i + gain s r i
-gain s (sync r) i = gain s r i
-gain s (call j g r) i = made j g i + (gain j g i + gain s r i)
-gain s (spawn j g r) i = made j g i + (gain j g i + gain s r i)
+gain s (leaf l r) i = one (columns * s + 3) (leafWork l) i + gain s r i
+gain s (child w j g r) i = made j g i + (gain j g i + gain s r i)
 
 -- the rows grew by g, number by number
 abbrev pub Grown : List ℕ → (ℕ → ℕ) → List ℕ → Type 0

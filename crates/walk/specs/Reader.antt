@@ -7,7 +7,7 @@ use lib.ListN.{length, getD}
 use Rattle.chain.specs.Plan.{CostLine}
 use Rattle.trace.specs.Rows.{columns}
 use Rattle.trace.specs.Tree.{Body, linesOf, size, Within, workOf}
-use Rattle.trace.specs.Fold.{Chains, nothing, run}
+use Rattle.trace.specs.Fold.{Chains, nothing, run, chainOf}
 use Rattle.walk.specs.declared.Open.{Open}
 use Rattle.walk.specs.Stands.{Stands}
 use Rattle.walk.specs.Numbers.{numbers}
@@ -41,7 +41,7 @@ alone c = record { p = c; l = []; c = [] }
 
 -- behind the whole body b, which begins at line n
 pub record BodyDone (n row : ℕ) (rows : List ℕ) (b : Body) (r : Open) (rows′ : List ℕ) : Type 0 where
-  pub numbers-are : r ≡ numbers (n + size b) (workOf b) (alone (run n row nothing b))
+  pub numbers-are : r ≡ numbers (n + size b) (workOf b) (alone (chainOf n row b))
   pub rows-are : (i : ℕ) → i < length rows → getD rows′ i 0 ≡ getD rows i 0 + gain row b i
 
 -- Inside the body b, which begins at line n: what is left of it, and that what b comes to is what this comes to from the chains k.
@@ -50,5 +50,5 @@ pub record Turn (s : List ℕ) (n row : ℕ) (rows₀ : List ℕ) (b : Body) (f 
   pub weighs : f ≡ numbers (f .at) (f .work) k
   pub same-end : f .at + size left ≡ n + size b
   pub same-work : f .work + workOf left ≡ workOf b
-  pub same-chain : run (f .at) row k left ≡ run n row nothing b
+  pub same-chains : run (f .at) row left k ≡ run n row b nothing
   pub same-rows : (i : ℕ) → i < length rows₀ → getD rows i 0 + gain row left i ≡ getD rows₀ i 0 + gain row b i
