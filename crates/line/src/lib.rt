@@ -1,15 +1,15 @@
 // A trace line: its place, its frame, its reader and its writer.
 ghost use mathlib.Core.Path.{_≡_};
 ghost use mathlib.Core.Bool.{cond};
-ghost use Prim.Native.Nat.{ℕ, _%_};
-ghost use lib.ListN.{length, getD, replicate};
+ghost use Prim.Native.Nat.{ℕ};
+ghost use lib.ListN.{length, replicate};
 ghost use Rattle.digits.specs.Digits.{allDigits};
 ghost use Rattle.digits.specs.Word.{plainly};
 ghost use Rattle.line.specs.Table.{only, table};
 ghost use Rattle.line.specs.declared.Wrote.the-variants.{Chars, Refused};
 ghost use Rattle.line.specs.Write.{chars, writeAnswer, writeChars};
-ghost use Rattle.line.specs.Read.{part, tabled, readLine, readAt};
-ghost use Rattle.line.specs.At.{kindAt, siteAt, valueAt};
+ghost use Rattle.line.specs.Read.{tabled, readLine, readAt};
+ghost use Rattle.line.specs.At.{wholeAt, kindIn, siteIn, valueIn, kindAt, siteAt, valueAt};
 ghost use Rattle.line.specs.declared.Sight.the-variants.{Seen, Other};
 ghost use Rattle.line.specs.Zeros.{allZero};
 ghost use Rattle.line.specs.Seeing.{glanced, around, isBare, isMade, isCost};
@@ -145,15 +145,23 @@ pub fn read_line(s: &[u8]) -> Read
     read_as(s, 0)
 }
 
+// The characters of line n of a text, none where it is not whole: the one place that cuts a line out of a text.
+fn line_at(text: &[u8], n: usize) -> &[u8]
+    ensures { λ r. ⌜ now r ≡ wholeAt (now (text .entry)) n ⌝ }
+{
+    if text.len() / 23 <= n {
+        return &text[0..0];
+    }
+    let a = 23 * n;
+    &text[a..a + 23]
+}
+
 // Line n of a text, read; refusal 2 where the text ends before it does.
 pub fn read_at(text: &[u8], n: usize) -> Read
     ensures { λ r. ⌜ r ≡ readAt (now (text .entry)) n ⌝ }
 {
-    if text.len() / 23 <= n {
-        return Read::Refused(2, 0);
-    }
-    let a = 23 * n;
-    read_as(&text[a..a + 23], n)
+    let s = line_at(text, n);
+    read_as(s, n)
 }
 
 // What is seen of a line at a glance: its frame, or that it has to be read whole, as a site line and a faulty one do.
@@ -216,7 +224,7 @@ fn four_plainly(s: &[u8]) -> u16
 // The kind of a line, by its second digit alone.
 fn kind_of(s: &[u8]) -> u8
     requires { ⌜ length (now s) ≡ 23 ⌝ }
-    ensures { λ r. ⌜ r ≡ getD (now (s .entry)) 1 0 % 16 ⌝ }
+    ensures { λ r. ⌜ r ≡ kindIn (now (s .entry)) ⌝ }
 {
     s[1] % 16
 }
@@ -224,7 +232,7 @@ fn kind_of(s: &[u8]) -> u8
 // Its site.
 fn site_of(s: &[u8]) -> u16
     requires { ⌜ length (now s) ≡ 23 ⌝ }
-    ensures { λ r. ⌜ r ≡ plainly (part (now (s .entry)) 2 4) ⌝ }
+    ensures { λ r. ⌜ r ≡ siteIn (now (s .entry)) ⌝ }
 {
     four_plainly(&s[2..6])
 }
@@ -232,7 +240,7 @@ fn site_of(s: &[u8]) -> u16
 // Its value.
 fn value_of(s: &[u8]) -> u32
     requires { ⌜ length (now s) ≡ 23 ⌝ }
-    ensures { λ r. ⌜ r ≡ plainly (part (now (s .entry)) 6 8) ⌝ }
+    ensures { λ r. ⌜ r ≡ valueIn (now (s .entry)) ⌝ }
 {
     eight_plainly(&s[6..14])
 }
@@ -315,44 +323,44 @@ fn glance_as(s: &[u8]) -> Sight
 pub fn glance(text: &[u8], n: usize) -> Sight
     ensures { λ r. ⌜ r ≡ glanced (readAt (now (text .entry)) n) ⌝ }
 {
-    if text.len() / 23 <= n {
+    let s = line_at(text, n);
+    if s.len() != 23 {
         return Sight::Other;
     }
-    let a = 23 * n;
-    glance_as(&text[a..a + 23])
+    glance_as(s)
 }
 
 // The kind of line n, without a look at the rest of it: for lines that are known to be accepted.
 pub fn kind_at(text: &[u8], n: usize) -> u8
     ensures { λ r. ⌜ r ≡ kindAt (now (text .entry)) n ⌝ }
 {
-    if text.len() / 23 <= n {
+    let s = line_at(text, n);
+    if s.len() != 23 {
         return 0;
     }
-    let a = 23 * n;
-    kind_of(&text[a..a + 23])
+    kind_of(s)
 }
 
 // The site of line n.
 pub fn site_at(text: &[u8], n: usize) -> u16
     ensures { λ r. ⌜ r ≡ siteAt (now (text .entry)) n ⌝ }
 {
-    if text.len() / 23 <= n {
+    let s = line_at(text, n);
+    if s.len() != 23 {
         return 0;
     }
-    let a = 23 * n;
-    site_of(&text[a..a + 23])
+    site_of(s)
 }
 
 // The value of line n.
 pub fn value_at(text: &[u8], n: usize) -> u32
     ensures { λ r. ⌜ r ≡ valueAt (now (text .entry)) n ⌝ }
 {
-    if text.len() / 23 <= n {
+    let s = line_at(text, n);
+    if s.len() != 23 {
         return 0;
     }
-    let a = 23 * n;
-    value_of(&text[a..a + 23])
+    value_of(s)
 }
 
 // The characters of five fields, where they are as the table has them, else refusal 6.
