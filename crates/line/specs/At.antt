@@ -6,22 +6,21 @@ use mathlib.Core.List.{List, []}
 use lib.ListN.{length, getD}
 use lib.Dec.{eqb}
 use Rattle.digits.specs.Word.{plainly}
-use Rattle.line.specs.Read.{part, lineAt}
+use Rattle.line.specs.Read.{width, sitePart, valuePart, lineAt}
 
 -- the characters of line n; none where it is not whole
 abbrev pub wholeAt : List ℕ → ℕ → List ℕ
-wholeAt s n = cond (eqb (length (lineAt s n)) 23) (lineAt s n) []
+wholeAt s n = cond (eqb (length (lineAt s n)) width) (lineAt s n) []
 
--- the kind in a line's characters, by its second digit alone: no kind is above 6; of none it is 0, as are the site and the value
+-- the kind in a line's characters, by its second digit alone: no kind is above 6; of no characters it is 0, as are the site and the value
 abbrev pub kindIn : List ℕ → ℕ
 kindIn l = getD l 1 0 % 16
 
--- "site (4), value (8)"
 abbrev pub siteIn : List ℕ → ℕ
-siteIn l = plainly (part l 2 4)
+siteIn l = plainly (sitePart l)
 
 abbrev pub valueIn : List ℕ → ℕ
-valueIn l = plainly (part l 6 8)
+valueIn l = plainly (valuePart l)
 
 -- those of line n
 abbrev pub kindAt : List ℕ → ℕ → ℕ
