@@ -250,7 +250,7 @@ fn lines(trace: &[u8], depth: usize, sites: usize) -> Verdict
     requires { ⌜ Limits depth sites (now trace) ⌝ }
     ensures { λ r. ⌜ r ≡ answerOf (scan depth sites [] (reads (now (trace .entry)))) ⌝ }
 {
-    let count = trace.len() / 23;
+    let count = trace.len() / line::LINE;
     let mut keys = [0u64; 256];
     let mut tags = [0u16; 256];
     let mut tally = Tally {
@@ -284,10 +284,10 @@ pub fn opening(bytes: usize, depth: usize, sites: usize) -> u8
     if 255 < sites {
         return 1;
     }
-    if bytes % 23 != 0 {
+    if bytes % line::LINE != 0 {
         return 2;
     }
-    if 65536 < bytes / 23 {
+    if 65536 < bytes / line::LINE {
         return 3;
     }
     0
@@ -339,7 +339,7 @@ pub fn for_marks(
     if rows < rows_room(sites) {
         return Verdict::Refused(4, 0);
     }
-    if marks < trace.len() / 23 {
+    if marks < trace.len() / line::LINE {
         return Verdict::Refused(4, 0);
     }
     lines(trace, depth, sites)

@@ -9,14 +9,14 @@ use borrow.Author.Tests.{eq-eqb, ne-eqb, not-false}
 use lib.Dec.{eqb}
 use lib.ListN.{length, getD, take, drop, length-take, length-drop}
 use lib.Seq.{length-take-le, take-add, drop-drop}
-use Rattle.digits.specs.Digits.{allDigits}
+use Rattle.digits.specs.Digits.{allDigits, number}
 use Rattle.digits.specs.Read.{reading}
 use Rattle.digits.specs.declared.read.Numeral.{Numeral}
 use Rattle.digits.proofs.Laws.{all-append, and-left, and-right}
 use Rattle.digits.proofs.Reading.{reading-tells, reading-value, reading-below}
 use Rattle.line.specs.declared.Read.the-variants.{Refused}
 use Rattle.line.specs.Table.{Fields, table}
-use Rattle.line.specs.Read.{part, field, fields, wrong, tabled, readLine, lineAt}
+use Rattle.line.specs.Read.{part, fields, wrong, tabled, readLine, lineAt}
 
 -- readLine by cases
 module _ (s : List ℕ) (n : ℕ) where
@@ -82,8 +82,8 @@ module _ (s : List ℕ) (from size : ℕ) (h : from + size ≤ length s) (short 
   pub numeral-good : x .good ≡ allDigits (part s from size)
   numeral-good = ap (λ (y : Numeral). y .good) e ∙ reading-tells (part s from size) room
 
-  pub numeral-value : x .good ≡ true → x .value ≡ field s from size
-  numeral-value g = ap (λ (y : Numeral). y .value) e ∙ reading-value (part s from size) room ∙ ap (λ (b : Bool). cond b (field s from size) 0) (sym numeral-good ∙ g)
+  pub numeral-value : x .good ≡ true → x .value ≡ number (part s from size)
+  numeral-value g = ap (λ (y : Numeral). y .value) e ∙ reading-value (part s from size) room ∙ ap (λ (b : Bool). cond b (number (part s from size)) 0) (sym numeral-good ∙ g)
 
   pub numeral-below : x .value < 16 ^ size
   numeral-below =

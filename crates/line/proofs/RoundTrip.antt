@@ -15,7 +15,7 @@ use Rattle.line.specs.declared.Frame.{Frame}
 use Rattle.line.specs.declared.Frame.the-variants.{Site, Call, Spawn, Sync, Return, Cost}
 use Rattle.line.specs.declared.Read.the-variants.{Line}
 use Rattle.line.specs.Table.{Fields, Entry, frame, none, only, table, fieldsOf}
-use Rattle.line.specs.Read.{part, field, fields, wrong, tabled, readLine}
+use Rattle.line.specs.Read.{part, fields, wrong, tabled, readLine}
 use Rattle.line.specs.Write.{chars, narrow, isFrame, writable, writeChars}
 use Rattle.line.proofs.Lines.{part-length, parts, all-parts, read-tabled}
 use Rattle.line.proofs.Cases.{frames}
@@ -199,11 +199,11 @@ module _ (s : List ℕ) (h : length s ≡ 23) (w : wrong s ≡ false) where
     size-is : length (part s from size) ≡ size
     size-is = part-length s from size (omega arith)
 
-    part-below : field s from size < 16 ^ size
+    part-below : number (part s from size) < 16 ^ size
     part-below = let p = ap (λ (n : ℕ). 16 ^ n) size-is in omega (arith, number-below (part s from size) d)
 
-    part-digits : digits size (field s from size) ≡ part s from size
-    part-digits = ap (λ (n : ℕ). digits n (field s from size)) (sym size-is) ∙ number-digits (part s from size) d
+    part-digits : digits size (number (part s from size)) ≡ part s from size
+    part-digits = ap (λ (n : ℕ). digits n (number (part s from size))) (sym size-is) ∙ number-digits (part s from size) d
 
   pub fields-narrow : Narrow (fields s)
   fields-narrow =

@@ -1,24 +1,33 @@
--- For proofs, not for the reader of document 01: the kind, the site and the value of one line of a text, each by itself, without a look at the rest of the
--- line. Each character is taken for a digit, which on an accepted line it is.
+-- For proofs, not for the reader of document 01: one line of a text, and its kind, its site and its value, each by itself, without a look at the rest of
+-- the line. Each character is taken for a digit, which on an accepted line it is.
 use Prim.Native.Nat.{ℕ, _%_}
 use mathlib.Core.Bool.{cond}
-use mathlib.Core.List.{List}
+use mathlib.Core.List.{List, []}
 use lib.ListN.{length, getD}
 use lib.Dec.{eqb}
 use Rattle.digits.specs.Word.{plainly}
-use Rattle.line.specs.Read.{part, lineAt}
+use Rattle.line.specs.Read.{width, sitePart, valuePart, lineAt}
 
--- x of line n; 0 where it is not whole
-abbrev pub ofWhole : List ℕ → ℕ → ℕ → ℕ
-ofWhole s n x = cond (eqb (length (lineAt s n)) 23) x 0
+-- the characters of line n; none where it is not whole
+abbrev pub wholeAt : List ℕ → ℕ → List ℕ
+wholeAt s n = cond (eqb (length (lineAt s n)) width) (lineAt s n) []
 
--- the kind, by its second digit alone: no kind is above 6
+-- the kind in a line's characters, by its second digit alone: no kind is above 6; of no characters it is 0, as are the site and the value
+abbrev pub kindIn : List ℕ → ℕ
+kindIn l = getD l 1 0 % 16
+
+abbrev pub siteIn : List ℕ → ℕ
+siteIn l = plainly (sitePart l)
+
+abbrev pub valueIn : List ℕ → ℕ
+valueIn l = plainly (valuePart l)
+
+-- those of line n
 abbrev pub kindAt : List ℕ → ℕ → ℕ
-kindAt s n = ofWhole s n (getD (lineAt s n) 1 0 % 16)
+kindAt s n = kindIn (wholeAt s n)
 
--- "site (4), value (8)"
 abbrev pub siteAt : List ℕ → ℕ → ℕ
-siteAt s n = ofWhole s n (plainly (part (lineAt s n) 2 4))
+siteAt s n = siteIn (wholeAt s n)
 
 abbrev pub valueAt : List ℕ → ℕ → ℕ
-valueAt s n = ofWhole s n (plainly (part (lineAt s n) 6 8))
+valueAt s n = valueIn (wholeAt s n)

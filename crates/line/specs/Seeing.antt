@@ -11,7 +11,7 @@ use Rattle.line.specs.declared.Read.{Read}
 use Rattle.line.specs.declared.Read.the-variants.{Line, Refused}
 use Rattle.line.specs.declared.Sight.{Sight}
 use Rattle.line.specs.declared.Sight.the-variants.{Seen, Other}
-use Rattle.line.specs.Read.{part}
+use Rattle.line.specs.Read.{part, end, sitePart, valuePart}
 use Rattle.line.specs.Zeros.{allZero}
 
 -- a frame that is no site line is seen
@@ -28,16 +28,20 @@ abbrev pub glanced : Read → Sight
 glanced (Refused number line) = Other
 glanced (Line n f) = seenOf f
 
+-- file and column
+abbrev pub placePart : List ℕ → List ℕ
+placePart s = part s 14 8
+
 -- what every kind but a site line has around its site and its value
 abbrev pub around : List ℕ → Bool
-around s = eqb (getD s 0 0) 48 && allZero (part s 14 8) && eqb (getD s 22 0) 10
+around s = eqb (getD s 0 0) 48 && allZero (placePart s) && eqb (getD s end 0) 10
 
 -- a sync or a return, a call or a spawn, and a cost
 abbrev pub isBare : List ℕ → Bool
-isBare s = around s && allZero (part s 2 4) && allZero (part s 6 8)
+isBare s = around s && allZero (sitePart s) && allZero (valuePart s)
 
 abbrev pub isMade : List ℕ → Bool
-isMade s = around s && allDigits (part s 2 4) && allZero (part s 6 8)
+isMade s = around s && allDigits (sitePart s) && allZero (valuePart s)
 
 abbrev pub isCost : List ℕ → Bool
-isCost s = around s && allZero (part s 2 4) && allDigits (part s 6 8) && not (allZero (part s 6 8))
+isCost s = around s && allZero (sitePart s) && allDigits (valuePart s) && not (allZero (valuePart s))

@@ -9,6 +9,7 @@ use Rattle.line.specs.declared.Frame.{Frame}
 use Rattle.line.specs.declared.Wrote.{Wrote}
 use Rattle.line.specs.declared.Wrote.the-variants.{Chars, Refused}
 use Rattle.line.specs.Table.{Fields, Entry, frame, none, table, fieldsOf}
+use Rattle.line.specs.Read.{width}
 
 -- "Fields, most significant digit first: kind (2 digits), site (4), value (8), file (4), column (4)", "then a line feed"
 abbrev pub chars : Fields → List ℕ
@@ -28,8 +29,8 @@ writable f = narrow (fieldsOf f) && isFrame (table (fieldsOf f))
 
 -- "gives 23 characters, or refusal 6 with line 0 where a field breaks the table"
 abbrev pub writeAnswer : Frame → Wrote
-writeAnswer f = cond (writable f) (Chars 23) (Refused 6 0)
+writeAnswer f = cond (writable f) (Chars width) (Refused 6 0)
 
 -- the characters that are given; zeros beside a refusal
 abbrev pub writeChars : Frame → List ℕ
-writeChars f = cond (writable f) (chars (fieldsOf f)) (replicate 23 0)
+writeChars f = cond (writable f) (chars (fieldsOf f)) (replicate width 0)

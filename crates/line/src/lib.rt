@@ -1,18 +1,32 @@
 // A trace line: its place, its frame, its reader and its writer.
 ghost use mathlib.Core.Path.{_≡_};
 ghost use mathlib.Core.Bool.{cond};
-ghost use Prim.Native.Nat.{ℕ, _%_};
-ghost use lib.ListN.{length, getD, replicate};
+ghost use Prim.Native.Nat.{ℕ};
+ghost use lib.ListN.{length, replicate};
 ghost use Rattle.digits.specs.Digits.{allDigits};
 ghost use Rattle.digits.specs.Word.{plainly};
 ghost use Rattle.line.specs.Table.{only, table};
 ghost use Rattle.line.specs.declared.Wrote.the-variants.{Chars, Refused};
 ghost use Rattle.line.specs.Write.{chars, writeAnswer, writeChars};
-ghost use Rattle.line.specs.Read.{part, tabled, readLine, readAt};
-ghost use Rattle.line.specs.At.{kindAt, siteAt, valueAt};
+ghost use Rattle.line.specs.Read.{width, tabled, readLine, readAt};
+ghost use Rattle.line.specs.At.{wholeAt, kindIn, siteIn, valueIn, kindAt, siteAt, valueAt};
 ghost use Rattle.line.specs.declared.Sight.the-variants.{Seen, Other};
 ghost use Rattle.line.specs.Zeros.{allZero};
 ghost use Rattle.line.specs.Seeing.{glanced, around, isBare, isMade, isCost};
+
+// "kind (2 digits), site (4), value (8), file (4), column (4)": where each begins after the kind, and where the line feed stands.
+const SITE: usize = 2;
+
+const VALUE: usize = SITE + 4;
+
+const FILE: usize = VALUE + 8;
+
+const COLUMN: usize = FILE + 4;
+
+const END: usize = COLUMN + 4;
+
+// The characters of a line.
+pub const LINE: usize = END + 1;
 
 // "A site line carries its place: file, line and column."
 pub struct Place {
@@ -46,7 +60,7 @@ pub enum Wrote {
 // What the line writer gives: its answer, and beside it the 23 characters (an enum cannot hold them).
 pub struct Written {
     pub answer: Wrote,
-    pub chars: [u8; 23],
+    pub chars: [u8; LINE],
 }
 
 // The frame where its fields are as the table has them, else refusal 6.
@@ -107,15 +121,15 @@ pub fn framed(kind: u32, site: u16, value: u32, file: u16, column: u16, n: usize
 
 // What 23 characters are as line n. Every digit is decoded before the one test of them all.
 fn read_whole(s: &[u8], n: usize) -> Read
-    requires { ⌜ length (now s) ≡ 23 ⌝ }
+    requires { ⌜ length (now s) ≡ width ⌝ }
     ensures { λ r. ⌜ r ≡ readLine (now (s .entry)) n ⌝ }
 {
-    let kind = digits::read::number(&s[0..2]);
-    let site = digits::read::number(&s[2..6]);
-    let value = digits::read::number(&s[6..14]);
-    let file = digits::read::number(&s[14..18]);
-    let column = digits::read::number(&s[18..22]);
-    if !(kind.good & site.good & value.good & file.good & column.good & (s[22] == b'\n')) {
+    let kind = digits::read::number(&s[0..SITE]);
+    let site = digits::read::number(&s[SITE..VALUE]);
+    let value = digits::read::number(&s[VALUE..FILE]);
+    let file = digits::read::number(&s[FILE..COLUMN]);
+    let column = digits::read::number(&s[COLUMN..END]);
+    if !(kind.good & site.good & value.good & file.good & column.good & (s[END] == b'\n')) {
         return Read::Refused(5, n);
     }
     framed(
@@ -132,7 +146,7 @@ fn read_whole(s: &[u8], n: usize) -> Read
 fn read_as(s: &[u8], n: usize) -> Read
     ensures { λ r. ⌜ r ≡ readLine (now (s .entry)) n ⌝ }
 {
-    if s.len() != 23 {
+    if s.len() != LINE {
         return Read::Refused(2, 0);
     }
     read_whole(s, n)
@@ -145,15 +159,23 @@ pub fn read_line(s: &[u8]) -> Read
     read_as(s, 0)
 }
 
+// The characters of line n of a text, none where it is not whole: the one place that cuts a line out of a text.
+fn line_at(text: &[u8], n: usize) -> &[u8]
+    ensures { λ r. ⌜ now r ≡ wholeAt (now (text .entry)) n ⌝ }
+{
+    if text.len() / LINE <= n {
+        return &text[0..0];
+    }
+    let a = LINE * n;
+    &text[a..a + LINE]
+}
+
 // Line n of a text, read; refusal 2 where the text ends before it does.
 pub fn read_at(text: &[u8], n: usize) -> Read
     ensures { λ r. ⌜ r ≡ readAt (now (text .entry)) n ⌝ }
 {
-    if text.len() / 23 <= n {
-        return Read::Refused(2, 0);
-    }
-    let a = 23 * n;
-    read_as(&text[a..a + 23], n)
+    let s = line_at(text, n);
+    read_as(s, n)
 }
 
 // What is seen of a line at a glance: its frame, or that it has to be read whole, as a site line and a faulty one do.
@@ -215,65 +237,65 @@ fn four_plainly(s: &[u8]) -> u16
 
 // The kind of a line, by its second digit alone.
 fn kind_of(s: &[u8]) -> u8
-    requires { ⌜ length (now s) ≡ 23 ⌝ }
-    ensures { λ r. ⌜ r ≡ getD (now (s .entry)) 1 0 % 16 ⌝ }
+    requires { ⌜ length (now s) ≡ width ⌝ }
+    ensures { λ r. ⌜ r ≡ kindIn (now (s .entry)) ⌝ }
 {
     s[1] % 16
 }
 
 // Its site.
 fn site_of(s: &[u8]) -> u16
-    requires { ⌜ length (now s) ≡ 23 ⌝ }
-    ensures { λ r. ⌜ r ≡ plainly (part (now (s .entry)) 2 4) ⌝ }
+    requires { ⌜ length (now s) ≡ width ⌝ }
+    ensures { λ r. ⌜ r ≡ siteIn (now (s .entry)) ⌝ }
 {
-    four_plainly(&s[2..6])
+    four_plainly(&s[SITE..VALUE])
 }
 
 // Its value.
 fn value_of(s: &[u8]) -> u32
-    requires { ⌜ length (now s) ≡ 23 ⌝ }
-    ensures { λ r. ⌜ r ≡ plainly (part (now (s .entry)) 6 8) ⌝ }
+    requires { ⌜ length (now s) ≡ width ⌝ }
+    ensures { λ r. ⌜ r ≡ valueIn (now (s .entry)) ⌝ }
 {
-    eight_plainly(&s[6..14])
+    eight_plainly(&s[VALUE..FILE])
 }
 
 // Whether a line has what every kind but a site line has around its site and its value: the digit 0, no file and no column, and a line feed.
 fn around(s: &[u8]) -> bool
-    requires { ⌜ length (now s) ≡ 23 ⌝ }
+    requires { ⌜ length (now s) ≡ width ⌝ }
     ensures { λ r. ⌜ r ≡ around (now (s .entry)) ⌝ }
 {
-    let rest = eight_zeros(&s[14..22]);
-    (s[0] == b'0') & rest & (s[22] == b'\n')
+    let rest = eight_zeros(&s[FILE..END]);
+    (s[0] == b'0') & rest & (s[END] == b'\n')
 }
 
 // Whether a line is right for a sync or a return, but for its kind: no site and no value.
 fn bare(s: &[u8]) -> bool
-    requires { ⌜ length (now s) ≡ 23 ⌝ }
+    requires { ⌜ length (now s) ≡ width ⌝ }
     ensures { λ r. ⌜ r ≡ isBare (now (s .entry)) ⌝ }
 {
-    let site = four_zeros(&s[2..6]);
-    let value = eight_zeros(&s[6..14]);
+    let site = four_zeros(&s[SITE..VALUE]);
+    let value = eight_zeros(&s[VALUE..FILE]);
     around(s) & site & value
 }
 
 // For a call or a spawn: a site and no value.
 fn made(s: &[u8]) -> bool
-    requires { ⌜ length (now s) ≡ 23 ⌝ }
+    requires { ⌜ length (now s) ≡ width ⌝ }
     ensures { λ r. ⌜ r ≡ isMade (now (s .entry)) ⌝ }
 {
-    let site = four_digits(&s[2..6]);
-    let value = eight_zeros(&s[6..14]);
+    let site = four_digits(&s[SITE..VALUE]);
+    let value = eight_zeros(&s[VALUE..FILE]);
     around(s) & site & value
 }
 
 // For a cost: no site, and a value of at least 1.
 fn cost(s: &[u8]) -> bool
-    requires { ⌜ length (now s) ≡ 23 ⌝ }
+    requires { ⌜ length (now s) ≡ width ⌝ }
     ensures { λ r. ⌜ r ≡ isCost (now (s .entry)) ⌝ }
 {
-    let site = four_zeros(&s[2..6]);
-    let none = eight_zeros(&s[6..14]);
-    let value = eight_digits(&s[6..14]);
+    let site = four_zeros(&s[SITE..VALUE]);
+    let none = eight_zeros(&s[VALUE..FILE]);
+    let value = eight_digits(&s[VALUE..FILE]);
     around(s) & site & value & !none
 }
 
@@ -289,7 +311,7 @@ fn seen(right: bool, frame: Frame) -> Sight
 
 // What is seen of a line's 23 characters.
 fn glance_as(s: &[u8]) -> Sight
-    requires { ⌜ length (now s) ≡ 23 ⌝ }
+    requires { ⌜ length (now s) ≡ width ⌝ }
     ensures { λ r. ⌜ ((n : ℕ) → r ≡ glanced (readLine (now (s .entry)) n)) ⌝ }
 {
     let kind = s[1];
@@ -315,64 +337,64 @@ fn glance_as(s: &[u8]) -> Sight
 pub fn glance(text: &[u8], n: usize) -> Sight
     ensures { λ r. ⌜ r ≡ glanced (readAt (now (text .entry)) n) ⌝ }
 {
-    if text.len() / 23 <= n {
+    let s = line_at(text, n);
+    if s.len() != LINE {
         return Sight::Other;
     }
-    let a = 23 * n;
-    glance_as(&text[a..a + 23])
+    glance_as(s)
 }
 
 // The kind of line n, without a look at the rest of it: for lines that are known to be accepted.
 pub fn kind_at(text: &[u8], n: usize) -> u8
     ensures { λ r. ⌜ r ≡ kindAt (now (text .entry)) n ⌝ }
 {
-    if text.len() / 23 <= n {
+    let s = line_at(text, n);
+    if s.len() != LINE {
         return 0;
     }
-    let a = 23 * n;
-    kind_of(&text[a..a + 23])
+    kind_of(s)
 }
 
 // The site of line n.
 pub fn site_at(text: &[u8], n: usize) -> u16
     ensures { λ r. ⌜ r ≡ siteAt (now (text .entry)) n ⌝ }
 {
-    if text.len() / 23 <= n {
+    let s = line_at(text, n);
+    if s.len() != LINE {
         return 0;
     }
-    let a = 23 * n;
-    site_of(&text[a..a + 23])
+    site_of(s)
 }
 
 // The value of line n.
 pub fn value_at(text: &[u8], n: usize) -> u32
     ensures { λ r. ⌜ r ≡ valueAt (now (text .entry)) n ⌝ }
 {
-    if text.len() / 23 <= n {
+    let s = line_at(text, n);
+    if s.len() != LINE {
         return 0;
     }
-    let a = 23 * n;
-    value_of(&text[a..a + 23])
+    value_of(s)
 }
 
 // The characters of five fields, where they are as the table has them, else refusal 6.
 fn put_fields(fit: bool, kind: u64, site: u16, value: u32, file: u16, column: u16) -> Written
-    ensures { λ r. ⌜ (r .answer ≡ cond fit (Chars 23) (Refused 6 0)) × (r .chars ≡ cond fit (chars (record { kind = kind; site = site; value = value; file = file; column = column })) (replicate 23 0)) ⌝ }
+    ensures { λ r. ⌜ (r .answer ≡ cond fit (Chars width) (Refused 6 0)) × (r .chars ≡ cond fit (chars (record { kind = kind; site = site; value = value; file = file; column = column })) (replicate width 0)) ⌝ }
 {
     if !fit {
         return Written {
             answer: Wrote::Refused(6, 0),
-            chars: [0u8; 23],
+            chars: [0u8; LINE],
         };
     }
-    let mut chars = [b'\n'; 23];
-    digits::write::put_digits(&mut chars[0..2], kind);
-    digits::write::put_digits(&mut chars[2..6], site as u64);
-    digits::write::put_digits(&mut chars[6..14], value as u64);
-    digits::write::put_digits(&mut chars[14..18], file as u64);
-    digits::write::put_digits(&mut chars[18..22], column as u64);
+    let mut chars = [b'\n'; LINE];
+    digits::write::put_digits(&mut chars[0..SITE], kind);
+    digits::write::put_digits(&mut chars[SITE..VALUE], site as u64);
+    digits::write::put_digits(&mut chars[VALUE..FILE], value as u64);
+    digits::write::put_digits(&mut chars[FILE..COLUMN], file as u64);
+    digits::write::put_digits(&mut chars[COLUMN..END], column as u64);
     Written {
-        answer: Wrote::Chars(23),
+        answer: Wrote::Chars(LINE),
         chars,
     }
 }

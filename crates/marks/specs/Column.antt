@@ -6,6 +6,7 @@ use mathlib.Core.Bool.{cond}
 use mathlib.Core.List.{List, [], _∷_}
 use lib.Dec.{eqb}
 use lib.ListN.{length, getD, set}
+use Rattle.line.specs.Read.{width}
 use Rattle.trace.specs.Rows.{columns}
 use Rattle.trace.specs.Tree.{leafWork, Body, done, leaf, child, linesOf, size, Within}
 use Rattle.walk.specs.Stands.{Stands}
@@ -103,7 +104,7 @@ pub record OnLent (s : List ℕ) (n : ℕ) (k : List Left) (z : List ℕ) (a : P
   pub room : D ≤ length z
   pub held : Held z k a t
   pub rows-long : columns * (sites + 1) ≤ length rows
-  pub lines : length s ≤ 23 * length m
+  pub lines : length s ≤ width * length m
   pub fits : (j : ℕ) → j ≤ sites → getD rows (columns * j + 4) 0 + onLeft m n k (columns * j + 4) < 2 ^ 64
 
 -- a line: at least one invocation is open

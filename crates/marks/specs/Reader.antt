@@ -4,6 +4,7 @@ use Prim.Native.Nat.{ℕ, _+_, _*_, _≤_}
 use mathlib.Core.Path.{_≡_}
 use mathlib.Core.List.{List}
 use lib.ListN.{length}
+use Rattle.line.specs.Read.{width}
 use Rattle.line.specs.At.{kindAt}
 use Rattle.trace.specs.Tree.{Body, linesOf}
 use Rattle.trace.specs.Fold.{Chains, nothing, chainOf}
@@ -20,7 +21,7 @@ use Rattle.marks.specs.Park.{Zero}
 pub record Lent (s : List ℕ) (deep : ℕ) (z : Zones) (t m rows : List ℕ) : Type 0 where
   pub sites : ℕ
   pub ready : Ready s (z .row) sites deep (z .own) rows
-  pub lines : length s ≤ 23 * length m
+  pub lines : length s ≤ width * length m
   pub zero : Zero t
   pub room : 8 + deep * 8 ≤ length t
   pub n : ℕ

@@ -7,7 +7,7 @@ use lib.ListN.{length, getD}
 use Rattle.line.specs.declared.Read.{Read}
 use Rattle.line.specs.declared.Read.the-variants.{Line, Refused}
 use Rattle.line.specs.Table.{Fields, table, fieldsOf}
-use Rattle.line.specs.Read.{readLine}
+use Rattle.line.specs.Read.{width, readLine}
 use Rattle.line.specs.Write.{chars, narrow, isFrame}
 use Rattle.report.specs.Room.{Decision, write, refuse}
 
@@ -25,12 +25,12 @@ framed (Refused number line) = refuse number line
 
 -- "refusal 2 unless it is lent exactly 23 characters", 4 where the frame has no room for five numbers, "then 5, then 6, each with line 0; otherwise the frame"
 abbrev pub readFrame : List ℕ → ℕ → Decision
-readFrame s room = cond (eqb (length s) 23) (cond (ltb room 5) (refuse 4 0) (framed (readLine s 0))) (refuse 2 0)
+readFrame s room = cond (eqb (length s) width) (cond (ltb room 5) (refuse 4 0) (framed (readLine s 0))) (refuse 2 0)
 
 -- 4 where fewer than five numbers, less room than 23 characters or no room for their count are lent, then
 -- "23 characters, or refusal 6 with line 0 where a field breaks the table"
 abbrev pub writeFrame : List ℕ → ℕ → ℕ → Decision
 writeFrame n room written =
-    cond (ltb (length n) 5 || ltb room 23 || ltb written 1) (refuse 4 0)
+    cond (ltb (length n) 5 || ltb room width || ltb written 1) (refuse 4 0)
     (cond (narrow (fieldsIn n) && isFrame (table (fieldsIn n))) (write (chars (fieldsIn n)))
     (refuse 6 0))

@@ -67,7 +67,7 @@ fn fields_of(f: Frame) -> [u64; FIELDS]
 pub extern "C" fn nyo_read_line(line: &[u8], frame: &mut [u64]) -> u64
     ensures { λ r. ⌜ Gives (readFrame (now (line .entry)) (length (now (frame .entry)))) r (now (frame .entry)) (now (frame .exit)) ⌝ }
 {
-    if line.len() != 23 {
+    if line.len() != line::LINE {
         return 2;
     }
     if frame.len() < FIELDS {
@@ -128,7 +128,7 @@ pub extern "C" fn nyo_write_line(frame: &[u64], out: &mut [u8], written: &mut [u
     if frame.len() < FIELDS {
         return 4;
     }
-    if out.len() < 23 {
+    if out.len() < line::LINE {
         return 4;
     }
     if written.len() < 1 {

@@ -8,7 +8,7 @@ use Rattle.line.specs.declared.Place.{Place}
 use Rattle.line.specs.declared.Frame.{Frame}
 use Rattle.line.specs.declared.Read.{Read}
 use Rattle.line.specs.declared.Read.the-variants.{Line, Refused}
-use Rattle.line.specs.Read.{readAt}
+use Rattle.line.specs.Read.{width, readAt}
 use Rattle.trace.specs.Shape.{ifSite, ifMakes, openAt, sites}
 use Rattle.trace.specs.Rows.{calls, work, local, total}
 
@@ -18,11 +18,11 @@ outOfRange D M = not (leb 1 D && leb D 64 && leb M 255)
 
 -- 2: "length not a multiple of 23"
 abbrev pub broken : List ℕ → Bool
-broken s = not (eqb (length s % 23) 0)
+broken s = not (eqb (length s % width) 0)
 
 -- the number of lines of a text
 abbrev pub lineCount : List ℕ → ℕ
-lineCount s = length s / 23
+lineCount s = length s / width
 
 -- 3: "more than 65,536 lines"
 abbrev pub tooMany : List ℕ → Bool

@@ -6,7 +6,7 @@ use lib.ListN.{length}
 use Rattle.line.specs.declared.Frame.{Frame}
 use Rattle.line.specs.declared.Read.the-variants.{Line}
 use Rattle.line.specs.Table.{fieldsOf}
-use Rattle.line.specs.Read.{readAt}
+use Rattle.line.specs.Read.{width, readAt}
 
 -- the lines of s from line n on read as these frames
 abbrev pub Stands : List ℕ → ℕ → List Frame → Type 0
@@ -15,7 +15,7 @@ Stands s n (f ∷ l) = (readAt s n ≡ Line n f) × Stands s (n + 1) l
 
 -- line n of s is whole
 abbrev pub Whole : List ℕ → ℕ → Type 0
-Whole s n = 23 * n + 23 ≤ length s
+Whole s n = width * n + width ≤ length s
 
 -- r is what field p says of line n, whatever frame it reads as
 abbrev pub Says : (Frame → ℕ) → List ℕ → ℕ → ℕ → Type 0
