@@ -148,17 +148,25 @@ module _ {s : List ℕ} {kind row deep : ℕ} {f : Open} {t rows : List ℕ} {n 
         holds = holds-two n w part [] [] (lent-none (l .k) (l .weighs) (l .holds));
       }
 
-  -- the child's numbers are c, and it left the part y and the rows rows₁
-  module _ (c : Open) (y rows₁ : List ℕ) (ly : length y ≡ length part) (lr : length rows₁ ≡ length rows) (done : BodyLeaves s (f .at + 1) site part rows n w c y rows₁) where
+  -- the child has returned: its numbers are c, and it left the part y and the rows rows₁
+  pub record Back (c : Open) (y rows₁ : List ℕ) : Type 0 where
+    pub part-long : length y ≡ length part
+    pub rows-long : length rows₁ ≡ length rows
+    pub leaves : BodyLeaves s (f .at + 1) site part rows n w c y rows₁
+
+  module _ {c : Open} {y rows₁ : List ℕ} (u : Back c y rows₁) where
     abbrev back : List ℕ
     back = putMid o (length t - o) t y
 
+    pub back-long : length back ≡ length t
+    back-long = back-length o t y (u .part-long)
+
     left : BodyDone (f .at + 1) site rows (child .g) c rows₁ × Shows n w y (alone (run (f .at + 1) site nothing (child .g))) []
-    left = done (child .g) (child .stands) (lent-none (l .k) (l .weighs) (l .holds))
+    left = u .leaves (child .g) (child .stands) (lent-none (l .k) (l .weighs) (l .holds))
 
     -- it can be counted
     pub count-asks : (columns * site + 2 < length rows₁) × ((getD rows₁ (columns * site) 0 + 1 < 2 ^ 64) × ((getD rows₁ (columns * site + 1) 0 + c .work < 2 ^ 64) × (getD rows₁ (columns * site + 2) 0 + c .prefix < 2 ^ 64)))
-    count-asks = (count-room s row (l .m) deep f rows (l .ready) site child c rows₁ lr (left .0), count-fits s row (l .m) deep f rows (l .ready) site child c rows₁ lr (left .0))
+    count-asks = (count-room s row (l .m) deep f rows (l .ready) site child c rows₁ (u .rows-long) (left .0), count-fits s row (l .m) deep f rows (l .ready) site child c rows₁ (u .rows-long) (left .0))
 
     -- and its chain taken
     pub child-asks : Asks n w back f (c .prefix) × ((site < w) × ((5 * n ≤ length back) × (f .work + c .work < 2 ^ 64)))
@@ -168,7 +176,7 @@ module _ {s : List ℕ} {kind row deep : ℕ} {f : Open} {t rows : List ℕ} {n 
         let r = child-ready s row (l .m) deep f rows (l .ready) site child in (
           record {
             blocks = l .blocks;
-            room = omega (arith, own-room l, back-length o t y ly);
+            room = omega (arith, own-room l, back-long);
             k = l .k;
             g = g;
             weighs = l .weighs;
@@ -179,19 +187,19 @@ module _ {s : List ℕ} {kind row deep : ℕ} {f : Open} {t rows : List ℕ} {n 
           (
             omega (arith, r .row-in, l .wide),
             (
-              omega (arith, room-below, back-length o t y ly),
+              omega (arith, room-below, back-long),
               omega (arith, ap (λ (x : Open). x .work) (left .0 .numbers-are), child-work s row (l .m) deep f rows (l .ready) site child .0),
             ),
           ),
         )
 
     -- it was counted, and the step left r and the scratch t₂
-    module _ (rows₂ : List ℕ) (counts : Grown rows₁ (counted site (c .work) (c .prefix)) rows₂) (r : Open) (t₂ : List ℕ) where
+    module _ {rows₂ : List ℕ} (counts : Grown rows₁ (counted site (c .work) (c .prefix)) rows₂) (r : Open) (t₂ : List ℕ) where
       -- the child's body is g: its numbers and rows, and the scratch behind it
       behind : (k : Chains) (g : Body) → f ≡ numbers (f .at) (f .work) k → Stands s (f .at + 1) (linesOf g) → Holds n w t k [] → ChildDone f site rows g c rows₂ × Holds n w back k (run (f .at + 1) site nothing g)
       behind k g e st sh =
-          let d = done g st (lent-none k e sh) in (
-            child-done f site rows rows₁ rows₂ g c lr (d .0) counts,
+          let d = u .leaves g st (lent-none k e sh) in (
+            child-done f site rows rows₁ rows₂ g c (u .rows-long) (d .0) counts,
             child-back n w (l .blocks) t (own-room l) (f .longest) o (h .begins) k (run (f .at + 1) site nothing g) y (ap (λ (x : Open). x .longest) e) sh (d .1),
           )
 
