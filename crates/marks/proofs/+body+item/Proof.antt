@@ -233,17 +233,17 @@ module _ (t : ℕ) where
 
   -- what is known where a value was read
   at-value : (c : Item item-lts.After-value-at) → (
-    let a = item-start (value-test c) .args in Costs (a .trace .now) (a .deep) (a .z) (a .t .now) (a .marks .now) (a .rows .now) (a .kind) (c .value-at .result))
+      let a = item-start (value-test c) .args in Costs (a .trace .now) (a .deep) (a .z) (a .t .now) (a .marks .now) (a .rows .now) (a .kind) (c .value-at .result))
   at-value c = record { asks = item-start (value-test c) .pre .1; value-is = c .value-at .ensures; cost = c .before .if1 .taken }
 
   -- where a site was read
   at-site : (c : Item item-lts.After-site-at) → (
-    let a = child-start c .args in Calls (a .trace .now) (a .deep) (a .z) (a .t .now) (a .marks .now) (a .rows .now) (a .kind) (c .site-at .result))
+      let a = child-start c .args in Calls (a .trace .now) (a .deep) (a .z) (a .t .now) (a .marks .now) (a .rows .now) (a .kind) (c .site-at .result))
   at-site c = record { asks = child-start c .pre .1; site-is = c .site-at .ensures; no-cost = c .before .before .if1 .left; no-sync = c .before .if2 .left }
 
   -- where the invocation is stored
   at-store : (c : Item item-lts.After-store) → (
-    let a = child-start (store-site c) .args in Stored (a .z) (a .t .now) (c .store .last .0))
+      let a = child-start (store-site c) .args in Stored (a .z) (a .t .now) (c .store .last .0))
   at-store c = record { room = room (at-site (store-site c)); zero = child-start (store-site c) .pre .1 .lent .zero; is = c .store .ensures }
 
   -- where the child has returned
