@@ -146,12 +146,12 @@ module _ (n w : ℕ) (wn : w ≤ n) (t : List ℕ) where
       )
 
   -- a called child, wherever the tables are
-  pub called-done : (f : Open) (c : Open) (t′ : List ℕ) → Added (sinceAt n (f .longest)) (partAt n (f .longest)) w t t′ → Called n w t f c (calledN c f) t′
-  called-done f c t′ d = go (eqb (f .longest) 0) refl
+  pub called-done : (f : Open) (c : Open) (a b : ℕ) → a ≡ sinceAt n (f .longest) → b ≡ partAt n (f .longest) → (t′ : List ℕ) → Added a b w t t′ → (r : Open) → r ≡ calledN c f → Called n w t f c r t′
+  called-done f c a b ea eb t′ added r er = rw er (go (rw (ea, eb) at added) (eqb (f .longest) 0) refl)
     where
-      go : (b : Bool) → eqb (f .longest) 0 ≡ b → Called n w t f c (calledN c f) t′
-      go true q = let m = eqb-true (f .longest) 0 q in called-first f c t′ (rw (since-first n (f .longest) m, part-first n (f .longest) m) at d) m
-      go false q = let m = eqb-false (f .longest) 0 q in called-later f c t′ (rw (since-later n (f .longest) m, part-later n (f .longest) m) at d) m
+      go : Added (sinceAt n (f .longest)) (partAt n (f .longest)) w t t′ → (b : Bool) → eqb (f .longest) 0 ≡ b → Called n w t f c (calledN c f) t′
+      go d true q = let m = eqb-true (f .longest) 0 q in called-first f c t′ (rw (since-first n (f .longest) m, part-first n (f .longest) m) at d) m
+      go d false q = let m = eqb-false (f .longest) 0 q in called-later f c t′ (rw (since-later n (f .longest) m, part-later n (f .longest) m) at d) m
 
   -- no child was the longest before the spawned one: its table is in its place
   pub spawned-first : (f : Open) (c : Open) → f .longest ≡ 0 → Spawned n w t f c (spawnedN c f) t
@@ -253,15 +253,15 @@ module _ (n w : ℕ) (wn : w ≤ n) (t : List ℕ) where
       )
 
   -- a cost, wherever the continuation's table is
-  pub spent-done : (f : Open) (s v : ℕ) → s < w → 4 * n ≤ length t → Spent n w s v t f (spentN v f) (raised t (sinceAt n (f .longest)) s v)
-  spent-done f s v sw room = go (eqb (f .longest) 0) refl
+  pub spent-done : (f : Open) (s v : ℕ) → s < w → 4 * n ≤ length t → (a : ℕ) → a ≡ sinceAt n (f .longest) → (t′ : List ℕ) → t′ ≡ raised t a s v → (r : Open) → r ≡ spentN v f → Spent n w s v t f r t′
+  spent-done f s v sw room a ea t′ et r er = rw (er, et, ea) (go (eqb (f .longest) 0) refl)
     where
       go : (b : Bool) → eqb (f .longest) 0 ≡ b → Spent n w s v t f (spentN v f) (raised t (sinceAt n (f .longest)) s v)
       go true q = let m = eqb-true (f .longest) 0 q in rw (since-first n (f .longest) m) (spent-first f s v sw room m)
       go false q = let m = eqb-false (f .longest) 0 q in rw (since-later n (f .longest) m) (spent-later f s v sw room m)
 
 -- what a step may rely on
-module _ (n w : ℕ) (t : List ℕ) (f : Open) (v : ℕ) (r : Asks n w t f v) where
+module _ {n w : ℕ} {t : List ℕ} {f : Open} {v : ℕ} (r : Asks n w t f v) where
   -- the invocation's numbers and the child's fit together
   pub load-fits : f .prefix + (f .longest + f .since) + v < 2 ^ 64
   load-fits = omega (arith, r .fits, ap (λ (x : Open). x .prefix) (r .weighs), ap (λ (x : Open). x .longest) (r .weighs), ap (λ (x : Open). x .since) (r .weighs))

@@ -9,7 +9,7 @@ use Rattle.tables.proofs.join.Tie as tie
 joined-requires : tie.Need-joined-requires
 joined-requires c κs =
     let a = c .before .before .before in
-    (a .pre .1, omega (arith, load-fits (a .args .n) (a .args .w) (a .args .t .now) (a .args .f) 0 (a .pre .0)))
+    (a .pre .1, omega (arith, load-fits (a .pre .0)))
 
 returns : tie.Need-returns
 returns c =
@@ -32,7 +32,7 @@ clear-requires c κs = search needs
 joined-requires-2 : tie.Need-joined-requires-2
 joined-requires-2 c κs =
     let a = c .before .before .before .before .before .before .before .before .before .before .before .before .before in
-    (a .pre .1, omega (arith, load-fits (a .args .n) (a .args .w) (a .args .t .now) (a .args .f) 0 (a .pre .0)))
+    (a .pre .1, omega (arith, load-fits (a .pre .0)))
 
 same-length : tie.Need-same-length
 same-length c = search needs
@@ -55,7 +55,7 @@ clear-requires-2 c κs = search needs
 joined-requires-3 : tie.Need-joined-requires-3
 joined-requires-3 c κs =
     let a = c .before .before .before .before .before .before .before .before .before .before .before .before .before in
-    (a .pre .1, omega (arith, load-fits (a .args .n) (a .args .w) (a .args .t .now) (a .args .f) 0 (a .pre .0)))
+    (a .pre .1, omega (arith, load-fits (a .pre .0)))
 
 same-length-2 : tie.Need-same-length-2
 same-length-2 c = search needs

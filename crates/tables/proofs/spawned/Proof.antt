@@ -9,7 +9,7 @@ use Rattle.tables.proofs.spawned.Tie as tie
 spawned-requires : tie.Need-spawned-requires
 spawned-requires c κs =
     let a = c .before .before .before in
-    let h = load-fits (a .args .n) (a .args .w) (a .args .t .now) (a .args .f) (a .args .c .prefix) (a .pre .0) in
+    let h = load-fits (a .pre .0) in
     (a .pre .1 .1 .1, (omega (arith, h), omega (arith, h)))
 
 returns : tie.Need-returns
@@ -26,7 +26,7 @@ mul-g c = search needs
 add-if2 : tie.Need-add-if2
 add-if2 c =
     let a = c .before .before .before .before .before in
-    record { fits = omega (arith, load-fits (a .args .n) (a .args .w) (a .args .t .now) (a .args .f) (a .args .c .prefix) (a .pre .0)) }
+    record { fits = omega (arith, load-fits (a .pre .0)) }
 
 add-from-requires : tie.Need-add-from-requires
 add-from-requires c κs =
@@ -55,7 +55,7 @@ take-child-requires c κs =
 spawned-requires-2 : tie.Need-spawned-requires-2
 spawned-requires-2 c κs =
     let a = c .before .before .before .before .before .before .before .before .before .before .before .before .before .before .before .before .before .before .before in
-    let h = load-fits (a .args .n) (a .args .w) (a .args .t .now) (a .args .f) (a .args .c .prefix) (a .pre .0) in
+    let h = load-fits (a .pre .0) in
     (a .pre .1 .1 .1, (omega (arith, h), omega (arith, h)))
 
 same-length : tie.Need-same-length
@@ -76,7 +76,7 @@ clear-child-requires c κs =
 spawned-requires-3 : tie.Need-spawned-requires-3
 spawned-requires-3 c κs =
     let a = c .before .before .before .before .before .before .before .before .before .before .before in
-    let h = load-fits (a .args .n) (a .args .w) (a .args .t .now) (a .args .f) (a .args .c .prefix) (a .pre .0) in
+    let h = load-fits (a .pre .0) in
     (a .pre .1 .1 .1, (omega (arith, h), omega (arith, h)))
 
 same-length-2 : tie.Need-same-length-2
