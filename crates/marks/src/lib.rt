@@ -81,13 +81,14 @@ fn join(marks: &mut [u8], z: Zones) -> Zones
     let at = own.at;
     let child = z.child;
     let after = z.after;
+    let later = own.later_heavier();
     marks[at] = 0;
-    if own.longest < own.since {
+    if later {
         wipe_lines(marks, child, after);
-        return Zones::prefix(own.joined(), z.row);
+        return Zones::prefix(own.joined(later), z.row);
     }
     wipe_lines(marks, after, at);
-    Zones::prefix(own.joined(), z.row)
+    Zones::prefix(own.joined(later), z.row)
 }
 
 // A called child has returned: its zone is the continuation's.
@@ -118,11 +119,12 @@ fn spawned(marks: &mut [u8], z: Zones, c: walk::Open) -> Zones
     let to = c.at;
     let child = z.child;
     let after = z.after;
-    if own.longest < own.since + c.prefix {
+    let longer = own.child_longer(c);
+    if longer {
         marks[at] = 0;
         wipe_lines(marks, child, after);
         return Zones {
-            own: own.spawned(c),
+            own: own.spawned(c, longer),
             row: z.row,
             child: at,
             after: to,
@@ -130,7 +132,7 @@ fn spawned(marks: &mut [u8], z: Zones, c: walk::Open) -> Zones
     }
     wipe_lines(marks, at, to);
     Zones {
-        own: own.spawned(c),
+        own: own.spawned(c, longer),
         row: z.row,
         child,
         after,

@@ -7,7 +7,7 @@ ghost use lib.ListN.{length, getD, set, drop, replicate};
 ghost use Rattle.trace.specs.Rows.{columns};
 ghost use Rattle.trace.specs.Fold.{nothing};
 ghost use Rattle.walk.specs.Gain.{one, counted, Grown};
-ghost use Rattle.walk.specs.Numbers.{numbers, spentN, joinedN, calledN, spawnedN};
+ghost use Rattle.walk.specs.Numbers.{numbers, spentN, laterHeavier, joinedN, calledN, childLonger, spawnedN};
 
 // An open invocation: its next line, the work so far, and what its three chains weigh: up to the last join, the longest child's since, and
 // that since the spawn of this child.
@@ -47,12 +47,19 @@ impl Open {
         }
     }
 
-    // After a sync or the return: a join.
-    pub fn joined(self) -> Open
-        requires { ⌜ (self .at + 1 < 2 ^ 64) × (self .prefix + (self .longest + self .since) < 2 ^ 64) ⌝ }
-        ensures { λ r. ⌜ r ≡ joinedN self ⌝ }
+    // At a join: whether the continuation is heavier than the longest child.
+    pub fn later_heavier(self) -> bool
+        ensures { λ r. ⌜ r ≡ laterHeavier self ⌝ }
     {
-        if self.longest < self.since {
+        self.since > self.longest
+    }
+
+    // After a sync or the return, a join: the answer says whether the continuation is heavier.
+    pub fn joined(self, later: bool) -> Open
+        requires { ⌜ (self .at + 1 < 2 ^ 64) × (self .prefix + (self .longest + self .since) < 2 ^ 64) ⌝ }
+        ensures { λ r. ⌜ r ≡ joinedN later self ⌝ }
+    {
+        if later {
             return Open {
                 at: self.at + 1,
                 work: self.work,
@@ -84,12 +91,20 @@ impl Open {
         }
     }
 
-    // After a spawned child.
-    pub fn spawned(self, child: Open) -> Open
-        requires { ⌜ (self .work + child .work < 2 ^ 64) × ((self .since + child .prefix < 2 ^ 64) × (self .prefix + self .since < 2 ^ 64)) ⌝ }
-        ensures { λ r. ⌜ r ≡ spawnedN child self ⌝ }
+    // At a spawned child: whether the continuation up to it, with it, is longer than the longest child.
+    pub fn child_longer(self, child: Open) -> bool
+        requires { ⌜ self .since + child .prefix < 2 ^ 64 ⌝ }
+        ensures { λ r. ⌜ r ≡ childLonger child self ⌝ }
     {
-        if self.longest < self.since + child.prefix {
+        self.since + child.prefix > self.longest
+    }
+
+    // After a spawned child: the answer says whether it is longer.
+    pub fn spawned(self, child: Open, longer: bool) -> Open
+        requires { ⌜ (self .work + child .work < 2 ^ 64) × (self .prefix + self .since < 2 ^ 64) ⌝ }
+        ensures { λ r. ⌜ r ≡ spawnedN longer child self ⌝ }
+    {
+        if longer {
             return Open {
                 at: child.at,
                 work: self.work + child.work,
