@@ -6,18 +6,19 @@ use native.Mathlib.Nat.{suc-mul}
 use native.Mathlib.Omega.{arith}
 use lib.ListN.{length, take, drop, getD}
 use borrow.Rule.Slice.PartMut.{putMid}
-use Rattle.line.specs.At.{kindAt, siteAt, valueAt}
+use Rattle.line.specs.At.{kindAt, siteAt}
 use Rattle.trace.specs.Rows.{columns}
 use Rattle.trace.specs.Tree.{Body, spend, linesOf}
 use Rattle.trace.specs.Fold.{Chains, nothing, joined, called, spawned, run}
 use Rattle.walk.specs.declared.Open.{Open}
+use Rattle.walk.specs.Weight.{weightAt}
 use Rattle.walk.specs.Stands.{Stands, Says, kindOf, siteOf}
 use Rattle.walk.specs.Numbers.{numbers}
 use Rattle.walk.specs.Gain.{one, counted, Grown}
 use Rattle.walk.specs.Item.{itemChains}
 use Rattle.walk.specs.Reader.{ItemDone, alone, BodyDone}
 use Rattle.walk.proofs.Items.{size-some, run-le}
-use Rattle.walk.proofs.Says.{kind-says, site-says, value-says}
+use Rattle.walk.proofs.Says.{kind-says, site-says, weight-says}
 use Rattle.walk.proofs.Lines.{is-sync}
 use Rattle.walk.proofs.Reader.{load-is}
 use Rattle.walk.proofs.Child.{cost-is, call-is, spawn-is, Child, child-is, cost-fits, child-work, child-ready, count-room, count-fits, ChildDone, child-done}
@@ -65,13 +66,13 @@ module _ {s : List ℕ} {row deep : ℕ} {f : Open} {t rows : List ℕ} {n w : �
 -- the item is a cost of v
 pub record Costs (s : List ℕ) (kind row deep : ℕ) (f : Open) (t rows : List ℕ) (n w v : ℕ) : Type 0 where
   pub asks : ItemAsks s kind row deep f t rows n w
-  pub value-is : v ≡ valueAt s (f .at)
+  pub weight-is : v ≡ weightAt s (f .at)
   pub cost : kind ≡ 6
 
 module _ {s : List ℕ} {kind row deep : ℕ} {f : Open} {t rows : List ℕ} {n w v : ℕ} (h : Costs s kind row deep f t rows n w v) where
   -- whatever body stands here begins with it
   spend-is : (b : Body) → Stands s (f .at) (linesOf b) → (r : Body) × (b ≡ spend v r)
-  spend-is = cost-is s (f .at) kind (kind-says s (f .at) (f .at) kind refl (h .asks .kind-is)) v (value-says s (f .at) (f .at) v refl (h .value-is)) (h .cost)
+  spend-is = cost-is s (f .at) kind (kind-says s (f .at) (f .at) kind refl (h .asks .kind-is)) v (weight-says s (f .at) (f .at) v refl (h .weight-is)) (h .cost)
 
   -- it fits the rows, the work and the chains
   fit : ((columns * row + 3 < length rows) × (getD rows (columns * row + 3) 0 + v < 2 ^ 64)) × ((f .work + v < 2 ^ 64) × (f .prefix + (f .longest + f .since) + v < 2 ^ 64))

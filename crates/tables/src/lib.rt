@@ -195,7 +195,7 @@ fn item(
 {
     let at = f.at;
     if kind == 6 {
-        let v = line::value_at(trace, at) as u64;
+        let v = walk::weight_at(trace, at);
         walk::spend(rows, row, v);
         return spend(t, n, w, f, row, v);
     }

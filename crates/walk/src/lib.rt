@@ -1,4 +1,4 @@
-// What both engines share: an open invocation's numbers, and columns 1 to 4 of the rows.
+// What both engines share: an open invocation's numbers, what a cost line weighs, and columns 1 to 4 of the rows.
 use trace::COLUMNS;
 ghost use mathlib.Core.Path.{_≡_};
 ghost use Prim.Native.Nat.{_+_, _*_, _^_, _≤_, _<_};
@@ -6,6 +6,7 @@ ghost use mathlib.Core.List.{_++_};
 ghost use lib.ListN.{length, getD, set, drop, replicate};
 ghost use Rattle.trace.specs.Rows.{columns};
 ghost use Rattle.trace.specs.Fold.{nothing};
+ghost use Rattle.walk.specs.Weight.{weightAt};
 ghost use Rattle.walk.specs.Gain.{one, counted, Grown};
 ghost use Rattle.walk.specs.Numbers.{numbers, spentN, laterHeavier, joinedN, calledN, childLonger, spawnedN};
 
@@ -121,6 +122,13 @@ impl Open {
             since: self.since,
         }
     }
+}
+
+// What a cost line weighs.
+pub fn weight_at(trace: &[u8], at: usize) -> u64
+    ensures { λ r. ⌜ r ≡ weightAt (now (trace .entry)) at ⌝ }
+{
+    line::value_at(trace, at) as u64
 }
 
 // Adds to a number.

@@ -20,7 +20,6 @@ use Rattle.marks.proofs.item.Kinds as item-kinds
 use Rattle.marks.proofs.+body+item.Lts-item as item-lts
 use Rattle.line.proofs.kind_at.Reads as kind-at-reads
 use Rattle.line.proofs.site_at.Reads as site-at-reads
-use Rattle.line.proofs.value_at.Reads as value-at-reads
 use Rattle.marks.proofs.Zones.prefix.Reads as prefix-reads
 use Rattle.marks.proofs.called.Reads as called-reads
 use Rattle.marks.proofs.join.Reads as join-reads
@@ -31,6 +30,7 @@ use Rattle.marks.proofs.store.Reads as store-reads
 use Rattle.walk.proofs.Open.new.Reads as new-reads
 use Rattle.walk.proofs.count.Reads as count-reads
 use Rattle.walk.proofs.spend.Reads as spend-reads′
+use Rattle.walk.proofs.weight_at.Reads as weight-at-reads
 use Rattle.marks.proofs.+body+item.{statement}
 use Rattle.marks.proofs.+body+item.Tie.{close}
 
@@ -57,7 +57,7 @@ abbrev body-calls : ℕ → body-lts.Claims
 body-calls t = (new-reads.Asked, new-reads.Learnt, prefix-reads.Asked, prefix-reads.Learnt, kind-at-reads.Asked, kind-at-reads.Learnt, item-below t, item.Post, join-reads.Asked, join-reads.Learnt)
 
 abbrev item-calls : ℕ → item-lts.Claims
-item-calls t = (value-at-reads.Asked, value-at-reads.Learnt, spend-reads′.Asked, spend-reads′.Learnt, spend-reads.Asked, spend-reads.Learnt, join-reads.Asked, join-reads.Learnt, site-at-reads.Asked, site-at-reads.Learnt, store-reads.Asked, store-reads.Learnt, body-below t, body.Post, load-reads.Asked, load-reads.Learnt, count-reads.Asked, count-reads.Learnt, called-reads.Asked, called-reads.Learnt, spawned-reads.Asked, spawned-reads.Learnt)
+item-calls t = (weight-at-reads.Asked, weight-at-reads.Learnt, spend-reads′.Asked, spend-reads′.Learnt, spend-reads.Asked, spend-reads.Learnt, join-reads.Asked, join-reads.Learnt, site-at-reads.Asked, site-at-reads.Learnt, store-reads.Asked, store-reads.Learnt, body-below t, body.Post, load-reads.Asked, load-reads.Learnt, count-reads.Asked, count-reads.Learnt, called-reads.Asked, called-reads.Learnt, spawned-reads.Asked, spawned-reads.Learnt)
 
 abbrev body-Inv-loop : body-lts.InvT-loop
 body-Inv-loop trace from row deep t₀ marks₀ rows₀ z₀ kind₀ t marks rows z kind = Loop trace from row deep t₀ marks₀ rows₀ t marks rows z kind
@@ -164,11 +164,11 @@ module _ (t : ℕ) where
   abbrev item-start : Item item-lts.After-slice-known3 → Item item-lts.Start
   item-start c = c .before .before .before .before
 
-  abbrev value-test : Item item-lts.After-value-at → Item item-lts.After-slice-known3
-  value-test c = c .before .before
+  abbrev weight-test : Item item-lts.After-weight-at → Item item-lts.After-slice-known3
+  weight-test c = c .before .before
 
-  abbrev rows-value : Item item-lts.After-spend → Item item-lts.After-value-at
-  rows-value c = c .before .before
+  abbrev rows-weight : Item item-lts.After-spend → Item item-lts.After-weight-at
+  rows-weight c = c .before .before
 
   abbrev spend-rows : Item item-lts.After-spend-arg2 → Item item-lts.After-spend
   spend-rows c = c .before .before .before
@@ -231,10 +231,10 @@ module _ (t : ℕ) where
   abbrev body-rows : Item item-lts.After-body → List ℕ
   body-rows c = c .body .last .1 .1 .1 .1 .1 .1 .0
 
-  -- what is known where a value was read
-  at-value : (c : Item item-lts.After-value-at) → (
-      let a = item-start (value-test c) .args in Costs (a .trace .now) (a .deep) (a .z) (a .t .now) (a .marks .now) (a .rows .now) (a .kind) (c .value-at .result))
-  at-value c = record { asks = item-start (value-test c) .pre .1; value-is = c .value-at .ensures; cost = c .before .if1 .taken }
+  -- what is known where a weight was read
+  at-weight : (c : Item item-lts.After-weight-at) → (
+      let a = item-start (weight-test c) .args in Costs (a .trace .now) (a .deep) (a .z) (a .t .now) (a .marks .now) (a .rows .now) (a .kind) (c .weight-at .result))
+  at-weight c = record { asks = item-start (weight-test c) .pre .1; weight-is = c .weight-at .ensures; cost = c .before .if1 .taken }
 
   -- where a site was read
   at-site : (c : Item item-lts.After-site-at) → (
@@ -257,17 +257,14 @@ module _ (t : ℕ) where
   unloaded : (c : Item item-lts.After-load) → c .load .last .0 ≡ child-start (store-site (body-store (load-body (c .before)))) .args .t .now
   unloaded c = let b = load-body (c .before) in load-clear (at-store (body-store b)) (body-scratch b) (b .body .ensures .1) (c .load .last .0) (c .load .ensures .1)
 
-  item-value-at-requires : Item item-lts.Need-value-at-requires
-  item-value-at-requires c κs = search needs
-
-  item-cast-v : Item item-lts.Need-cast-v
-  item-cast-v c = search needs
+  item-weight-at-requires : Item item-lts.Need-weight-at-requires
+  item-weight-at-requires c κs = search needs
 
   item-spend-requires : Item item-lts.Need-spend-requires
-  item-spend-requires c κs = rows-asks (at-value (c .before))
+  item-spend-requires c κs = rows-asks (at-weight (c .before))
 
   item-spend-requires-2 : Item item-lts.Need-spend-requires-2
-  item-spend-requires-2 c κs = spend-asks (at-value (rows-value (spend-rows c)))
+  item-spend-requires-2 c κs = spend-asks (at-weight (rows-weight (spend-rows c)))
 
   item-same-length : Item item-lts.Need-same-length
   item-same-length c = search needs
@@ -279,7 +276,7 @@ module _ (t : ℕ) where
   item-returns c =
       let e = item-spend c in
       let r = spend-rows (e .before) in
-      (cost-leaves (at-value (rows-value r)) (e .spend2 .result) (e .spend2 .last .0) (r .spend .last .0) (r .spend .ensures) (e .spend2 .ensures), refl)
+      (cost-leaves (at-weight (rows-weight r)) (e .spend2 .result) (e .spend2 .last .0) (r .spend .last .0) (r .spend .ensures) (e .spend2 .ensures), refl)
 
   item-join-requires : Item item-lts.Need-join-requires
   item-join-requires c κs = join-asks (sync-start (join-test c) .pre .1 .lent)
@@ -407,8 +404,7 @@ pub +body+item-spec : {M : Type 1} → statement M
     λ t. item-lts.spec (item-calls t)
     (item-at t)
     item.Post
-    (item-value-at-requires t)
-    (item-cast-v t)
+    (item-weight-at-requires t)
     (item-spend-requires t)
     (item-spend-requires-2 t)
     (item-same-length t)

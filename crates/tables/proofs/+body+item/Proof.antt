@@ -17,7 +17,6 @@ use Rattle.tables.proofs.item.Kinds as item-kinds
 use Rattle.tables.proofs.+body+item.Lts-item as item-lts
 use Rattle.line.proofs.kind_at.Reads as kind-at-reads
 use Rattle.line.proofs.site_at.Reads as site-at-reads
-use Rattle.line.proofs.value_at.Reads as value-at-reads
 use Rattle.tables.proofs.called.Reads as called-reads
 use Rattle.tables.proofs.join.Reads as join-reads
 use Rattle.tables.proofs.part.Reads as part-reads
@@ -26,6 +25,7 @@ use Rattle.tables.proofs.spend.Reads as spend-reads
 use Rattle.walk.proofs.Open.new.Reads as new-reads
 use Rattle.walk.proofs.count.Reads as count-reads
 use Rattle.walk.proofs.spend.Reads as spend-reads′
+use Rattle.walk.proofs.weight_at.Reads as weight-at-reads
 use Rattle.tables.proofs.+body+item.{statement}
 use Rattle.tables.proofs.+body+item.Tie.{close}
 
@@ -52,7 +52,7 @@ abbrev body-calls : ℕ → body-lts.Claims
 body-calls t = (new-reads.Asked, new-reads.Learnt, kind-at-reads.Asked, kind-at-reads.Learnt, item-below t, item.Post, join-reads.Asked, join-reads.Learnt)
 
 abbrev item-calls : ℕ → item-lts.Claims
-item-calls t = (value-at-reads.Asked, value-at-reads.Learnt, spend-reads′.Asked, spend-reads′.Learnt, spend-reads.Asked, spend-reads.Learnt, join-reads.Asked, join-reads.Learnt, site-at-reads.Asked, site-at-reads.Learnt, part-reads.Asked, part-reads.Learnt, body-below t, body.Post, count-reads.Asked, count-reads.Learnt, called-reads.Asked, called-reads.Learnt, spawned-reads.Asked, spawned-reads.Learnt)
+item-calls t = (weight-at-reads.Asked, weight-at-reads.Learnt, spend-reads′.Asked, spend-reads′.Learnt, spend-reads.Asked, spend-reads.Learnt, join-reads.Asked, join-reads.Learnt, site-at-reads.Asked, site-at-reads.Learnt, part-reads.Asked, part-reads.Learnt, body-below t, body.Post, count-reads.Asked, count-reads.Learnt, called-reads.Asked, called-reads.Learnt, spawned-reads.Asked, spawned-reads.Learnt)
 
 abbrev body-Inv-loop : body-lts.InvT-loop
 body-Inv-loop trace from row deep t₀ rows₀ n w f₀ kind₀ t rows f kind = Loop trace from row deep t₀ rows₀ t rows n w f kind
@@ -147,11 +147,11 @@ module _ (t : ℕ) where
   abbrev item-start : Item item-lts.After-slice-known2 → Item item-lts.Start
   item-start c = c .before .before .before
 
-  abbrev value-test : Item item-lts.After-value-at → Item item-lts.After-slice-known2
-  value-test c = c .before .before
+  abbrev weight-test : Item item-lts.After-weight-at → Item item-lts.After-slice-known2
+  weight-test c = c .before .before
 
-  abbrev rows-value : Item item-lts.After-spend → Item item-lts.After-value-at
-  rows-value c = c .before .before
+  abbrev rows-weight : Item item-lts.After-spend → Item item-lts.After-weight-at
+  rows-weight c = c .before .before
 
   abbrev spend-rows : Item item-lts.After-spend-arg2 → Item item-lts.After-spend
   spend-rows c = c .before .before .before
@@ -203,10 +203,10 @@ module _ (t : ℕ) where
   abbrev body-rows : Item item-lts.After-body → List ℕ
   body-rows c = c .body .last .1 .1 .1 .1 .1 .0
 
-  -- what is known where a value was read, where the child's part is known, and where the child has returned
-  at-value : (c : Item item-lts.After-value-at) → (
-      let a = item-start (value-test c) .args in Costs (a .trace .now) (a .kind) (a .row) (a .deep) (a .f) (a .t .now) (a .rows .now) (a .n) (a .w) (c .value-at .result))
-  at-value c = record { asks = item-start (value-test c) .pre .1; value-is = c .value-at .ensures; cost = c .before .if1 .taken }
+  -- what is known where a weight was read, where the child's part is known, and where the child has returned
+  at-weight : (c : Item item-lts.After-weight-at) → (
+      let a = item-start (weight-test c) .args in Costs (a .trace .now) (a .kind) (a .row) (a .deep) (a .f) (a .t .now) (a .rows .now) (a .n) (a .w) (c .weight-at .result))
+  at-weight c = record { asks = item-start (weight-test c) .pre .1; weight-is = c .weight-at .ensures; cost = c .before .if1 .taken }
 
   at-part : (c : Item item-lts.After-part) → (
       let a = child-start (c .before) .args in Calls (a .trace .now) (a .kind) (a .row) (a .deep) (a .f) (a .t .now) (a .rows .now) (a .n) (a .w) (c .before .site-at .result) (c .part .result))
@@ -217,17 +217,14 @@ module _ (t : ℕ) where
   at-body : (c : Item item-lts.After-body) → Back (at-part (body-part (c .before))) (c .body .result) (body-scratch c) (body-rows c)
   at-body c = record { part-long = c .body .kept .1 .1 .1 .1 .0; rows-long = c .body .kept .1 .1 .1 .1 .1 .0; leaves = c .body .ensures }
 
-  item-value-at-requires : Item item-lts.Need-value-at-requires
-  item-value-at-requires c κs = search needs
-
-  item-cast-v : Item item-lts.Need-cast-v
-  item-cast-v c = search needs
+  item-weight-at-requires : Item item-lts.Need-weight-at-requires
+  item-weight-at-requires c κs = search needs
 
   item-spend-requires : Item item-lts.Need-spend-requires
-  item-spend-requires c κs = rows-asks (at-value (c .before))
+  item-spend-requires c κs = rows-asks (at-weight (c .before))
 
   item-spend-requires-2 : Item item-lts.Need-spend-requires-2
-  item-spend-requires-2 c κs = spend-asks (at-value (rows-value (spend-rows c)))
+  item-spend-requires-2 c κs = spend-asks (at-weight (rows-weight (spend-rows c)))
 
   item-same-length : Item item-lts.Need-same-length
   item-same-length c = search needs
@@ -239,7 +236,7 @@ module _ (t : ℕ) where
   item-returns c =
       let e = item-spend c in
       let r = spend-rows (e .before) in
-      cost-leaves (at-value (rows-value r)) (e .spend2 .result) (e .spend2 .last .0) (r .spend .last .0) (r .spend .ensures) (e .spend2 .ensures)
+      cost-leaves (at-weight (rows-weight r)) (e .spend2 .result) (e .spend2 .last .0) (r .spend .last .0) (r .spend .ensures) (e .spend2 .ensures)
 
   item-join-requires : Item item-lts.Need-join-requires
   item-join-requires c κs = join-asks (sync-start (join-test c) .pre .1 .lent)
@@ -351,8 +348,7 @@ pub +body+item-spec : {M : Type 1} → statement M
     λ t. item-lts.spec (item-calls t)
     (item-at t)
     item.Post
-    (item-value-at-requires t)
-    (item-cast-v t)
+    (item-weight-at-requires t)
     (item-spend-requires t)
     (item-spend-requires-2 t)
     (item-same-length t)
