@@ -123,22 +123,29 @@ module _ {s : List ℕ} {from row deep : ℕ} {t₀ m₀ rows₀ t m rows : List
   loop-asks k5 = record { lent = l .lent; kind-is = l .kind-is; more = more s deep kind z t m rows says k5 (l .lent) }
 
   -- an item was read: r, and the room behind it
-  module _ (k5 : kind ≡ 5 → ⊥) (r : Zones) (t′ m′ rows′ : List ℕ) (lm : length m′ ≡ length m) (lr : length rows′ ≡ length rows) (done : ItemLeaves s z m rows r m′ rows′) where
+  pub record Next (r : Zones) (t′ m′ rows′ : List ℕ) : Type 0 where
+    pub more-lines : kind ≡ 5 → ⊥
+    pub same-scratch : t′ ≡ t
+    pub marks-long : length m′ ≡ length m
+    pub rows-long : length rows′ ≡ length rows
+    pub leaves : ItemLeaves s z m rows r m′ rows′
+
+  module _ {r : Zones} {t′ m′ rows′ : List ℕ} (i : Next r t′ m′ rows′) where
     pub loop-less : 65536 - r .own .at < 65536 - z .own .at
     loop-less =
-        let h = goes-on s deep kind z t m rows says (l .lent) k5 r m′ rows′ lm lr done in
+        let h = goes-on s deep kind z t m rows says (l .lent) (i .more-lines) r m′ rows′ (i .marks-long) (i .rows-long) (i .leaves) in
         omega (arith, l .lent .ready .ends, size-some (l .lent .ready .body))
 
-    pub loop-again : t′ ≡ t → (next : ℕ) → next ≡ kindAt s (r .own .at) → Loop s from row deep t₀ m₀ rows₀ t′ m′ rows′ r next
-    loop-again e next k =
+    pub loop-again : (next : ℕ) → next ≡ kindAt s (r .own .at) → Loop s from row deep t₀ m₀ rows₀ t′ m′ rows′ r next
+    loop-again next k =
         record {
           kind-is = k;
-          row-is = row-again s deep kind z t m rows says (l .lent) k5 r m′ rows′ lm lr done ∙ l .row-is;
-          same-scratch = e ∙ l .same-scratch;
-          marks-long = lm ∙ l .marks-long;
-          rows-long = lr ∙ l .rows-long;
-          lent = rw e (lent-again s deep kind z t m rows says (l .lent) k5 r m′ rows′ lm lr done);
-          turns = turns-again s deep kind z t m rows says (l .lent) k5 r m′ rows′ lm lr done from m₀ rows₀ (l .rows-long) (l .turns);
+          row-is = row-again s deep kind z t m rows says (l .lent) (i .more-lines) r m′ rows′ (i .marks-long) (i .rows-long) (i .leaves) ∙ l .row-is;
+          same-scratch = i .same-scratch ∙ l .same-scratch;
+          marks-long = i .marks-long ∙ l .marks-long;
+          rows-long = i .rows-long ∙ l .rows-long;
+          lent = rw (i .same-scratch) (lent-again s deep kind z t m rows says (l .lent) (i .more-lines) r m′ rows′ (i .marks-long) (i .rows-long) (i .leaves));
+          turns = turns-again s deep kind z t m rows says (l .lent) (i .more-lines) r m′ rows′ (i .marks-long) (i .rows-long) (i .leaves) from m₀ rows₀ (l .rows-long) (l .turns);
         }
 
   pub loop-done : kind ≡ 5 → (r : Zones) (m′ : List ℕ) → Joined m z r m′ → BodyLeaves s from row m₀ rows₀ (r .own) m′ rows × (t ≡ t₀)

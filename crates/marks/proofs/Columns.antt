@@ -8,16 +8,17 @@ use lib.Dec.{eqb}
 use lib.ListN.{length, getD, set, length-set}
 use lib.Seq.{getD-set-same, getD-set-other, set-getD, set-set}
 use borrow.Author.Tests.{eq-eqb, ne-eqb}
-use Rattle.line.specs.At.{kindAt, siteAt, valueAt}
+use Rattle.line.specs.At.{kindAt, siteAt}
 use Rattle.trace.specs.Rows.{columns}
 use Rattle.trace.specs.Tree.{spend, Body, done, leaf, child, linesOf, size}
 use Rattle.trace.proofs.Basics.{cond-same}
 use Rattle.trace.proofs.Tree.{size-is}
+use Rattle.walk.specs.Weight.{weightAt}
 use Rattle.walk.specs.Stands.{Stands, Says, kindOf}
 use Rattle.walk.specs.Gain.{one, Grown}
 use Rattle.walk.proofs.Items.{size-some, stands-left, stands-right}
 use Rattle.walk.proofs.Lines.{is-more, is-done, is-sync}
-use Rattle.walk.proofs.Says.{kind-says, site-says, value-says}
+use Rattle.walk.proofs.Says.{kind-says, site-says, weight-says}
 use Rattle.walk.proofs.Rows.{one-same, grown-one}
 use Rattle.walk.proofs.Room.{lines-in}
 use Rattle.walk.proofs.Child.{cost-is, child-is}
@@ -190,10 +191,10 @@ module _ {s : List ℕ} {n : ℕ} {a : Present} {t m rows : List ℕ} (p : LineA
   -- a cost of v
   module _ (k6 : kind ≡ 6) where
     abbrev v : ℕ
-    v = valueAt s n
+    v = weightAt s n
 
     spend-is : (b : Body) → Stands s n (linesOf b) → (r : Body) × (b ≡ leaf (spend v) r)
-    spend-is = cost-is s n kind says v (value-says s n n v refl refl) k6
+    spend-is = cost-is s n kind says v (weight-says s n n v refl refl) k6
 
     pub add-asks : (n < length m) × (columns * a .row + 4 < length rows) × (getD rows (columns * a .row + 4) 0 + marked (getD m n 0) v < 2 ^ 64)
     add-asks =

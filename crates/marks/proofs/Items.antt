@@ -5,13 +5,14 @@ use Prim.Native.Nat.{ℕ, _+_, _*_, _-_, _^_, _≤_, _<_}
 use native.Mathlib.Omega.{arith}
 use lib.ListN.{length, getD}
 use lib.Dec.{eqb}
-use Rattle.line.specs.At.{kindAt, siteAt, valueAt}
+use Rattle.line.specs.At.{kindAt, siteAt}
 use Rattle.chain.specs.Plan.{weight}
 use Rattle.trace.specs.Rows.{columns}
 use Rattle.trace.specs.Tree.{call, spawn, spend, sync, Body, leaf, child as nested, linesOf, workOf}
 use Rattle.trace.specs.Fold.{Chains, nothing, joined, called, spawned, chainOf}
 use Rattle.trace.proofs.Basics.{cond-same}
 use Rattle.walk.specs.declared.Open.{Open}
+use Rattle.walk.specs.Weight.{weightAt}
 use Rattle.walk.specs.Stands.{Stands, Says, kindOf, siteOf}
 use Rattle.walk.specs.Numbers.{numbers}
 use Rattle.walk.specs.Gain.{one, counted, Grown}
@@ -19,7 +20,7 @@ use Rattle.walk.specs.Item.{itemChains}
 use Rattle.walk.specs.Reader.{ItemDone}
 use Rattle.walk.proofs.Items.{size-some, chain-le}
 use Rattle.walk.proofs.Lines.{is-sync}
-use Rattle.walk.proofs.Says.{kind-says, site-says, value-says}
+use Rattle.walk.proofs.Says.{kind-says, site-says, weight-says}
 use Rattle.walk.proofs.Room.{lines-in}
 use Rattle.walk.proofs.Child.{cost-is, call-is, spawn-is, Child, child-is, cost-fits, child-work, deeper as child-deeper, child-ready, count-room as child-room, count-fits as child-fits, ChildDone, child-done}
 use Rattle.marks.specs.declared.Zones.{Zones}
@@ -73,12 +74,12 @@ module _ {s : List ℕ} {deep : ℕ} {z : Zones} {t m rows : List ℕ} (l : Lent
 -- the item is a cost of v
 pub record Costs (s : List ℕ) (deep : ℕ) (z : Zones) (t m rows : List ℕ) (kind v : ℕ) : Type 0 where
   pub asks : ItemAsks s kind deep z t m rows
-  pub value-is : v ≡ valueAt s (z .own .at)
+  pub weight-is : v ≡ weightAt s (z .own .at)
   pub cost : kind ≡ 6
 
 module _ {s : List ℕ} {deep : ℕ} {z : Zones} {t m rows : List ℕ} {kind v : ℕ} (h : Costs s deep z t m rows kind v) where
   spend-is : (b : Body) → Stands s (z .own .at) (linesOf b) → (r : Body) × (b ≡ leaf (spend v) r)
-  spend-is = cost-is s (z .own .at) kind (kind-says s (z .own .at) (z .own .at) kind refl (h .asks .kind-is)) v (value-says s (z .own .at) (z .own .at) v refl (h .value-is)) (h .cost)
+  spend-is = cost-is s (z .own .at) kind (kind-says s (z .own .at) (z .own .at) kind refl (h .asks .kind-is)) v (weight-says s (z .own .at) (z .own .at) v refl (h .weight-is)) (h .cost)
 
   fit : ((columns * z .row + 3 < length rows) × (getD rows (columns * z .row + 3) 0 + v < 2 ^ 64)) × ((z .own .work + v < 2 ^ 64) × (z .own .prefix + (z .own .longest + z .own .since) + v < 2 ^ 64))
   fit =
@@ -139,38 +140,43 @@ module _ {s : List ℕ} {deep : ℕ} {z : Zones} {t m rows : List ℕ} {kind sit
         shows = shows-begun (z .own .at + 1) site m;
       }
 
-  -- the child's numbers are c, and it left the marks m₁ and the rows rows₁
-  module _ (c : Open) (m₁ rows₁ : List ℕ) (lm : length m₁ ≡ length m) (lr : length rows₁ ≡ length rows) (done : BodyLeaves s (z .own .at + 1) site m rows c m₁ rows₁) where
+  -- the child has returned: its numbers are c, and it left the marks m₁ and the rows rows₁
+  pub record Back (c : Open) (m₁ rows₁ : List ℕ) : Type 0 where
+    pub marks-long : length m₁ ≡ length m
+    pub rows-long : length rows₁ ≡ length rows
+    pub leaves : BodyLeaves s (z .own .at + 1) site m rows c m₁ rows₁
+
+  module _ {c : Open} {m₁ rows₁ : List ℕ} (u : Back c m₁ rows₁) where
     left : BodyLeft (z .own .at + 1) site (child .g) m rows c m₁ rows₁
-    left = done (child .g) (child .stands)
+    left = u .leaves (child .g) (child .stands)
 
     pub count-asks : (columns * site + 2 < length rows₁) × ((getD rows₁ (columns * site) 0 + 1 < 2 ^ 64) × ((getD rows₁ (columns * site + 1) 0 + c .work < 2 ^ 64) × (getD rows₁ (columns * site + 2) 0 + c .prefix < 2 ^ 64)))
-    count-asks = (child-room s (z .row) (l .sites) deep (z .own) rows (l .ready) site child c rows₁ lr (left .done), child-fits s (z .row) (l .sites) deep (z .own) rows (l .ready) site child c rows₁ lr (left .done))
+    count-asks = (child-room s (z .row) (l .sites) deep (z .own) rows (l .ready) site child c rows₁ (u .rows-long) (left .done), child-fits s (z .row) (l .sites) deep (z .own) rows (l .ready) site child c rows₁ (u .rows-long) (left .done))
 
     both : (z .own .work + workOf (child .g) < 2 ^ 64) × (z .own .prefix + (z .own .longest + z .own .since) + workOf (child .g) < 2 ^ 64)
     both = child-work s (z .row) (l .sites) deep (z .own) rows (l .ready) site child
 
     pub called-asks : Fits m₁ z (c .prefix) × (z .own .work + c .work < 2 ^ 64)
     called-asks = (
-      step-asks l (c .prefix) m₁ lm (omega (arith, both .1, ap (λ (x : Open). x .prefix) (left .done .numbers-are), chain-le (child .g) (z .own .at + 1) site)),
+      step-asks l (c .prefix) m₁ (u .marks-long) (omega (arith, both .1, ap (λ (x : Open). x .prefix) (left .done .numbers-are), chain-le (child .g) (z .own .at + 1) site)),
       omega (arith, both .0, ap (λ (x : Open). x .work) (left .done .numbers-are)),
     )
 
     pub spawned-asks : Fits m₁ z (c .prefix) × ((z .own .work + c .work < 2 ^ 64) × ((z .own .at < c .at) × (c .at ≤ length m₁)))
     spawned-asks =
         let at = ap (λ (x : Open). x .at) (left .done .numbers-are) in
-        (called-asks .0, (called-asks .1, (omega (arith, at), omega (arith, at, lm, l .lines, lines-in s (child .g) (z .own .at + 1) (child .stands)))))
+        (called-asks .0, (called-asks .1, (omega (arith, at), omega (arith, at, u .marks-long, l .lines, lines-in s (child .g) (z .own .at + 1) (child .stands)))))
 
     -- it was counted, and the step left r and the marks m₂
-    module _ (rows₂ : List ℕ) (counts : Grown rows₁ (counted site (c .work) (c .prefix)) rows₂) (r : Zones) (m₂ : List ℕ) where
+    module _ {rows₂ : List ℕ} (counts : Grown rows₁ (counted site (c .work) (c .prefix)) rows₂) (r : Zones) (m₂ : List ℕ) where
       -- the child's body is g: what the step asks for and leaves, as the item's
       behind : (n : ℕ) (k : Chains) (g b : Body) (x : Chains) → Stands s (z .own .at + 1) (linesOf g) → Shows n m z k
           → (weight (chainOf (z .own .at + 1) site g) ≡ c .prefix → Shows n m₁ z k → z .own .at < c .at → Zone m₁ (z .own .at + 1) (c .at) (chainOf (z .own .at + 1) site g) → At n (c .at) (z .own .work + c .work) x m₁ z r m₂)
           → (ChildDone (z .own) site rows g c rows₂ → r .own ≡ numbers (c .at) (z .own .work + c .work) x → ItemDone (z .row) (z .own) rows b k (r .own) rows₂)
           → x ≡ itemChains (z .own .at) (z .row) b k → ItemLeft n b k z m rows r m₂ rows₂
       behind n k g b x st sh step item e =
-          let d = done g st in
-          let v = child-done (z .own) site rows rows₁ rows₂ g c lr (d .done) counts in
+          let d = u .leaves g st in
+          let v = child-done (z .own) site rows rows₁ rows₂ g c (u .rows-long) (d .done) counts in
           let q = step (v .chain) (shows-kept n (z .own .at + 1) (c .at) m m₁ z k (omega arith) (d .kept) sh) (omega (arith, v .at-is)) (d .zone) in
           record {
             done = item v (q .numbers-are);

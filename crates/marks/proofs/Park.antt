@@ -33,32 +33,38 @@ module _ (z : Zones) (t : List ℕ) (l : 8 ≤ length t) where
   cleared : Zero t → park blank (park z t) ≡ t
   cleared o = by-eight (λ (t : List ℕ). Zero t → park blank (park z t) ≡ t) (λ a b c d e f g h r o. cc (o 0, o 1, o 2, o 3, o 4, o 5, o 6, o 7)) t l o
 
-  -- while the invocation is stored, the child is lent zeros; they come back as they were
-  module _ (o : Zero t) (t₁ : List ℕ) (e : t₁ ≡ park z t) where
-    pub room : 8 ≤ length t₁
-    room = omega (arith, ap length e, park-length, l)
+-- the invocation z is stored in a zero scratch t, which is t₁ with it
+pub record Stored (z : Zones) (t t₁ : List ℕ) : Type 0 where
+  pub room : 8 ≤ length t
+  pub zero : Zero t
+  pub is : t₁ ≡ park z t
 
-    abbrev part : List ℕ
-    part = take (length t₁ - 8) (drop 8 t₁)
+-- while it is stored, the child is lent zeros; they come back as they were
+module _ {z : Zones} {t t₁ : List ℕ} (h : Stored z t t₁) where
+  pub stored-room : 8 ≤ length t₁
+  stored-room = omega (arith, ap length (h .is), park-length z t (h .room), h .room)
 
-    part-is : part ≡ drop 8 t
-    part-is = ap (λ (k : ℕ). take k (drop 8 t₁)) (sym (length-drop 8 t₁)) ∙ take-length (drop 8 t₁) ∙ ap (drop 8) e ∙ rest-same
+  abbrev part : List ℕ
+  part = take (length t₁ - 8) (drop 8 t₁)
 
-    pub part-zero : Zero part
-    part-zero j = ap (λ (q : List ℕ). getD q j 0) part-is ∙ getD-drop 8 t j 0 ∙ o (8 + j)
+  part-is : part ≡ drop 8 t
+  part-is = ap (λ (k : ℕ). take k (drop 8 t₁)) (sym (length-drop 8 t₁)) ∙ take-length (drop 8 t₁) ∙ ap (drop 8) (h .is) ∙ rest-same z t (h .room)
 
-    pub part-length : length part ≡ length t - 8
-    part-length = ap length part-is ∙ length-drop 8 t
+  pub part-zero : Zero part
+  part-zero j = ap (λ (q : List ℕ). getD q j 0) part-is ∙ getD-drop 8 t j 0 ∙ h .zero (8 + j)
 
-    module _ (y : List ℕ) (same : y ≡ part) where
-      back : putMid 8 (length t₁ - 8) t₁ y ≡ park z t
-      back = ap (λ (q : List ℕ). putMid 8 (length t₁ - 8) t₁ q) same ∙ put-same 8 (length t₁ - 8) t₁ ∙ e
+  pub part-length : length part ≡ length t - 8
+  part-length = ap length part-is ∙ length-drop 8 t
 
-      pub back-room : 8 ≤ length (putMid 8 (length t₁ - 8) t₁ y)
-      back-room = omega (arith, ap length back, park-length, l)
+  module _ (y : List ℕ) (same : y ≡ part) where
+    back : putMid 8 (length t₁ - 8) t₁ y ≡ park z t
+    back = ap (λ (q : List ℕ). putMid 8 (length t₁ - 8) t₁ q) same ∙ put-same 8 (length t₁ - 8) t₁ ∙ h .is
 
-      pub load-is : (h : Zones) → h ≡ parked (putMid 8 (length t₁ - 8) t₁ y) → h ≡ z
-      load-is h q = q ∙ ap parked back ∙ loaded
+    pub back-room : 8 ≤ length (putMid 8 (length t₁ - 8) t₁ y)
+    back-room = omega (arith, ap length back, park-length z t (h .room), h .room)
 
-      pub load-clear : (t₃ : List ℕ) → t₃ ≡ park blank (putMid 8 (length t₁ - 8) t₁ y) → t₃ ≡ t
-      load-clear t₃ q = q ∙ ap (park blank) back ∙ cleared o
+    pub load-is : (k : Zones) → k ≡ parked (putMid 8 (length t₁ - 8) t₁ y) → k ≡ z
+    load-is k q = q ∙ ap parked back ∙ loaded z t (h .room)
+
+    pub load-clear : (t₃ : List ℕ) → t₃ ≡ park blank (putMid 8 (length t₁ - 8) t₁ y) → t₃ ≡ t
+    load-clear t₃ q = q ∙ ap (park blank) back ∙ cleared z t (h .room) (h .zero)

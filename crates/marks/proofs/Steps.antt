@@ -1,33 +1,25 @@
 -- What each step's stores come to in zones and chains.
-use mathlib.Core.Path.{_≡_, refl, ap, _∙_}
-use mathlib.Core.Bool.{Bool, true, false, cond}
+use mathlib.Core.Path.{_≡_, refl, ap, _∙_, sym, subst}
+use mathlib.Core.Bool.{Bool, true, false}
 use mathlib.Core.List.{List, [], _∷_}
 use Prim.Native.Nat.{ℕ, _+_, _≤_, _<_}
 use native.Mathlib.Omega.{arith}
-use lib.Dec.{ltb}
 use lib.ListN.{length, getD, set}
 use lib.Seq.{getD-set-same, getD-set-other}
-use borrow.Author.Tests.{lt-ltb, le-ltb}
 use Rattle.chain.specs.Plan.{CostLine, weight, choose}
-use Rattle.chain.proofs.Choose.{choose-left, choose-right}
 use Rattle.trace.specs.Fold.{costAt, Chains, joined}
 use Rattle.walk.specs.declared.Open.{Open}
-use Rattle.walk.specs.Numbers.{numbers, spentN, joinedN, calledN, spawnedN}
-use Rattle.walk.proofs.Numbers.{spent-numbers, joined-numbers, called-numbers, spawned-numbers}
+use Rattle.walk.specs.Numbers.{numbers, spentN, laterHeavier, joinedN, calledN, childLonger, spawnedN}
+use Rattle.walk.proofs.Numbers.{spent-numbers, later-chosen, joined-numbers, called-numbers, child-chosen, spawned-numbers}
 use Rattle.marks.specs.declared.Zones.{Zones}
 use Rattle.marks.specs.Shown.{allPrefix, Zone, Shows, Kept, Wiped}
 use Rattle.marks.specs.Steps.{At, Spent, Joined, Called, Spawned}
 use Rattle.marks.proofs.Shown.{zone-append, zone-kept, zone-gone, zone-none, zone-cost, zone-lost-left, zone-lost-right, zone-before, zone-behind, zone-wiped}
 
 -- the line behind a spawned child
-spawned-at : (c f : Open) → spawnedN c f .at ≡ c .at
-spawned-at c f = go (ltb (f .longest) (f .since + c .prefix))
-  where
-    go : (b : Bool)
-        → cond {A = Open} b (record { at = c .at; work = f .work + c .work; prefix = f .prefix + f .since; longest = c .prefix; since = 0 }) (record { at = c .at; work = f .work + c .work; prefix = f .prefix; longest = f .longest; since = f .since }) .at
-        ≡ c .at
-    go true = refl
-    go false = refl
+spawned-at : (b : Bool) (c f : Open) → spawnedN b c f .at ≡ c .at
+spawned-at true c f = refl
+spawned-at false c f = refl
 
 -- one line marked v
 module _ (m : List ℕ) (z : Zones) (v : ℕ) where
@@ -76,50 +68,50 @@ module _ (m : List ℕ) (z : Zones) (room : z .own .at < length m) where
 
   -- a join, of which one zone was cleared
   module _ (m′ : List ℕ) where
-    abbrev joinedZ : Zones
-    joinedZ = allPrefix (joinedN (z .own)) (z .row)
+    abbrev joinedZ : Bool → Zones
+    joinedZ later = allPrefix (joinedN later (z .own)) (z .row)
 
     -- all is the prefix's zone
-    join-done : (n : ℕ) (k : Chains) → z .own ≡ numbers (z .own .at) (z .own .work) k → n ≤ z .own .at → Zone m′ n (z .own .at + 1) (joined k .p) → Kept n (z .own .at + 1) m m′
-        → At n (z .own .at + 1) (z .own .work) (joined k) m z joinedZ m′
-    join-done n k e l P kept =
+    join-done : (b : Bool) → b ≡ laterHeavier (z .own) → (n : ℕ) (k : Chains) → z .own ≡ numbers (z .own .at) (z .own .work) k → n ≤ z .own .at → Zone m′ n (z .own .at + 1) (joined k .p) → Kept n (z .own .at + 1) m m′
+        → At n (z .own .at + 1) (z .own .work) (joined k) m z (joinedZ b) m′
+    join-done b q n k e l P kept =
         record {
-          numbers-are = ap joinedN e ∙ joined-numbers (z .own .at) (z .own .work) k;
+          numbers-are = joined-numbers (z .own) k e b q;
           same-row = refl;
           shows = record { begins = omega arith; then = omega arith; ends = omega arith; P = P; L = zone-none m′ (z .own .at + 1); C = zone-none m′ (z .own .at + 1) };
           kept = kept;
         }
 
     -- the continuation was heavier
-    pub join-since : Wiped (z .child) (z .after) (set m (z .own .at) 0) m′ → z .own .longest < z .own .since → Joined m z joinedZ m′
-    join-since w lt n k e s =
+    pub join-since : Wiped (z .child) (z .after) (set m (z .own .at) 0) m′ → (b : Bool) → b ≡ laterHeavier (z .own) → b ≡ true → Joined m z (joinedZ b) m′
+    join-since w a q wins n k e s =
         let at = z .own .at in
         let m₁ = set m at 0 in
         let b = before m z 0 n k s in
-        let q : choose (k .l) (k .c) ≡ k .c = choose-right (k .l) (k .c) (omega (arith, ap (λ (x : Open). x .longest) e, ap (λ (x : Open). x .since) e)) in
+        let taken : choose (k .l) (k .c) ≡ k .c = later-chosen (z .own) k e true (sym wins ∙ q) in
         let P = zone-before (z .child) (z .after) m₁ m′ w n (z .child) (k .p) (omega arith) (b .P) in
         let C = zone-behind (z .child) (z .after) m₁ m′ w (z .after) at (k .c) (omega arith) (b .C) in
         let G = zone-behind (z .child) (z .after) m₁ m′ w at (at + 1) [] (s .ends) (line-gone m z 0 room refl) in
         let R = zone-lost-right m′ (z .after) at (at + 1) (k .c) (s .ends) (omega arith) C G in
         let Q = zone-lost-left m′ (z .child) (z .after) (at + 1) (k .c) (s .then) (omega (arith, s .ends)) (zone-wiped (z .child) (z .after) m₁ m′ w) R in
-        join-done n k e (omega (arith, s .begins, s .then, s .ends))
-        (rw q (zone-append m′ n (z .child) (at + 1) (k .p) (k .c) (s .begins) (omega (arith, s .then, s .ends)) P Q))
+        join-done a q n k e (omega (arith, s .begins, s .then, s .ends))
+        (rw taken (zone-append m′ n (z .child) (at + 1) (k .p) (k .c) (s .begins) (omega (arith, s .then, s .ends)) P Q))
         (λ j o. w .rest j (λ x y. o (omega (arith, s .begins)) (omega (arith, s .ends))) ∙ other m z 0 j (λ q. o (omega (arith, s .begins, s .then, s .ends)) (omega arith)))
 
     -- the longest child was, or they weigh the same
-    pub join-longest : Wiped (z .after) (z .own .at) (set m (z .own .at) 0) m′ → z .own .since ≤ z .own .longest → Joined m z joinedZ m′
-    join-longest w le n k e s =
+    pub join-longest : Wiped (z .after) (z .own .at) (set m (z .own .at) 0) m′ → (b : Bool) → b ≡ laterHeavier (z .own) → b ≡ false → Joined m z (joinedZ b) m′
+    join-longest w a q loses n k e s =
         let at = z .own .at in
         let m₁ = set m at 0 in
         let b = before m z 0 n k s in
-        let q : choose (k .l) (k .c) ≡ k .l = choose-left (k .l) (k .c) (omega (arith, ap (λ (x : Open). x .longest) e, ap (λ (x : Open). x .since) e)) in
+        let taken : choose (k .l) (k .c) ≡ k .l = later-chosen (z .own) k e false (sym loses ∙ q) in
         let P = zone-before (z .after) at m₁ m′ w n (z .child) (k .p) (s .then) (b .P) in
         let L = zone-before (z .after) at m₁ m′ w (z .child) (z .after) (k .l) (omega arith) (b .L) in
         let G = zone-behind (z .after) at m₁ m′ w at (at + 1) [] (omega arith) (line-gone m z 0 room refl) in
         let R = zone-lost-right m′ (z .after) at (at + 1) [] (s .ends) (omega arith) (zone-wiped (z .after) at m₁ m′ w) G in
         let Q = zone-lost-right m′ (z .child) (z .after) (at + 1) (k .l) (s .then) (omega (arith, s .ends)) L R in
-        join-done n k e (omega (arith, s .begins, s .then, s .ends))
-        (rw q (zone-append m′ n (z .child) (at + 1) (k .p) (k .l) (s .begins) (omega (arith, s .then, s .ends)) P Q))
+        join-done a q n k e (omega (arith, s .begins, s .then, s .ends))
+        (rw taken (zone-append m′ n (z .child) (at + 1) (k .p) (k .l) (s .begins) (omega (arith, s .then, s .ends)) P Q))
         (λ j o. w .rest j (λ x y. o (omega (arith, s .begins, s .then)) (omega arith)) ∙ other m z 0 j (λ q. o (omega (arith, s .begins, s .then, s .ends)) (omega arith)))
 
   -- a child has returned
@@ -148,21 +140,20 @@ module _ (m : List ℕ) (z : Zones) (room : z .own .at < length m) where
         }
 
     -- the spawned child is the longest from now on
-    pub spawned-longer : (m′ : List ℕ) → Wiped (z .child) (z .after) (set m (z .own .at) 0) m′ → z .own .longest < z .own .since + c .prefix
-        → Spawned m z c (record { own = spawnedN c (z .own); row = z .row; child = z .own .at; after = c .at }) m′
-    spawned-longer m′ w lt n k g e v s l G =
+    pub spawned-longer : (m′ : List ℕ) → Wiped (z .child) (z .after) (set m (z .own .at) 0) m′ → (b : Bool) → b ≡ childLonger c (z .own) → b ≡ true
+        → Spawned m z c (record { own = spawnedN b c (z .own); row = z .row; child = z .own .at; after = c .at }) m′
+    spawned-longer m′ w a q wins n k g e v s l G =
         let at = z .own .at in
         let m₁ = set m at 0 in
         let b = before m z 0 n k s in
-        let q : ltb (weight (k .l)) (weight (k .c) + weight g) ≡ true = lt-ltb (weight (k .l)) (weight (k .c) + weight g) (omega (arith, ap (λ (x : Open). x .longest) e, ap (λ (x : Open). x .since) e)) in
-        let to = spawned-at c (z .own) in
+        let to = spawned-at a c (z .own) in
         let P = zone-before (z .child) (z .after) m₁ m′ w n (z .child) (k .p) (omega arith) (b .P) in
         let C = zone-behind (z .child) (z .after) m₁ m′ w (z .after) at (k .c) (omega arith) (b .C) in
         let Q = zone-lost-left m′ (z .child) (z .after) at (k .c) (s .then) (s .ends) (zone-wiped (z .child) (z .after) m₁ m′ w) C in
         record {
-          numbers-are = ap (spawnedN c) e ∙ spawned-numbers at (z .own .work) k c g v;
+          numbers-are = spawned-numbers (z .own) k e c g v a q;
           same-row = refl;
-          shows = simp q
+          shows = subst (Shows n m′ (record { own = spawnedN a c (z .own); row = z .row; child = z .own .at; after = c .at })) (sym (child-chosen (z .own) k e c g v true (sym wins ∙ q)))
               (record {
                 begins = omega (arith, s .begins, s .then, s .ends);
                 then = omega arith;
@@ -175,16 +166,15 @@ module _ (m : List ℕ) (z : Zones) (room : z .own .at < length m) where
         }
 
   -- it is not: the child's zone was cleared, the line of the spawn with it
-  pub spawned-shorter : (c : Open) (m′ : List ℕ) → Wiped (z .own .at) (c .at) m m′ → z .own .since + c .prefix ≤ z .own .longest
-      → Spawned m z c (record { own = spawnedN c (z .own); row = z .row; child = z .child; after = z .after }) m′
-  spawned-shorter c m′ w le n k g e v s l G =
+  pub spawned-shorter : (c : Open) (m′ : List ℕ) → Wiped (z .own .at) (c .at) m m′ → (b : Bool) → b ≡ childLonger c (z .own) → b ≡ false
+      → Spawned m z c (record { own = spawnedN b c (z .own); row = z .row; child = z .child; after = z .after }) m′
+  spawned-shorter c m′ w a q loses n k g e v s l G =
       let at = z .own .at in
-      let q : ltb (weight (k .l)) (weight (k .c) + weight g) ≡ false = le-ltb (weight (k .l)) (weight (k .c) + weight g) (omega (arith, ap (λ (x : Open). x .longest) e, ap (λ (x : Open). x .since) e)) in
-      let to = spawned-at c (z .own) in
+      let to = spawned-at a c (z .own) in
       record {
-        numbers-are = ap (spawnedN c) e ∙ spawned-numbers at (z .own .work) k c g v;
+        numbers-are = spawned-numbers (z .own) k e c g v a q;
         same-row = refl;
-        shows = simp q
+        shows = subst (Shows n m′ (record { own = spawnedN a c (z .own); row = z .row; child = z .child; after = z .after })) (sym (child-chosen (z .own) k e c g v false (sym loses ∙ q)))
             (record {
               begins = s .begins;
               then = s .then;

@@ -76,36 +76,52 @@ module _ {s : List ℕ} {D M : ℕ} {x : Lent} {count lines : ℕ} (a : Admitted
   pub marks-in : count ≤ length (x .marks)
   marks-in = omega (arith, text-in, lines-in s b count here)
 
-  -- the first reading, on a cleared scratch and cleared rows
-  pub body-asks : (t₁ m₁ r₁ : List ℕ) → t₁ ≡ replicate (length (x .scratch)) 0 → length m₁ ≡ length (x .marks) → r₁ ≡ rows₀ → ((i : ℕ) → getD (x .rows) i 0 < 2 ^ 64) → BodyAsks s count 0 (D - 1) t₁ m₁ r₁
-  body-asks t₁ m₁ r₁ et em er fits =
-      subst (λ (y : List ℕ). BodyAsks s count 0 (D - 1) t₁ m₁ y) (sym er)
+  -- the scratch, the rows, and the marks of the sites were cleared, and go by these names
+  pub record Blank (t₁ m₁ r₁ : List ℕ) : Type 0 where
+    pub scratch-is : t₁ ≡ replicate (length (x .scratch)) 0
+    pub sites-off : Wiped 0 count (x .marks) m₁
+    pub marks-same : length m₁ ≡ length (x .marks)
+    pub rows-are : r₁ ≡ rows₀
+
+  -- the first reading
+  pub body-asks : {t₁ m₁ r₁ : List ℕ} → Blank t₁ m₁ r₁ → ((i : ℕ) → getD (x .rows) i 0 < 2 ^ 64) → BodyAsks s count 0 (D - 1) t₁ m₁ r₁
+  body-asks {t₁} {m₁} {r₁} o fits =
+      subst (λ (y : List ℕ). BodyAsks s count 0 (D - 1) t₁ m₁ y) (sym (o .rows-are))
       (record {
         sites = sites t;
         ready = ready marks s D M x t (a .is) count (a .count-is) fits;
-        lines = omega (arith, text-in, em);
-        zero = λ j. ap (λ (y : List ℕ). getD y j 0) et ∙ zeros-at (length (x .scratch)) j;
-        room = omega (arith, long .0, bounds .0, ap length et, length-replicate {A = ℕ} (length (x .scratch)) 0);
+        lines = omega (arith, text-in, o .marks-same);
+        zero = λ j. ap (λ (y : List ℕ). getD y j 0) (o .scratch-is) ∙ zeros-at (length (x .scratch)) j;
+        room = omega (arith, long .0, bounds .0, ap length (o .scratch-is), length-replicate {A = ℕ} (length (x .scratch)) 0);
         n = count;
         k = nothing;
         weighs = refl;
         shows = shows-begun count 0 m₁;
       })
 
-  -- It left the numbers c, the marks m₂ and the rows rows₁; m₁ are the marks with those of the sites cleared.
-  module _ (m₁ : List ℕ) (sites-off : Wiped 0 count (x .marks) m₁) (r₁ : List ℕ) (er : r₁ ≡ rows₀) (c : Open) (m₂ rows₁ : List ℕ) (lm : length m₂ ≡ length (x .marks)) (lr : length rows₁ ≡ length (x .rows))
-      (leaves : BodyLeaves s count 0 m₁ r₁ c m₂ rows₁) where
-    left : BodyLeft count 0 b m₁ rows₀ c m₂ rows₁
-    left = subst (λ (y : List ℕ). BodyLeft count 0 b m₁ y c m₂ rows₁) er (leaves b here)
+  -- the root was read: its numbers are c, and it left the scratch t₂ zero, the marks m₂ and the rows rows₁
+  pub record Read (c : Open) (t₂ m₂ rows₁ : List ℕ) : Type 0 where
+    pub t₁ : List ℕ
+    pub m₁ : List ℕ
+    pub r₁ : List ℕ
+    pub blank : Blank t₁ m₁ r₁
+    pub zero : t₂ ≡ replicate (length (x .scratch)) 0
+    pub marks-same : length m₂ ≡ length (x .marks)
+    pub rows-same : length rows₁ ≡ length (x .rows)
+    pub leaves : BodyLeaves s count 0 m₁ r₁ c m₂ rows₁
+
+  module _ {c : Open} {t₂ m₂ rows₁ : List ℕ} (u : Read c t₂ m₂ rows₁) where
+    left : BodyLeft count 0 b (u .m₁) rows₀ c m₂ rows₁
+    left = subst (λ (y : List ℕ). BodyLeft count 0 b (u .m₁) y c m₂ rows₁) (u .blank .rows-are) (u .leaves b here)
 
     at-is : c .at ≡ count + size b
     at-is = ap (λ (y : Open). y .at) (left .done .numbers-are)
 
     pub count-asks : (columns * 0 + 2 < length rows₁) × ((getD rows₁ (columns * 0) 0 + 1 < 2 ^ 64) × ((getD rows₁ (columns * 0 + 1) 0 + c .work < 2 ^ 64) × (getD rows₁ (columns * 0 + 2) 0 + c .prefix < 2 ^ 64)))
-    count-asks = count-fits marks s D M x t (a .is) count (a .count-is) c rows₁ lr (left .done)
+    count-asks = count-fits marks s D M x t (a .is) count (a .count-is) c rows₁ (u .rows-same) (left .done)
 
     -- the root was counted
-    module _ (rows₂ : List ℕ) (lr₂ : length rows₂ ≡ length (x .rows)) (counts : Grown rows₁ (counted 0 (c .work) (c .prefix)) rows₂) where
+    module _ (rows₂ : List ℕ) (counts : Grown rows₁ (counted 0 (c .work) (c .prefix)) rows₂) (lr₂ : length rows₂ ≡ length (x .rows)) where
       abbrev p : Parts D t
       p = tree D M t good
 
@@ -115,92 +131,91 @@ module _ {s : List ℕ} {D M : ℕ} {x : Lent} {count lines : ℕ} (a : Admitted
       within : Within count D 1 b
       within = subst (λ (k : ℕ). Within k D 1 b) heads (p .within)
 
-      -- the second reading, on the scratch t₂, which the first left zero
-      module _ (t₂ : List ℕ) (zero : t₂ ≡ replicate (length (x .scratch)) 0) where
-        pub on-asks : ColumnAsks s count lines t₂ m₂ rows₂
-        on-asks =
+      -- the second reading
+      pub on-asks : ColumnAsks s count lines t₂ m₂ rows₂
+      on-asks =
+          record {
+            body = b;
+            ends = omega (arith, lines-are);
+            lent =
+                record {
+                  sites = count;
+                  D = D;
+                  stand = (here, tt);
+                  within = (omega arith, omega (arith, bounds .0), within, tt);
+                  zero = λ j. ap (λ (y : List ℕ). getD y j 0) (u .zero) ∙ zeros-at (length (x .scratch)) j;
+                  room = omega (arith, long .0, ap length (u .zero), length-replicate {A = ℕ} (length (x .scratch)) 0);
+                  held = (refl, refl, refl);
+                  rows-long = omega (arith, lr₂, rows-in);
+                  lines = omega (arith, text-in, u .marks-same);
+                  fits = λ j l.
+                      omega (
+                        arith,
+                        none-on marks s D M x t (a .is) count (a .count-is) c rows₁ (u .rows-same) (left .done) rows₂ counts j l,
+                        on-le m₂ (columns * j + 4) b count 0,
+                        work-small D t p M good,
+                      );
+                };
+          }
+
+      -- what it left
+      module _ (t₃ rows₃ : List ℕ) (on : ColumnLeaves s count lines t₂ m₂ rows₂ rows₃) (same : t₃ ≡ t₂) (lr₃ : length rows₃ ≡ length (x .rows)) where
+        abbrev answer : Answer
+        answer = Accepted (c .work) (c .prefix) count lines
+
+        grown : (i : ℕ) → i < length (x .rows) → getD rows₃ i 0 ≡ getD rows₂ i 0 + onGain m₂ count 0 b i
+        unfolding on-asks
+        grown i l = on on-asks i (omega (arith, lr₂))
+
+        shown : (i : ℕ) → count ≤ i → i < count + size b → getD m₂ i 0 ≡ cond (has i (linesIn (chainOf count 0 b))) 1 0
+        shown i l r = left .zone .marks-are i l (omega (arith, at-is))
+
+        on-is : (k : ℕ) → onGain m₂ count 0 b (columns * k + 4) ≡ onRow k (chainOf count 0 b)
+        on-is k =
+            subst (λ (h : ℕ). ((i : ℕ) → h ≤ i → i < h + size b → getD m₂ i 0 ≡ cond (has i (linesIn (chainOf h 0 b))) 1 0) → onGain m₂ h 0 b (columns * k + 4) ≡ onRow k (chainOf h 0 b)) heads (on-row D t p m₂ k) shown
+
+        cells-are : (k j : ℕ) → k ≤ count → j < columns → getD rows₃ (columns * k + j) 0 ≡ cell count b k j
+        cells-are k j h l = go (decLt j 4)
+          where
+            go : Dec (j < 4) → getD rows₃ (columns * k + j) 0 ≡ cell count b k j
+            go (yes q) = omega (arith, grown (columns * k + j) (omega (arith, rows-in)), on-cross m₂ j k q b count 0, cells marks s D M x t (a .is) count (a .count-is) c rows₁ (u .rows-same) (left .done) rows₂ counts k j h q)
+            go (no q) =
+                let e : j ≡ 4 = omega arith in
+                rw e (omega (arith, grown (columns * k + 4) (omega (arith, rows-in)), none-on marks s D M x t (a .is) count (a .count-is) c rows₁ (u .rows-same) (left .done) rows₂ counts k h, on-is k))
+
+        rest-is : (i : ℕ) → columns * (count + 1) ≤ i → getD rows₃ i 0 ≡ getD (x .rows) i 0
+        rest-is i h = go (decLt i (length (x .rows)))
+          where
+            go : Dec (i < length (x .rows)) → getD rows₃ i 0 ≡ getD (x .rows) i 0
+            go (yes q) = omega (arith, grown i q, on-out m₂ count D 1 i b count 0 within (omega arith) h, rest marks s D M x t (a .is) count (a .count-is) c rows₁ (u .rows-same) (left .done) rows₂ counts i h q)
+            go (no q) = List·getD-eq-default rows₃ 0 {n = i} (omega arith) ∙ sym (List·getD-eq-default (x .rows) 0 {n = i} (omega arith))
+
+        marks-are : (k : ℕ) → k < count + size b → getD m₂ k 0 ≡ cond (has k (linesIn (chainOf count 0 b))) 1 0
+        marks-are k l = go (decLt k count)
+          where
+            go : Dec (k < count) → getD m₂ k 0 ≡ cond (has k (linesIn (chainOf count 0 b))) 1 0
+            go (yes q) =
+                left .kept k (λ v w. omega arith)
+                ∙ u .blank .sites-off .gone k (omega arith) q
+                ∙ ap (λ (y : Bool). cond y 1 0) (sym (outside k count (c .at) (chainOf count 0 b) (left .zone .inside) (λ v w. omega arith)))
+            go (no q) = shown k (omega arith) l
+
+        by-tree : ProfileBy marks count b x answer (lent t₃ m₂ rows₃)
+        by-tree =
             record {
-              body = b;
-              ends = omega (arith, lines-are);
-              lent =
-                  record {
-                    sites = count;
-                    D = D;
-                    stand = (here, tt);
-                    within = (omega arith, omega (arith, bounds .0), within, tt);
-                    zero = λ j. ap (λ (y : List ℕ). getD y j 0) zero ∙ zeros-at (length (x .scratch)) j;
-                    room = omega (arith, long .0, ap length zero, length-replicate {A = ℕ} (length (x .scratch)) 0);
-                    held = (refl, refl, refl);
-                    rows-long = omega (arith, lr₂, rows-in);
-                    lines = omega (arith, text-in, lm);
-                    fits = λ j l.
-                        omega (
-                          arith,
-                          none-on marks s D M x t (a .is) count (a .count-is) c rows₁ lr (left .done) rows₂ counts j l,
-                          on-le m₂ (columns * j + 4) b count 0,
-                          work-small D t p M good,
-                        );
-                  };
+              answer = ap (λ (y : ℕ). Accepted y (c .prefix) count lines) (work-is marks s D M x t (a .is) count (a .count-is) c rows₁ (u .rows-same) (left .done)) ∙ ap (λ (y : ℕ). Accepted (workOf b) y count lines) (span-is marks s D M x t (a .is) count (a .count-is) c rows₁ (u .rows-same) (left .done)) ∙ ap (Accepted (workOf b) (spanOf b) count) lines-are;
+              rows = record { same-length = lr₃; cells = cells-are; rest = rest-is };
+              scratch = same ∙ u .zero;
+              marked = record { same-length = u .marks-same; marks-are = marks-are; rest = λ k l. left .kept k (λ v w. omega (arith, at-is)) ∙ u .blank .sites-off .rest k (λ v w. omega arith) };
             }
 
-        -- what it left
-        module _ (t₃ rows₃ : List ℕ) (same : t₃ ≡ t₂) (lr₃ : length rows₃ ≡ length (x .rows)) (on : ColumnLeaves s count lines t₂ m₂ rows₂ rows₃) where
-          abbrev answer : Answer
-          answer = Accepted (c .work) (c .prefix) count lines
-
-          grown : (i : ℕ) → i < length (x .rows) → getD rows₃ i 0 ≡ getD rows₂ i 0 + onGain m₂ count 0 b i
-          unfolding on-asks
-          grown i l = on on-asks i (omega (arith, lr₂))
-
-          shown : (i : ℕ) → count ≤ i → i < count + size b → getD m₂ i 0 ≡ cond (has i (linesIn (chainOf count 0 b))) 1 0
-          shown i l r = left .zone .marks-are i l (omega (arith, at-is))
-
-          on-is : (k : ℕ) → onGain m₂ count 0 b (columns * k + 4) ≡ onRow k (chainOf count 0 b)
-          on-is k =
-              subst (λ (h : ℕ). ((i : ℕ) → h ≤ i → i < h + size b → getD m₂ i 0 ≡ cond (has i (linesIn (chainOf h 0 b))) 1 0) → onGain m₂ h 0 b (columns * k + 4) ≡ onRow k (chainOf h 0 b)) heads (on-row D t p m₂ k) shown
-
-          cells-are : (k j : ℕ) → k ≤ count → j < columns → getD rows₃ (columns * k + j) 0 ≡ cell count b k j
-          cells-are k j h l = go (decLt j 4)
-            where
-              go : Dec (j < 4) → getD rows₃ (columns * k + j) 0 ≡ cell count b k j
-              go (yes q) = omega (arith, grown (columns * k + j) (omega (arith, rows-in)), on-cross m₂ j k q b count 0, cells marks s D M x t (a .is) count (a .count-is) c rows₁ lr (left .done) rows₂ counts k j h q)
-              go (no q) =
-                  let e : j ≡ 4 = omega arith in
-                  rw e (omega (arith, grown (columns * k + 4) (omega (arith, rows-in)), none-on marks s D M x t (a .is) count (a .count-is) c rows₁ lr (left .done) rows₂ counts k h, on-is k))
-
-          rest-is : (i : ℕ) → columns * (count + 1) ≤ i → getD rows₃ i 0 ≡ getD (x .rows) i 0
-          rest-is i h = go (decLt i (length (x .rows)))
-            where
-              go : Dec (i < length (x .rows)) → getD rows₃ i 0 ≡ getD (x .rows) i 0
-              go (yes q) = omega (arith, grown i q, on-out m₂ count D 1 i b count 0 within (omega arith) h, rest marks s D M x t (a .is) count (a .count-is) c rows₁ lr (left .done) rows₂ counts i h q)
-              go (no q) = List·getD-eq-default rows₃ 0 {n = i} (omega arith) ∙ sym (List·getD-eq-default (x .rows) 0 {n = i} (omega arith))
-
-          marks-are : (k : ℕ) → k < count + size b → getD m₂ k 0 ≡ cond (has k (linesIn (chainOf count 0 b))) 1 0
-          marks-are k l = go (decLt k count)
-            where
-              go : Dec (k < count) → getD m₂ k 0 ≡ cond (has k (linesIn (chainOf count 0 b))) 1 0
-              go (yes q) =
-                  left .kept k (λ v w. omega arith)
-                  ∙ sites-off .gone k (omega arith) q
-                  ∙ ap (λ (y : Bool). cond y 1 0) (sym (outside k count (c .at) (chainOf count 0 b) (left .zone .inside) (λ v w. omega arith)))
-              go (no q) = shown k (omega arith) l
-
-          by-tree : ProfileBy marks count b x answer (lent t₃ m₂ rows₃)
-          by-tree =
-              record {
-                answer = ap (λ (y : ℕ). Accepted y (c .prefix) count lines) (work-is marks s D M x t (a .is) count (a .count-is) c rows₁ lr (left .done)) ∙ ap (λ (y : ℕ). Accepted (workOf b) y count lines) (span-is marks s D M x t (a .is) count (a .count-is) c rows₁ lr (left .done)) ∙ ap (Accepted (workOf b) (spanOf b) count) lines-are;
-                rows = record { same-length = lr₃; cells = cells-are; rest = rest-is };
-                scratch = same ∙ zero;
-                marked = record { same-length = lm; marks-are = marks-are; rest = λ k l. left .kept k (λ v w. omega (arith, at-is)) ∙ sites-off .rest k (λ v w. omega arith) };
-              }
-
-          pub promised : Promise marks s D M x answer (lent t₃ m₂ rows₃)
-          promised =
-              let h = tree-profile D t p marks x answer (lent t₃ m₂ rows₃) (subst (λ (m : ℕ). ProfileBy marks m b x answer (lent t₃ m₂ rows₃)) (sym heads) by-tree) in
-              record {
-                when-accepted = λ u e. subst (λ (y : List Frame). Profile marks y x answer (lent t₃ m₂ rows₃)) (accepted-same t u (sym (a .is) ∙ e)) h;
-                when-refused = λ k n e. clash (let z = sym (a .is) ∙ e in cc);
-              }
+        pub promised : Promise marks s D M x answer (lent t₃ m₂ rows₃)
+        promised =
+            let h = tree-profile D t p marks x answer (lent t₃ m₂ rows₃) (subst (λ (m : ℕ). ProfileBy marks m b x answer (lent t₃ m₂ rows₃)) (sym heads) by-tree) in
+            record {
+              when-accepted = λ u e. subst (λ (y : List Frame). Profile marks y x answer (lent t₃ m₂ rows₃)) (accepted-same t u (sym (a .is) ∙ e)) h;
+              when-refused = λ k n e. clash (let z = sym (a .is) ∙ e in cc);
+            }
 
 -- what the answer of acceptance says
 module _ (s : List ℕ) (D M : ℕ) (x : Lent) where

@@ -3,9 +3,9 @@
 ghost use mathlib.Core.Path.{_≡_};
 ghost use Prim.Native.Nat.{_+_, _*_, _^_, _≤_, _<_};
 ghost use lib.ListN.{length, getD, set, replicate};
-ghost use Rattle.line.specs.At.{valueAt};
 ghost use Rattle.trace.specs.Rows.{columns};
 ghost use Rattle.trace.specs.Promise.{Engine, Promise};
+ghost use Rattle.walk.specs.Weight.{weightAt};
 ghost use Rattle.walk.specs.Gain.{one, Grown};
 ghost use Rattle.marks.specs.Shown.{allPrefix, Wiped};
 ghost use Rattle.marks.specs.Steps.{Fits, Spent, Joined, Called, Spawned};
@@ -81,13 +81,14 @@ fn join(marks: &mut [u8], z: Zones) -> Zones
     let at = own.at;
     let child = z.child;
     let after = z.after;
+    let later = own.later_heavier();
     marks[at] = 0;
-    if own.longest < own.since {
+    if later {
         wipe_lines(marks, child, after);
-        return Zones::prefix(own.joined(), z.row);
+        return Zones::prefix(own.joined(later), z.row);
     }
     wipe_lines(marks, after, at);
-    Zones::prefix(own.joined(), z.row)
+    Zones::prefix(own.joined(later), z.row)
 }
 
 // A called child has returned: its zone is the continuation's.
@@ -118,11 +119,12 @@ fn spawned(marks: &mut [u8], z: Zones, c: walk::Open) -> Zones
     let to = c.at;
     let child = z.child;
     let after = z.after;
-    if own.longest < own.since + c.prefix {
+    let longer = own.child_longer(c);
+    if longer {
         marks[at] = 0;
         wipe_lines(marks, child, after);
         return Zones {
-            own: own.spawned(c),
+            own: own.spawned(c, longer),
             row: z.row,
             child: at,
             after: to,
@@ -130,7 +132,7 @@ fn spawned(marks: &mut [u8], z: Zones, c: walk::Open) -> Zones
     }
     wipe_lines(marks, at, to);
     Zones {
-        own: own.spawned(c),
+        own: own.spawned(c, longer),
         row: z.row,
         child,
         after,
@@ -223,7 +225,7 @@ fn item(
 {
     let at = z.own.at;
     if kind == 6 {
-        let v = line::value_at(trace, at) as u64;
+        let v = walk::weight_at(trace, at);
         walk::spend(rows, z.row, v);
         return spend(marks, z, v);
     }
@@ -243,15 +245,11 @@ fn item(
 
 // Column 5 of a row: the cost of a line, where the line is marked.
 fn add_marked(trace: &[u8], at: usize, row: usize, marks: &[u8], rows: &mut [u64])
-    requires { ⌜ (at < length (now marks)) × (columns * row + 4 < length (now rows)) × (getD (now rows) (columns * row + 4) 0 + marked (getD (now marks) at 0) (valueAt (now trace) at) < 2 ^ 64) ⌝ }
-    ensures { λ _. ⌜ Grown (now (rows .entry)) (one (columns * row + 4) (marked (getD (now (marks .entry)) at 0) (valueAt (now (trace .entry)) at))) (now (rows .exit)) ⌝ }
+    requires { ⌜ (at < length (now marks)) × (columns * row + 4 < length (now rows)) × (getD (now rows) (columns * row + 4) 0 + marked (getD (now marks) at 0) (weightAt (now trace) at) < 2 ^ 64) ⌝ }
+    ensures { λ _. ⌜ Grown (now (rows .entry)) (one (columns * row + 4) (marked (getD (now (marks .entry)) at 0) (weightAt (now (trace .entry)) at))) (now (rows .exit)) ⌝ }
 {
     if marks[at] == 1 {
-        walk::add(
-            rows,
-            trace::COLUMNS * row + 4,
-            line::value_at(trace, at) as u64,
-        );
+        walk::add(rows, trace::COLUMNS * row + 4, walk::weight_at(trace, at));
     }
 }
 

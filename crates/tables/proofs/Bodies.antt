@@ -91,20 +91,26 @@ module _ {s : List ℕ} {from row deep : ℕ} {t₀ rows₀ t rows : List ℕ} {
   loop-asks k5 = record { lent = l .lent; kind-is = l .kind-is; more = more s row deep n w kind f t rows says k5 (l .lent) }
 
   -- an item was read: r, and the room behind it
-  module _ (k5 : kind ≡ 5 → ⊥) (r : Open) (t′ rows′ : List ℕ) (lt : length t′ ≡ length t) (lr : length rows′ ≡ length rows) (done : ItemLeaves s row f t rows n w r t′ rows′) where
+  pub record Next (r : Open) (t′ rows′ : List ℕ) : Type 0 where
+    pub more-lines : kind ≡ 5 → ⊥
+    pub scratch-long : length t′ ≡ length t
+    pub rows-long : length rows′ ≡ length rows
+    pub leaves : ItemLeaves s row f t rows n w r t′ rows′
+
+  module _ {r : Open} {t′ rows′ : List ℕ} (i : Next r t′ rows′) where
     pub loop-less : 65536 - r .at < 65536 - f .at
     loop-less =
-        let h = goes-on s row deep n w kind f t rows says (l .lent) k5 r t′ rows′ lt lr done in
+        let h = goes-on s row deep n w kind f t rows says (l .lent) (i .more-lines) r t′ rows′ (i .scratch-long) (i .rows-long) (i .leaves) in
         omega (arith, l .lent .ready .ends, size-some (l .lent .ready .body))
 
     pub loop-again : (next : ℕ) → next ≡ kindAt s (r .at) → Loop s from row deep t₀ rows₀ t′ rows′ n w r next
     loop-again next k =
         record {
           kind-is = k;
-          scratch-long = lt ∙ l .scratch-long;
-          rows-long = lr ∙ l .rows-long;
-          lent = lent-again s row deep n w kind f t rows says (l .lent) k5 r t′ rows′ lt lr done;
-          turns = turns-again s row deep n w kind f t rows says (l .lent) k5 r t′ rows′ lt lr done from t₀ rows₀ (l .rows-long) (l .turns);
+          scratch-long = i .scratch-long ∙ l .scratch-long;
+          rows-long = i .rows-long ∙ l .rows-long;
+          lent = lent-again s row deep n w kind f t rows says (l .lent) (i .more-lines) r t′ rows′ (i .scratch-long) (i .rows-long) (i .leaves);
+          turns = turns-again s row deep n w kind f t rows says (l .lent) (i .more-lines) r t′ rows′ (i .scratch-long) (i .rows-long) (i .leaves) from t₀ rows₀ (l .rows-long) (l .turns);
         }
 
   pub loop-done : kind ≡ 5 → (r : Open) (t′ : List ℕ) → Joined n w t f r t′ → BodyLeaves s from row t₀ rows₀ n w r t′ rows

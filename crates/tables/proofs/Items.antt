@@ -7,19 +7,20 @@ use native.Mathlib.Omega.{arith}
 use lib.ListN.{length, take, drop, getD}
 use lib.Dec.{eqb}
 use borrow.Rule.Slice.PartMut.{putMid}
-use Rattle.line.specs.At.{kindAt, siteAt, valueAt}
+use Rattle.line.specs.At.{kindAt, siteAt}
 use Rattle.trace.specs.Rows.{columns}
 use Rattle.trace.specs.Tree.{spend, Body, leaf, linesOf}
 use Rattle.trace.specs.Fold.{Chains, nothing, joined, called, spawned, chainOf}
 use Rattle.trace.proofs.Basics.{cond-same}
 use Rattle.walk.specs.declared.Open.{Open}
+use Rattle.walk.specs.Weight.{weightAt}
 use Rattle.walk.specs.Stands.{Stands, Says, kindOf, siteOf}
 use Rattle.walk.specs.Numbers.{numbers}
 use Rattle.walk.specs.Gain.{one, counted, Grown}
 use Rattle.walk.specs.Item.{itemChains}
 use Rattle.walk.specs.Reader.{ItemDone, alone, BodyDone}
 use Rattle.walk.proofs.Items.{size-some, chain-le}
-use Rattle.walk.proofs.Says.{kind-says, site-says, value-says}
+use Rattle.walk.proofs.Says.{kind-says, site-says, weight-says}
 use Rattle.walk.proofs.Lines.{is-sync}
 use Rattle.walk.proofs.Reader.{load-is}
 use Rattle.walk.proofs.Child.{cost-is, call-is, spawn-is, Child, child-is, cost-fits, child-work, child-ready, count-room, count-fits, ChildDone, child-done}
@@ -67,13 +68,13 @@ module _ {s : List ℕ} {row deep : ℕ} {f : Open} {t rows : List ℕ} {n w : �
 -- the item is a cost of v
 pub record Costs (s : List ℕ) (kind row deep : ℕ) (f : Open) (t rows : List ℕ) (n w v : ℕ) : Type 0 where
   pub asks : ItemAsks s kind row deep f t rows n w
-  pub value-is : v ≡ valueAt s (f .at)
+  pub weight-is : v ≡ weightAt s (f .at)
   pub cost : kind ≡ 6
 
 module _ {s : List ℕ} {kind row deep : ℕ} {f : Open} {t rows : List ℕ} {n w v : ℕ} (h : Costs s kind row deep f t rows n w v) where
   -- whatever body stands here begins with it
   spend-is : (b : Body) → Stands s (f .at) (linesOf b) → (r : Body) × (b ≡ leaf (spend v) r)
-  spend-is = cost-is s (f .at) kind (kind-says s (f .at) (f .at) kind refl (h .asks .kind-is)) v (value-says s (f .at) (f .at) v refl (h .value-is)) (h .cost)
+  spend-is = cost-is s (f .at) kind (kind-says s (f .at) (f .at) kind refl (h .asks .kind-is)) v (weight-says s (f .at) (f .at) v refl (h .weight-is)) (h .cost)
 
   -- it fits the rows, the work and the chains
   fit : ((columns * row + 3 < length rows) × (getD rows (columns * row + 3) 0 + v < 2 ^ 64)) × ((f .work + v < 2 ^ 64) × (f .prefix + (f .longest + f .since) + v < 2 ^ 64))
@@ -150,17 +151,25 @@ module _ {s : List ℕ} {kind row deep : ℕ} {f : Open} {t rows : List ℕ} {n 
         holds = holds-two n w part [] [] (lent-none (l .k) (l .weighs) (l .holds));
       }
 
-  -- the child's numbers are c, and it left the part y and the rows rows₁
-  module _ (c : Open) (y rows₁ : List ℕ) (ly : length y ≡ length part) (lr : length rows₁ ≡ length rows) (done : BodyLeaves s (f .at + 1) site part rows n w c y rows₁) where
+  -- the child has returned: its numbers are c, and it left the part y and the rows rows₁
+  pub record Back (c : Open) (y rows₁ : List ℕ) : Type 0 where
+    pub part-long : length y ≡ length part
+    pub rows-long : length rows₁ ≡ length rows
+    pub leaves : BodyLeaves s (f .at + 1) site part rows n w c y rows₁
+
+  module _ {c : Open} {y rows₁ : List ℕ} (u : Back c y rows₁) where
     abbrev back : List ℕ
     back = putMid o (length t - o) t y
 
+    pub back-long : length back ≡ length t
+    back-long = back-length o t y (u .part-long)
+
     left : BodyDone (f .at + 1) site rows (child .g) c rows₁ × Shows n w y (alone (chainOf (f .at + 1) site (child .g))) []
-    left = done (child .g) (child .stands) (lent-none (l .k) (l .weighs) (l .holds))
+    left = u .leaves (child .g) (child .stands) (lent-none (l .k) (l .weighs) (l .holds))
 
     -- it can be counted
     pub count-asks : (columns * site + 2 < length rows₁) × ((getD rows₁ (columns * site) 0 + 1 < 2 ^ 64) × ((getD rows₁ (columns * site + 1) 0 + c .work < 2 ^ 64) × (getD rows₁ (columns * site + 2) 0 + c .prefix < 2 ^ 64)))
-    count-asks = (count-room s row (l .m) deep f rows (l .ready) site child c rows₁ lr (left .0), count-fits s row (l .m) deep f rows (l .ready) site child c rows₁ lr (left .0))
+    count-asks = (count-room s row (l .m) deep f rows (l .ready) site child c rows₁ (u .rows-long) (left .0), count-fits s row (l .m) deep f rows (l .ready) site child c rows₁ (u .rows-long) (left .0))
 
     -- and its chain taken
     pub child-asks : Asks n w back f (c .prefix) × ((site < w) × ((5 * n ≤ length back) × (f .work + c .work < 2 ^ 64)))
@@ -170,7 +179,7 @@ module _ {s : List ℕ} {kind row deep : ℕ} {f : Open} {t rows : List ℕ} {n 
         let r = child-ready s row (l .m) deep f rows (l .ready) site child in (
           record {
             blocks = l .blocks;
-            room = omega (arith, own-room l, back-length o t y ly);
+            room = omega (arith, own-room l, back-long);
             k = l .k;
             g = g;
             weighs = l .weighs;
@@ -181,19 +190,19 @@ module _ {s : List ℕ} {kind row deep : ℕ} {f : Open} {t rows : List ℕ} {n 
           (
             omega (arith, r .row-in, l .wide),
             (
-              omega (arith, room-below, back-length o t y ly),
+              omega (arith, room-below, back-long),
               omega (arith, ap (λ (x : Open). x .work) (left .0 .numbers-are), child-work s row (l .m) deep f rows (l .ready) site child .0),
             ),
           ),
         )
 
     -- it was counted, and the step left r and the scratch t₂
-    module _ (rows₂ : List ℕ) (counts : Grown rows₁ (counted site (c .work) (c .prefix)) rows₂) (r : Open) (t₂ : List ℕ) where
+    module _ {rows₂ : List ℕ} (counts : Grown rows₁ (counted site (c .work) (c .prefix)) rows₂) (r : Open) (t₂ : List ℕ) where
       -- the child's body is g: its numbers and rows, and the scratch behind it
       behind : (k : Chains) (g : Body) → f ≡ numbers (f .at) (f .work) k → Stands s (f .at + 1) (linesOf g) → Holds n w t k [] → ChildDone f site rows g c rows₂ × Holds n w back k (chainOf (f .at + 1) site g)
       behind k g e st sh =
-          let d = done g st (lent-none k e sh) in (
-            child-done f site rows rows₁ rows₂ g c lr (d .0) counts,
+          let d = u .leaves g st (lent-none k e sh) in (
+            child-done f site rows rows₁ rows₂ g c (u .rows-long) (d .0) counts,
             child-back n w (l .blocks) t (own-room l) (f .longest) o (h .begins) k (chainOf (f .at + 1) site g) y (ap (λ (x : Open). x .longest) e) sh (d .1),
           )
 

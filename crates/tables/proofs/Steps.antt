@@ -8,14 +8,14 @@ use native.Mathlib.Omega.{arith}
 use lib.Dec.{eqb, ltb}
 use lib.ListN.{length, getD, set}
 use lib.Seq.{getD-set-same, getD-set-other}
-use borrow.Author.Tests.{lt-ltb, le-ltb, eqb-true, eqb-false}
+use borrow.Author.Tests.{eqb-true, eqb-false}
 use Rattle.chain.specs.Plan.{CostLine, weight, choose}
-use Rattle.chain.proofs.Choose.{choose-left, choose-right, choose-cases, test}
-use Rattle.trace.specs.Fold.{costAt, called, spawned, onRow}
+use Rattle.chain.proofs.Choose.{choose-cases, test}
+use Rattle.trace.specs.Fold.{costAt, Chains, called, spawned, onRow}
 use Rattle.trace.proofs.OnChain.{row-append, row-le}
 use Rattle.walk.specs.declared.Open.{Open}
-use Rattle.walk.specs.Numbers.{numbers, spentN, joinedN, calledN, spawnedN}
-use Rattle.walk.proofs.Numbers.{spent-numbers, joined-numbers, called-numbers, spawned-numbers}
+use Rattle.walk.specs.Numbers.{numbers, spentN, laterHeavier, joinedN, calledN, childLonger, spawnedN}
+use Rattle.walk.proofs.Numbers.{spent-numbers, later-chosen, joined-numbers, called-numbers, child-chosen, spawned-numbers}
 use Rattle.tables.specs.Blocks.{Added, Cleared, Table, Weighed, sinceAt, partAt, Holds, Asks, Spent, Joined, Called, Spawned}
 use Rattle.tables.proofs.Held.{since-first, since-later, part-first, part-later, none-longest, some-longest, weightless, light, holds-two}
 
@@ -60,11 +60,11 @@ module _ (t : List ℕ) (a s v : ℕ) where
 
 module _ (n w : ℕ) (wn : w ≤ n) (t : List ℕ) where
   -- no child was the longest: the prefix's block has the continuation
-  pub join-none : (f : Open) → f .longest ≡ 0 → Joined n w t f (joinedN f) t
-  join-none f m k e h =
+  pub join-none : (f : Open) → f .longest ≡ 0 → (b : Bool) → b ≡ laterHeavier f → Joined n w t f (joinedN b f) t
+  join-none f m b q k e h =
       let z = none-longest f k e m in
       let s = h .first z in (
-        ap joinedN e ∙ joined-numbers (f .at) (f .work) k,
+        joined-numbers f k e b q,
         holds-two n w t (k .p ++ choose (k .l) (k .c)) []
             (record {
               P = λ i l. omega (arith, s .P i l, row-append i (k .p) (k .c), row-append i (k .p) (choose (k .l) (k .c)), row-choose i (k .l) (k .c) z);
@@ -76,14 +76,14 @@ module _ (n w : ℕ) (wn : w ≤ n) (t : List ℕ) where
       )
 
   -- the continuation was heavier
-  pub join-since : (f : Open) (t₁ t₂ : List ℕ) → Added 0 (2 * n) w t t₁ → Cleared n w t₁ t₂ → (f .longest ≡ 0 → ⊥) → f .longest < f .since → Joined n w t f (joinedN f) t₂
-  join-since f t₁ t₂ d z m lt k e h =
+  pub join-since : (f : Open) (t₁ t₂ : List ℕ) → Added 0 (2 * n) w t t₁ → Cleared n w t₁ t₂ → (f .longest ≡ 0 → ⊥) → (b : Bool) → b ≡ laterHeavier f → b ≡ true → Joined n w t f (joinedN b f) t₂
+  join-since f t₁ t₂ d z m b q wins k e h =
       let s = h .later (some-longest f k e m) in
-      let q : choose (k .l) (k .c) ≡ k .c = choose-right (k .l) (k .c) (omega (arith, ap (λ (x : Open). x .longest) e, ap (λ (x : Open). x .since) e)) in (
-        ap joinedN e ∙ joined-numbers (f .at) (f .work) k,
+      let taken : choose (k .l) (k .c) ≡ k .c = later-chosen f k e true (sym wins ∙ q) in (
+        joined-numbers f k e b q,
         holds-two n w t₂ (k .p ++ choose (k .l) (k .c)) []
             (record {
-              P = rw q (kept t₁ t₂ 0 w (k .p ++ k .c) (λ i l. z .rest (0 + i) (λ x y. omega arith)) (summed 0 (2 * n) w t t₁ (k .p) (k .c) d (s .P) (s .C)));
+              P = rw taken (kept t₁ t₂ 0 w (k .p ++ k .c) (λ i l. z .rest (0 + i) (λ x y. omega arith)) (summed 0 (2 * n) w t t₁ (k .p) (k .c) d (s .P) (s .C)));
               L = z .gone;
               C = kept t₁ t₂ (2 * n) w [] (λ i l. z .rest (2 * n + i) (λ x y. omega arith)) (d .gone);
               G = λ i l. z .rest (4 * n + i) (λ x y. omega arith) ∙ d .rest (4 * n + i) (λ x y. omega arith) (λ x y. omega arith) ∙ s .G i l;
@@ -92,14 +92,14 @@ module _ (n w : ℕ) (wn : w ≤ n) (t : List ℕ) where
       )
 
   -- the longest child was, or they weigh the same
-  pub join-longest : (f : Open) (t₁ t₂ : List ℕ) → Added 0 n w t t₁ → Cleared (2 * n) w t₁ t₂ → (f .longest ≡ 0 → ⊥) → f .since ≤ f .longest → Joined n w t f (joinedN f) t₂
-  join-longest f t₁ t₂ d z m le k e h =
+  pub join-longest : (f : Open) (t₁ t₂ : List ℕ) → Added 0 n w t t₁ → Cleared (2 * n) w t₁ t₂ → (f .longest ≡ 0 → ⊥) → (b : Bool) → b ≡ laterHeavier f → b ≡ false → Joined n w t f (joinedN b f) t₂
+  join-longest f t₁ t₂ d z m b q loses k e h =
       let s = h .later (some-longest f k e m) in
-      let q : choose (k .l) (k .c) ≡ k .l = choose-left (k .l) (k .c) (omega (arith, ap (λ (x : Open). x .longest) e, ap (λ (x : Open). x .since) e)) in (
-        ap joinedN e ∙ joined-numbers (f .at) (f .work) k,
+      let taken : choose (k .l) (k .c) ≡ k .l = later-chosen f k e false (sym loses ∙ q) in (
+        joined-numbers f k e b q,
         holds-two n w t₂ (k .p ++ choose (k .l) (k .c)) []
             (record {
-              P = rw q (kept t₁ t₂ 0 w (k .p ++ k .l) (λ i l. z .rest (0 + i) (λ x y. omega arith)) (summed 0 n w t t₁ (k .p) (k .l) d (s .P) (s .L)));
+              P = rw taken (kept t₁ t₂ 0 w (k .p ++ k .l) (λ i l. z .rest (0 + i) (λ x y. omega arith)) (summed 0 n w t t₁ (k .p) (k .l) d (s .P) (s .L)));
               L = kept t₁ t₂ n w [] (λ i l. z .rest (n + i) (λ x y. omega arith)) (d .gone);
               C = z .gone;
               G = λ i l. z .rest (4 * n + i) (λ x y. omega arith) ∙ d .rest (4 * n + i) (λ x y. omega arith) (λ x y. omega arith) ∙ s .G i l;
@@ -146,18 +146,18 @@ module _ (n w : ℕ) (wn : w ≤ n) (t : List ℕ) where
       )
 
   -- a called child, wherever the tables are
-  pub called-done : (f : Open) (c : Open) (t′ : List ℕ) → Added (sinceAt n (f .longest)) (partAt n (f .longest)) w t t′ → Called n w t f c (calledN c f) t′
-  called-done f c t′ d = go (eqb (f .longest) 0) refl
+  pub called-done : (f : Open) (c : Open) (a b : ℕ) → a ≡ sinceAt n (f .longest) → b ≡ partAt n (f .longest) → (t′ : List ℕ) → Added a b w t t′ → (r : Open) → r ≡ calledN c f → Called n w t f c r t′
+  called-done f c a b ea eb t′ added r er = rw er (go (rw (ea, eb) at added) (eqb (f .longest) 0) refl)
     where
-      go : (b : Bool) → eqb (f .longest) 0 ≡ b → Called n w t f c (calledN c f) t′
-      go true q = let m = eqb-true (f .longest) 0 q in called-first f c t′ (rw (since-first n (f .longest) m, part-first n (f .longest) m) at d) m
-      go false q = let m = eqb-false (f .longest) 0 q in called-later f c t′ (rw (since-later n (f .longest) m, part-later n (f .longest) m) at d) m
+      go : Added (sinceAt n (f .longest)) (partAt n (f .longest)) w t t′ → (b : Bool) → eqb (f .longest) 0 ≡ b → Called n w t f c (calledN c f) t′
+      go d true q = let m = eqb-true (f .longest) 0 q in called-first f c t′ (rw (since-first n (f .longest) m, part-first n (f .longest) m) at d) m
+      go d false q = let m = eqb-false (f .longest) 0 q in called-later f c t′ (rw (since-later n (f .longest) m, part-later n (f .longest) m) at d) m
 
   -- no child was the longest before the spawned one: its table is in its place
-  pub spawned-first : (f : Open) (c : Open) → f .longest ≡ 0 → Spawned n w t f c (spawnedN c f) t
-  spawned-first f c m k g e v h =
+  pub spawned-first : (f : Open) (c : Open) → f .longest ≡ 0 → (b : Bool) → b ≡ childLonger c f → Spawned n w t f c (spawnedN b c f) t
+  spawned-first f c m b q k g e v h =
       let z = none-longest f k e m in
-      (ap (spawnedN c) e ∙ spawned-numbers (f .at) (f .work) k c g v, go z (test (weight (k .l)) (weight (k .c) + weight g)))
+      (spawned-numbers f k e c g v b q, go z (test (weight (k .l)) (weight (k .c) + weight g)))
     where
       go : weight (k .l) ≡ 0 → ((weight (k .l) < weight (k .c) + weight g) × (ltb (weight (k .l)) (weight (k .c) + weight g) ≡ true)) ⊎ ((weight (k .c) + weight g ≤ weight (k .l)) × (ltb (weight (k .l)) (weight (k .c) + weight g) ≡ false))
           → Holds n w t (spawned g k) []
@@ -173,14 +173,13 @@ module _ (n w : ℕ) (wn : w ≤ n) (t : List ℕ) where
   child-fits t₁ t₂ d z g h v i l = omega (arith, z .gone i l, child-table t₁ t₂ d z g h i l, row-le i g)
 
   -- the spawned child is the longest from now on
-  pub spawned-longer : (f : Open) (c : Open) (t₁ t₂ t₃ : List ℕ) → Added 0 (2 * n) w t t₁ → Cleared n w t₁ t₂ → Added n (4 * n) w t₂ t₃ → (f .longest ≡ 0 → ⊥) → f .longest < f .since + c .prefix → Spawned n w t f c (spawnedN c f) t₃
-  spawned-longer f c t₁ t₂ t₃ d z d₂ m lt k g e v h =
+  pub spawned-longer : (f : Open) (c : Open) (t₁ t₂ t₃ : List ℕ) → Added 0 (2 * n) w t t₁ → Cleared n w t₁ t₂ → Added n (4 * n) w t₂ t₃ → (f .longest ≡ 0 → ⊥) → (b : Bool) → b ≡ childLonger c f → b ≡ true → Spawned n w t f c (spawnedN b c f) t₃
+  spawned-longer f c t₁ t₂ t₃ d z d₂ m b q wins k g e v h =
       let s = h .later (some-longest f k e m) in
-      let q : ltb (weight (k .l)) (weight (k .c) + weight g) ≡ true = lt-ltb (weight (k .l)) (weight (k .c) + weight g) (omega (arith, ap (λ (x : Open). x .longest) e, ap (λ (x : Open). x .since) e)) in
       let p₂ : Table t₂ 0 w (k .p ++ k .c) = kept t₁ t₂ 0 w (k .p ++ k .c) (λ i l. z .rest (0 + i) (λ x y. omega arith)) (summed 0 (2 * n) w t t₁ (k .p) (k .c) d (s .P) (s .C)) in
       let c₂ : Table t₂ (2 * n) w [] = kept t₁ t₂ (2 * n) w [] (λ i l. z .rest (2 * n + i) (λ x y. omega arith)) (d .gone) in (
-        ap (spawnedN c) e ∙ spawned-numbers (f .at) (f .work) k c g v,
-        simp q
+        spawned-numbers f k e c g v b q,
+        subst (λ (x : Chains). Holds n w t₃ x []) (sym (child-chosen f k e c g v true (sym wins ∙ q)))
             (holds-two n w t₃ (k .p ++ k .c) g
             (record {
               P = kept t₂ t₃ 0 w (k .p ++ k .c) (λ i l. d₂ .rest (0 + i) (λ x y. omega arith) (λ x y. omega arith)) p₂;
@@ -192,13 +191,12 @@ module _ (n w : ℕ) (wn : w ≤ n) (t : List ℕ) where
       )
 
   -- it is not
-  pub spawned-shorter : (f : Open) (c : Open) (t₁ : List ℕ) → Cleared (4 * n) w t t₁ → (f .longest ≡ 0 → ⊥) → f .since + c .prefix ≤ f .longest → Spawned n w t f c (spawnedN c f) t₁
-  spawned-shorter f c t₁ z m le k g e v h =
+  pub spawned-shorter : (f : Open) (c : Open) (t₁ : List ℕ) → Cleared (4 * n) w t t₁ → (f .longest ≡ 0 → ⊥) → (b : Bool) → b ≡ childLonger c f → b ≡ false → Spawned n w t f c (spawnedN b c f) t₁
+  spawned-shorter f c t₁ z m b q loses k g e v h =
       let x = some-longest f k e m in
-      let s = h .later x in
-      let q : ltb (weight (k .l)) (weight (k .c) + weight g) ≡ false = le-ltb (weight (k .l)) (weight (k .c) + weight g) (omega (arith, ap (λ (x : Open). x .longest) e, ap (λ (x : Open). x .since) e)) in (
-        ap (spawnedN c) e ∙ spawned-numbers (f .at) (f .work) k c g v,
-        simp q
+      let s = h .later x in (
+        spawned-numbers f k e c g v b q,
+        subst (λ (x : Chains). Holds n w t₁ x []) (sym (child-chosen f k e c g v false (sym loses ∙ q)))
             (record {
               first = λ o. absurd (x o);
               later = λ o.
@@ -253,15 +251,15 @@ module _ (n w : ℕ) (wn : w ≤ n) (t : List ℕ) where
       )
 
   -- a cost, wherever the continuation's table is
-  pub spent-done : (f : Open) (s v : ℕ) → s < w → 4 * n ≤ length t → Spent n w s v t f (spentN v f) (raised t (sinceAt n (f .longest)) s v)
-  spent-done f s v sw room = go (eqb (f .longest) 0) refl
+  pub spent-done : (f : Open) (s v : ℕ) → s < w → 4 * n ≤ length t → (a : ℕ) → a ≡ sinceAt n (f .longest) → (t′ : List ℕ) → t′ ≡ raised t a s v → (r : Open) → r ≡ spentN v f → Spent n w s v t f r t′
+  spent-done f s v sw room a ea t′ et r er = rw (er, et, ea) (go (eqb (f .longest) 0) refl)
     where
       go : (b : Bool) → eqb (f .longest) 0 ≡ b → Spent n w s v t f (spentN v f) (raised t (sinceAt n (f .longest)) s v)
       go true q = let m = eqb-true (f .longest) 0 q in rw (since-first n (f .longest) m) (spent-first f s v sw room m)
       go false q = let m = eqb-false (f .longest) 0 q in rw (since-later n (f .longest) m) (spent-later f s v sw room m)
 
 -- what a step may rely on
-module _ (n w : ℕ) (t : List ℕ) (f : Open) (v : ℕ) (r : Asks n w t f v) where
+module _ {n w : ℕ} {t : List ℕ} {f : Open} {v : ℕ} (r : Asks n w t f v) where
   -- the invocation's numbers and the child's fit together
   pub load-fits : f .prefix + (f .longest + f .since) + v < 2 ^ 64
   load-fits = omega (arith, r .fits, ap (λ (x : Open). x .prefix) (r .weighs), ap (λ (x : Open). x .longest) (r .weighs), ap (λ (x : Open). x .since) (r .weighs))

@@ -45,7 +45,7 @@ room-is D n l =
     ap (λ (x : ℕ). x * n) (mul-comm 4 D) ∙ mul-assoc D 4 n ∙ ap (λ (x : ℕ). x * (4 * n)) e ∙ omega (arith, suc-mul (D - 1) (4 * n))
 
 -- what acceptance says of the limits and of the room
-module _ (s : List ℕ) (D M : ℕ) (scratch rows : List ℕ) (count lines : ℕ) (a : Admitted s D M scratch rows count lines) where
+module _ {s : List ℕ} {D M : ℕ} {scratch rows : List ℕ} {count lines : ℕ} (a : Admitted s D M scratch rows count lines) where
   pub limits : (1 ≤ D) × (D ≤ 64) × (M ≤ 255) × (count ≤ M)
   limits = root.limits tables s D M (lent scratch rows) (a .t) (a .is) count (a .count-is)
 
@@ -61,11 +61,15 @@ module _ (s : List ℕ) (D M : ℕ) (scratch rows : List ℕ) (count lines : ℕ
   abbrev rows₁ : List ℕ
   rows₁ = replicate (columns * (count + 1)) 0 ++ drop (columns * (count + 1)) rows
 
-  -- the root's room, where it goes by these names
-  pub root-asks : (t₁ r₁ : List ℕ) → t₁ ≡ replicate (length scratch) 0 → r₁ ≡ rows₁ → ((i : ℕ) → getD rows i 0 < 2 ^ 64) → BodyAsks s count 0 (D - 1) t₁ r₁ (M + 3) (count + 1)
-  root-asks t₁ r₁ et er fits =
-      subst (λ (x : List ℕ). BodyAsks s count 0 (D - 1) x r₁ (M + 3) (count + 1)) (sym et)
-      (subst (λ (y : List ℕ). BodyAsks s count 0 (D - 1) (replicate (length scratch) 0) y (M + 3) (count + 1)) (sym er)
+  -- the room was cleared, and goes by these names
+  pub record Blank (t₁ r₁ : List ℕ) : Type 0 where
+    pub scratch-is : t₁ ≡ replicate (length scratch) 0
+    pub rows-are : r₁ ≡ rows₁
+
+  pub root-asks : {t₁ r₁ : List ℕ} → Blank t₁ r₁ → ((i : ℕ) → getD rows i 0 < 2 ^ 64) → BodyAsks s count 0 (D - 1) t₁ r₁ (M + 3) (count + 1)
+  root-asks {t₁} {r₁} z fits =
+      subst (λ (x : List ℕ). BodyAsks s count 0 (D - 1) x r₁ (M + 3) (count + 1)) (sym (z .scratch-is))
+      (subst (λ (y : List ℕ). BodyAsks s count 0 (D - 1) (replicate (length scratch) 0) y (M + 3) (count + 1)) (sym (z .rows-are))
       (record {
         m = sites (a .t);
         ready = root.ready tables s D M (lent scratch rows) (a .t) (a .is) count (a .count-is) fits;
@@ -77,22 +81,30 @@ module _ (s : List ℕ) (D M : ℕ) (scratch rows : List ℕ) (count lines : ℕ
         holds = holds-two (M + 3) (count + 1) (replicate (length scratch) 0) [] [] (zeros-show (M + 3) (count + 1) (length scratch));
       }))
 
-  -- what the root's reading comes to
-  module _ (t₁ r₁ : List ℕ) (et : t₁ ≡ replicate (length scratch) 0) (er : r₁ ≡ rows₁) (c : Open) (t₂ rows₂ : List ℕ) (lr : length rows₂ ≡ length rows)
-      (done : BodyLeaves s count 0 t₁ r₁ (M + 3) (count + 1) c t₂ rows₂) where
+  -- the root was read: its numbers are c, and it left the scratch t₂ and the rows rows₂
+  pub record Read (c : Open) (t₂ rows₂ : List ℕ) : Type 0 where
+    pub t₁ : List ℕ
+    pub r₁ : List ℕ
+    pub blank : Blank t₁ r₁
+    pub scratch-same : length t₂ ≡ length scratch
+    pub rows-same : length rows₂ ≡ length rows
+    pub leaves : BodyLeaves s count 0 t₁ r₁ (M + 3) (count + 1) c t₂ rows₂
+
+  -- what its reading comes to
+  module _ {c : Open} {t₂ rows₂ : List ℕ} (u : Read c t₂ rows₂) where
     abbrev b : Body
     b = root.body tables s D M (lent scratch rows) (a .t) (a .is) count (a .count-is)
 
     left : BodyDone count 0 rows₁ b c rows₂ × Shows (M + 3) (count + 1) t₂ (alone (chainOf count 0 b)) []
     left =
-        let h = done b (root.stands tables s D M (lent scratch rows) (a .t) (a .is) count (a .count-is)) (subst (λ (x : List ℕ). Shows (M + 3) (count + 1) x nothing []) (sym et) (zeros-show (M + 3) (count + 1) (length scratch))) in
-        (subst (λ (y : List ℕ). BodyDone count 0 y b c rows₂) er (h .0), h .1)
+        let h = u .leaves b (root.stands tables s D M (lent scratch rows) (a .t) (a .is) count (a .count-is)) (subst (λ (x : List ℕ). Shows (M + 3) (count + 1) x nothing []) (sym (u .blank .scratch-is)) (zeros-show (M + 3) (count + 1) (length scratch))) in
+        (subst (λ (y : List ℕ). BodyDone count 0 y b c rows₂) (u .blank .rows-are) (h .0), h .1)
 
     pub root-counts : (columns * 0 + 2 < length rows₂) × ((getD rows₂ (columns * 0) 0 + 1 < 2 ^ 64) × ((getD rows₂ (columns * 0 + 1) 0 + c .work < 2 ^ 64) × (getD rows₂ (columns * 0 + 2) 0 + c .prefix < 2 ^ 64)))
-    root-counts = root.count-fits tables s D M (lent scratch rows) (a .t) (a .is) count (a .count-is) c rows₂ lr (left .0)
+    root-counts = root.count-fits tables s D M (lent scratch rows) (a .t) (a .is) count (a .count-is) c rows₂ (u .rows-same) (left .0)
 
     -- the root itself, and its table
-    module _ (rows₃ t₃ rows₄ : List ℕ) (l₃ : length t₃ ≡ length scratch) (l₄ : length rows₄ ≡ length rows) (counts : Grown rows₂ (counted 0 (c .work) (c .prefix)) rows₃) (settled : Settled (count + 1) t₂ rows₃ t₃ rows₄) where
+    module _ {rows₃ : List ℕ} (counts : Grown rows₂ (counted 0 (c .work) (c .prefix)) rows₃) {t₃ rows₄ : List ℕ} (settled : Settled (count + 1) t₂ rows₃ t₃ rows₄) (l₃ : length t₃ ≡ length scratch) (l₄ : length rows₄ ≡ length rows) where
       abbrev answer : Answer
       answer = Accepted (c .work) (c .prefix) count lines
 
@@ -102,7 +114,7 @@ module _ (s : List ℕ) (D M : ℕ) (scratch rows : List ℕ) (count lines : ℕ
           go : Dec (j < 4) → getD rows₄ (columns * k + j) 0 ≡ cell count b k j
           go (yes q) =
               settled .others (columns * k + j) (λ x y e. omega arith)
-              ∙ root.cells tables s D M (lent scratch rows) (a .t) (a .is) count (a .count-is) c rows₂ lr (left .0) rows₃ counts k j h q
+              ∙ root.cells tables s D M (lent scratch rows) (a .t) (a .is) count (a .count-is) c rows₂ (u .rows-same) (left .0) rows₃ counts k j h q
           go (no q) =
               let e : j ≡ 4 = omega arith in
               let z : k ≡ 0 + k = omega arith in
@@ -113,7 +125,7 @@ module _ (s : List ℕ) (D M : ℕ) (scratch rows : List ℕ) (count lines : ℕ
         where
           go : Dec (i < length rows) → getD rows₄ i 0 ≡ getD rows i 0
           go (yes q) =
-              settled .others i (λ x y e. omega arith) ∙ root.rest tables s D M (lent scratch rows) (a .t) (a .is) count (a .count-is) c rows₂ lr (left .0) rows₃ counts i h q
+              settled .others i (λ x y e. omega arith) ∙ root.rest tables s D M (lent scratch rows) (a .t) (a .is) count (a .count-is) c rows₂ (u .rows-same) (left .0) rows₃ counts i h q
           go (no q) = List·getD-eq-default rows₄ 0 {n = i} (omega arith) ∙ sym (List·getD-eq-default rows 0 {n = i} (omega arith))
 
       scratch-zero : t₃ ≡ replicate (length scratch) 0
@@ -126,8 +138,8 @@ module _ (s : List ℕ) (D M : ℕ) (scratch rows : List ℕ) (count lines : ℕ
       by-tree : ProfileBy tables count b (lent scratch rows) answer (lent t₃ rows₄)
       by-tree =
           let fine = root.fine tables s D M (lent scratch rows) (a .t) (a .is) count (a .count-is) in
-          let work-is = root.work-is tables s D M (lent scratch rows) (a .t) (a .is) count (a .count-is) c rows₂ lr (left .0) in
-          let span-is = root.span-is tables s D M (lent scratch rows) (a .t) (a .is) count (a .count-is) c rows₂ lr (left .0) in
+          let work-is = root.work-is tables s D M (lent scratch rows) (a .t) (a .is) count (a .count-is) c rows₂ (u .rows-same) (left .0) in
+          let span-is = root.span-is tables s D M (lent scratch rows) (a .t) (a .is) count (a .count-is) c rows₂ (u .rows-same) (left .0) in
           record {
             answer =
                 ap (λ (x : ℕ). Accepted x (c .prefix) count lines) work-is

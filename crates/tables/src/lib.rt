@@ -109,18 +109,19 @@ fn join(t: &mut [u64], n: usize, w: usize, f: walk::Open) -> walk::Open
     requires { ⌜ f .at + 1 < 2 ^ 64 ⌝ }
     ensures { λ r. ⌜ Joined n w (now (t .entry)) f r (now (t .exit)) ⌝ }
 {
+    let later = f.later_heavier();
     if f.longest == 0 {
-        return f.joined();
+        return f.joined(later);
     }
     let k = 2 * n;
-    if f.longest < f.since {
+    if later {
         add_from(t, 0, k, w);
         clear(t, n, w);
-        return f.joined();
+        return f.joined(later);
     }
     add_from(t, 0, n, w);
     clear(t, k, w);
-    f.joined()
+    f.joined(later)
 }
 
 // A called child of row s has returned: the continuation takes its chain.
@@ -140,19 +141,20 @@ fn spawned(t: &mut [u64], n: usize, w: usize, f: walk::Open, s: usize, c: walk::
     requires { ⌜ (s < w) × ((5 * n ≤ length (now t)) × (f .work + c .work < 2 ^ 64)) ⌝ }
     ensures { λ r. ⌜ Spawned n w (now (t .entry)) f c r (now (t .exit)) ⌝ }
 {
+    let longer = f.child_longer(c);
     if f.longest == 0 {
-        return f.spawned(c);
+        return f.spawned(c, longer);
     }
     let k = 2 * n;
     let g = 4 * n;
-    if f.longest < f.since + c.prefix {
+    if longer {
         add_from(t, 0, k, w);
         clear(t, n, w);
         take_child(t, n, g, w, s, c.prefix);
-        return f.spawned(c);
+        return f.spawned(c, longer);
     }
     clear_child(t, g, w, s, c.prefix);
-    f.spawned(c)
+    f.spawned(c, longer)
 }
 
 // Reads the items of an invocation of a row from its first line up to and with its return. At most deep more invocations open inside one another.
@@ -195,7 +197,7 @@ fn item(
 {
     let at = f.at;
     if kind == 6 {
-        let v = line::value_at(trace, at) as u64;
+        let v = walk::weight_at(trace, at);
         walk::spend(rows, row, v);
         return spend(t, n, w, f, row, v);
     }

@@ -1,4 +1,5 @@
 pub mod Stands
+pub mod Weight
 pub mod Numbers
 pub mod Gain
 pub mod Item

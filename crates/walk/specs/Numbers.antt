@@ -4,7 +4,6 @@ use Prim.Native.Nat.{ℕ, _+_}
 use mathlib.Core.Bool.{Bool, cond}
 use lib.Dec.{ltb}
 use Rattle.chain.specs.Plan.{weight}
-use Rattle.trace.specs.Tree.{larger}
 use Rattle.trace.specs.Fold.{Chains}
 use Rattle.walk.specs.declared.Open.{Open}
 
@@ -16,18 +15,26 @@ numbers n w k = record { at = n; work = w; prefix = weight (k .p); longest = wei
 abbrev pub spentN : ℕ → Open → Open
 spentN v f = record { at = f .at + 1; work = f .work + v; prefix = f .prefix; longest = f .longest; since = f .since + v }
 
--- behind a sync or the return
-abbrev pub joinedN : Open → Open
-joinedN f = record { at = f .at + 1; work = f .work; prefix = f .prefix + larger (f .longest) (f .since); longest = 0; since = 0 }
+-- at a join: the continuation is heavier than the longest child
+abbrev pub laterHeavier : Open → Bool
+laterHeavier f = ltb (f .longest) (f .since)
+
+-- behind a sync or the return, where that is the answer
+abbrev pub joinedN : Bool → Open → Open
+joinedN later f = record { at = f .at + 1; work = f .work; prefix = f .prefix + cond later (f .since) (f .longest); longest = 0; since = 0 }
 
 -- behind a called child g
 abbrev pub calledN : Open → Open → Open
 calledN g f = record { at = g .at; work = f .work + g .work; prefix = f .prefix; longest = f .longest; since = f .since + g .prefix }
 
--- behind a spawned child g, which is the longest from now on where it is longer
-abbrev pub spawnedN : Open → Open → Open
-spawnedN g f =
-    cond (ltb (f .longest) (f .since + g .prefix))
+-- at a spawned child g: the continuation up to it, with it, is longer than the longest child
+abbrev pub childLonger : Open → Open → Bool
+childLonger g f = ltb (f .longest) (f .since + g .prefix)
+
+-- behind it, where that is the answer: it is the longest from now on where it is longer
+abbrev pub spawnedN : Bool → Open → Open → Open
+spawnedN longer g f =
+    cond longer
     (record { at = g .at; work = f .work + g .work; prefix = f .prefix + f .since; longest = g .prefix; since = 0 })
     (record { at = g .at; work = f .work + g .work; prefix = f .prefix; longest = f .longest; since = f .since })
 

@@ -1,72 +1,139 @@
-use Rattle.marks.proofs.Whole.{bounds, rows-in, marks-in, body-asks, count-asks, on-asks, promised}
+-- `marks::accepted` meets its contract: what is cleared, read, counted and read once more comes to the promise.
+use Prim.Native.Nat.{ℕ, _^_, _<_}
+use mathlib.Core.List.{List}
+use Rattle.marks.proofs.Whole.{bounds, rows-in, marks-in, Blank, body-asks, Read, count-asks, on-asks, promised}
 use Rattle.walk.proofs.Zeros.{cleared-all}
-use lib.ListN.{length}
+use lib.ListN.{length, getD, length-replicate}
 use native.Mathlib.Omega.{arith}
-use mathlib.Core.Path.{_∙_, ap}
+use mathlib.Core.Path.{_≡_, _∙_, ap}
 use borrow.Author.Needs.{needs}
 use Rattle.marks.proofs.accepted.Statement.{statement}
 use Rattle.marks.proofs.accepted.Tie as tie
+
+-- from each place that has a name to the one before it
+abbrev zero-start : tie.After-zero-arg → tie.Start
+zero-start c = c .before .before .before .before .before
+
+abbrev zeros : tie.After-zero-arg2 → tie.After-zero
+zeros c = c .before .before .before
+
+abbrev wipe-zeros : tie.After-wipe-lines-arg → tie.After-zero2
+wipe-zeros c = c .before .before .before
+
+abbrev body-wipe : tie.After-slice-known6 → tie.After-wipe-lines
+body-wipe c = c .before .before
+
+abbrev body-begins : tie.After-body-arg3 → tie.After-slice-known6
+body-begins c = c .before .before .before
+
+abbrev count-body : tie.After-count-arg → tie.After-body
+count-body c = c .before .before .before .before .before .before .before
+
+abbrev column-count : tie.After-column-arg3 → tie.After-count
+column-count c = c .before .before .before .before .before
+
+abbrev end-column : tie.After-slice-known12 → tie.After-column
+end-column c = c .before .before .before .before
+
+-- the arguments, from where the room is cleared and from where the root is read
+abbrev cleared : tie.After-zero-arg2 → tie.Start
+cleared c = zero-start (zeros c .before)
+
+abbrev wiped : tie.After-wipe-lines-arg → tie.Start
+wiped c = cleared (wipe-zeros c .before)
+
+abbrev begun : tie.After-slice-known6 → tie.Start
+begun c = wiped (body-wipe c .before)
+
+abbrev counted : tie.After-count → tie.Start
+counted c = begun (body-begins (count-body (c .before) .before))
+
+-- the rows lent are numbers of 64 bits
+rows-fit : (c : tie.After-zero-arg) (i : ℕ) → getD (zero-start c .args .rows .now) i 0 < 2 ^ 64
+rows-fit c i = omega (arith, c .before .slice-known3 .given i)
+
+-- what the root left of the scratch, of the marks and of the rows
+abbrev root-scratch : tie.After-body → List ℕ
+root-scratch c = c .body .last .1 .1 .1 .1 .0
+
+abbrev root-marks : tie.After-body → List ℕ
+root-marks c = c .body .last .1 .1 .1 .1 .1 .0
+
+abbrev root-rows : tie.After-body → List ℕ
+root-rows c = c .body .last .1 .1 .1 .1 .1 .1 .0
+
+-- what the second reading left of them
+abbrev column-scratch : tie.After-column → List ℕ
+column-scratch c = c .column .last .1 .1 .1 .0
+
+abbrev column-rows : tie.After-column → List ℕ
+column-rows c = c .column .last .1 .1 .1 .1 .1 .0
+
+blank : (c : tie.After-wipe-lines) → (
+    let z = wipe-zeros (c .before) in Blank (wiped (c .before) .pre) (zeros (z .before) .zero .last .0) (c .wipe-lines .last .0) (z .zero2 .last .0))
+blank c =
+    let z = wipe-zeros (c .before) in
+    record {
+      scratch-is = zeros (z .before) .zero .ensures ∙ cleared-all (wiped (c .before) .args .scratch .now);
+      sites-off = c .wipe-lines .ensures;
+      marks-same = c .wipe-lines .kept .0;
+      rows-are = z .zero2 .ensures;
+    }
+
+read : (c : tie.After-body) → Read (begun (body-begins (c .before)) .pre) (c .body .result) (root-scratch c) (root-marks c) (root-rows c)
+read c =
+    let w = body-wipe (body-begins (c .before)) in
+    let z = wipe-zeros (w .before) in
+    record {
+      t₁ = zeros (z .before) .zero .last .0;
+      m₁ = w .wipe-lines .last .0;
+      r₁ = z .zero2 .last .0;
+      blank = blank w;
+      zero = c .body .ensures .1 ∙ blank w .scratch-is;
+      marks-same = c .body .kept .1 .1 .1 .1 .1 .0 ∙ w .wipe-lines .kept .0;
+      rows-same = c .body .kept .1 .1 .1 .1 .1 .1 .0 ∙ z .zero2 .kept .0;
+      leaves = c .body .ensures .0;
+    }
+
+counts-long : (c : tie.After-count) → length (c .count .last .0) ≡ length (counted c .args .rows .now)
+counts-long c = c .count .kept .0 ∙ read (count-body (c .before)) .rows-same
 
 zero-requires : tie.Need-zero-requires
 zero-requires c κs = search needs
 
 add-zero : tie.Need-add-zero
-add-zero c =
-    let l = bounds (c .before .before .before .before .before .before .before .before .before .pre) in
-    omega (arith, l .2, l .3)
+add-zero c = let l = bounds (cleared c .pre) in omega (arith, l .2, l .3)
 
 mul-zero : tie.Need-mul-zero
-mul-zero c =
-    let l = bounds (c .before .before .before .before .before .before .before .before .before .pre) in
-    omega (arith, l .2, l .3)
+mul-zero c = let l = bounds (cleared c .pre) in omega (arith, l .2, l .3)
 
 zero-requires-2 : tie.Need-zero-requires-2
-zero-requires-2 c κs =
-    rows-in (c .before .before .before .before .before .before .before .before .before .pre)
+zero-requires-2 c κs = rows-in (cleared c .pre)
 
 wipe-lines-requires : tie.Need-wipe-lines-requires
-wipe-lines-requires c κs =
-    (omega arith, marks-in (c .before .before .before .before .before .before .before .before .before .before .before .before .before .pre))
+wipe-lines-requires c κs = (omega arith, marks-in (wiped c .pre))
 
 sub-body : tie.Need-sub-body
-sub-body c =
-    bounds (c .before .before .before .before .before .before .before .before .before .before .before .before .before .before .before .before .pre) .0
+sub-body c = bounds (begun c .pre) .0
 
 body-requires : tie.Need-body-requires
 body-requires c κs =
-    let a = c .before .before .before .before .before .before .before .before .before .before .before .before .before .before .before .before .before .before .before in
-    let h = a .pre in
-    body-asks h (c .before .before .before .before .before .before .before .before .before .before .before .before .before .zero .last .0) (c .before .before .before .before .before .wipe-lines .last .0) (c .before .before .before .before .before .before .before .before .before .zero2 .last .0) (c .before .before .before .before .before .before .before .before .before .before .before .before .before .zero .ensures ∙ cleared-all (a .args .scratch .now)) (c .before .before .before .before .before .wipe-lines .kept .0) (c .before .before .before .before .before .before .before .before .before .zero2 .ensures) (λ i. omega (arith, c .before .before .before .before .before .before .before .before .before .before .before .before .before .before .before .slice-known3 .given i))
+    let w = body-wipe (body-begins c) in
+    body-asks _ (blank w) (rows-fit (zeros (wipe-zeros (w .before) .before) .before))
 
 count-requires : tie.Need-count-requires
-count-requires c κs =
-    let a = c .before .before .before .before .before .before .before .before .before .before .before .before .before .before .before .before .before .before .before .before .before .before .before .before .before .before .before in
-    let h = a .pre in
-    let r = c .before .before .before .before .before .before .before .body in
-    let m = r .last .1 .1 .1 .1 .1 .0 in
-    let rows = r .last .1 .1 .1 .1 .1 .1 .0 in
-    let lm = r .kept .1 .1 .1 .1 .1 .0 ∙ c .before .before .before .before .before .before .before .before .before .before .before .before .before .wipe-lines .kept .0 in
-    let lr = r .kept .1 .1 .1 .1 .1 .1 .0 ∙ c .before .before .before .before .before .before .before .before .before .before .before .before .before .before .before .before .before .zero2 .kept .0 in
-    count-asks h (c .before .before .before .before .before .before .before .before .before .before .before .before .before .wipe-lines .last .0) (c .before .before .before .before .before .before .before .before .before .before .before .before .before .wipe-lines .ensures) (c .before .before .before .before .before .before .before .before .before .before .before .before .before .before .before .before .before .zero2 .last .0) (c .before .before .before .before .before .before .before .before .before .before .before .before .before .before .before .before .before .zero2 .ensures) (r .result) m rows lm lr (r .ensures .0)
+count-requires c κs = count-asks _ (read (count-body c))
 
 column-requires : tie.Need-column-requires
 column-requires c κs =
-    let a = c .before .before .before .before .before .before .before .before .before .before .before .before .before .before .before .before .before .before .before .before .before .before .before .before .before .before .before .before .before .before .before .before .before in
-    let h = a .pre in
-    let r = c .before .before .before .before .before .before .before .before .before .before .before .before .before .body in
-    let w = c .before .before .before .before .before .before .before .before .before .before .before .before .before .before .before .before .before .before .before .wipe-lines in
-    let z = c .before .before .before .before .before .before .before .before .before .before .before .before .before .before .before .before .before .before .before .before .before .before .before .zero2 in
-    let n = c .before .before .before .before .before .count in
-    let m = r .last .1 .1 .1 .1 .1 .0 in
-    let rows = r .last .1 .1 .1 .1 .1 .1 .0 in
-    let lm = r .kept .1 .1 .1 .1 .1 .0 ∙ w .kept .0 in
-    let lr = r .kept .1 .1 .1 .1 .1 .1 .0 ∙ z .kept .0 in
-    let zero = r .ensures .1 ∙ c .before .before .before .before .before .before .before .before .before .before .before .before .before .before .before .before .before .before .before .before .before .before .before .before .before .before .before .zero .ensures ∙ cleared-all (a .args .scratch .now) in
-    on-asks h (w .last .0) (w .ensures) (z .last .0) (z .ensures) (r .result) m rows lm lr (r .ensures .0) (n .last .0) (n .kept .0 ∙ lr) (n .ensures) (r .last .1 .1 .1 .1 .0) zero
+    let k = column-count c in
+    on-asks _ (read (count-body (k .before))) (k .count .last .0) (k .count .ensures) (counts-long k)
 
 same-length : tie.Need-same-length
 same-length c =
-    ap length (c .before .before .before .before .column .ensures .1 ∙ c .before .before .before .before .before .before .before .before .before .before .before .before .before .before .before .before .before .before .body .ensures .1) ∙ c .before .before .before .before .before .before .before .before .before .before .before .before .before .before .before .before .before .before .before .before .before .before .before .before .before .before .before .before .before .before .before .before .zero .kept .0
+    let o = end-column c in
+    let b = count-body (column-count (o .before) .before) in
+    ap length (o .column .ensures .1 ∙ read b .zero) ∙ length-replicate {A = ℕ} (length (counted (column-count (o .before)) .args .scratch .now)) 0
 
 same-length-2 : tie.Need-same-length-2
 same-length-2 c = search needs
@@ -76,19 +143,9 @@ same-length-3 c = search needs
 
 returns : tie.Need-returns
 returns c =
-    let a = c .before .before .before .before .before .before .before .before .before .before .before .before .before .before .before .before .before .before .before .before .before .before .before .before .before .before .before .before .before .before .before .before .before .before .before .before .before .before in
-    let h = a .pre in
-    let r = c .before .before .before .before .before .before .before .before .before .before .before .before .before .before .before .before .before .before .body in
-    let w = c .before .before .before .before .before .before .before .before .before .before .before .before .before .before .before .before .before .before .before .before .before .before .before .before .wipe-lines in
-    let z = c .before .before .before .before .before .before .before .before .before .before .before .before .before .before .before .before .before .before .before .before .before .before .before .before .before .before .before .before .zero2 in
-    let n = c .before .before .before .before .before .before .before .before .before .before .count in
-    let m = r .last .1 .1 .1 .1 .1 .0 in
-    let rows = r .last .1 .1 .1 .1 .1 .1 .0 in
-    let lm = r .kept .1 .1 .1 .1 .1 .0 ∙ w .kept .0 in
-    let lr = r .kept .1 .1 .1 .1 .1 .1 .0 ∙ z .kept .0 in
-    let zero = r .ensures .1 ∙ c .before .before .before .before .before .before .before .before .before .before .before .before .before .before .before .before .before .before .before .before .before .before .before .before .before .before .before .before .before .before .before .before .zero .ensures ∙ cleared-all (a .args .scratch .now) in
-    let on = c .before .before .before .before .column in
-    promised h (w .last .0) (w .ensures) (z .last .0) (z .ensures) (r .result) m rows lm lr (r .ensures .0) (n .last .0) (n .kept .0 ∙ lr) (n .ensures) (r .last .1 .1 .1 .1 .0) zero (on .last .1 .1 .1 .0) (on .last .1 .1 .1 .1 .1 .0) (on .ensures .1) (on .kept .1 .1 .1 .1 .1 .0 ∙ n .kept .0 ∙ lr) (on .ensures .0)
+    let o = end-column c in
+    let k = column-count (o .before) in
+    promised _ (read (count-body (k .before))) (k .count .last .0) (k .count .ensures) (counts-long k) (column-scratch o) (column-rows o) (o .column .ensures .0) (o .column .ensures .1) (o .column .kept .1 .1 .1 .1 .1 .0 ∙ counts-long k)
 
 pub accepted-spec : {M : Type 1} → statement M
 accepted-spec =

@@ -1,15 +1,25 @@
--- `marks::add_marked` meets its contract: a line that is not marked adds nothing.
+-- `marks::add_marked` meets its contract: where the line is marked, its weight is added to column 5.
 use Rattle.marks.proofs.Columns.{marked-on, grown-on, grown-off}
 use native.Mathlib.Omega.{arith}
 use Prim.Native.Nat.{ℕ, _+_, _*_}
 use mathlib.Core.Path.{subst}
 use lib.ListN.{getD}
-use Rattle.line.specs.At.{valueAt}
+use Rattle.walk.specs.Weight.{weightAt}
 use Rattle.walk.specs.Gain.{one, Grown}
 use Rattle.marks.specs.Column.{marked}
 use borrow.Author.Needs.{needs}
 use Rattle.marks.proofs.add_marked.Statement.{statement}
 use Rattle.marks.proofs.add_marked.Tie as tie
+
+-- from each place that has a name to the one before it
+abbrev start : tie.After-shared-slice-known3 → tie.Start
+start c = c .before .before .before .before
+
+abbrev weighed-start : tie.After-weight-at → tie.Start
+weighed-start c = start (c .before .before .before)
+
+abbrev added : tie.After-slice-known2 → tie.After-add
+added c = c .before .before
 
 shared-slice-read-if1 : tie.Need-shared-slice-read-if1
 shared-slice-read-if1 c = search needs
@@ -20,35 +30,31 @@ mul-add c = search needs
 add-add : tie.Need-add-add
 add-add c = search needs
 
-value-at-requires : tie.Need-value-at-requires
-value-at-requires c κs = search needs
-
-cast-add : tie.Need-cast-add
-cast-add c = search needs
+weight-at-requires : tie.Need-weight-at-requires
+weight-at-requires c κs = search needs
 
 add-requires : tie.Need-add-requires
 add-requires c κs =
-    let a = c .before .before .before .before .before .before .before in
+    let a = weighed-start c in
     let x = a .args in
-    let v = c .value-at in
-    (a .pre .1, omega (arith, a .pre .2, marked-on (getD (x .marks .now) (x .at) 0) (valueAt (x .trace .now) (x .at)) (c .before .before .if1 .taken), v .ensures))
+    (a .pre .1, omega (arith, a .pre .2, marked-on (getD (x .marks .now) (x .at) 0) (weightAt (x .trace .now) (x .at)) (c .before .before .if1 .taken), c .weight-at .ensures))
 
 same-length : tie.Need-same-length
 same-length c = search needs
 
 returns : tie.Need-returns
 returns c =
-    let x = c .before .before .before .before .before .before .before .before .before .before .args in
-    let v = c .before .before .before .value-at in
-    let r = c .before .before .add in
+    let r = added c in
+    let v = r .before in
+    let x = weighed-start v .args in
     let j = 5 * x .row + 4 in
     let mark = getD (x .marks .now) (x .at) 0 in
-    subst (λ (y : ℕ). Grown (x .rows .now) (one j (marked mark y)) (r .last .0)) (v .ensures) (grown-on (x .rows .now) (r .last .0) j mark (v .result) (c .before .before .before .before .before .if1 .taken) (r .ensures))
+    subst (λ (y : ℕ). Grown (x .rows .now) (one j (marked mark y)) (r .add .last .0)) (v .weight-at .ensures) (grown-on (x .rows .now) (r .add .last .0) j mark (v .weight-at .result) (v .before .before .if1 .taken) (r .add .ensures))
 
 returns-2 : tie.Need-returns-2
 returns-2 c =
-    let x = c .before .before .before .before .before .args in
-    grown-off (x .rows .now) (5 * x .row + 4) (getD (x .marks .now) (x .at) 0) (valueAt (x .trace .now) (x .at)) (c .if1 .left)
+    let x = start (c .before) .args in
+    grown-off (x .rows .now) (5 * x .row + 4) (getD (x .marks .now) (x .at) 0) (weightAt (x .trace .now) (x .at)) (c .if1 .left)
 
 pub add-marked-spec : {M : Type 1} → statement M
 add-marked-spec =
@@ -57,8 +63,7 @@ add-marked-spec =
     shared-slice-read-if1
     mul-add
     add-add
-    value-at-requires
-    cast-add
+    weight-at-requires
     add-requires
     same-length
     returns

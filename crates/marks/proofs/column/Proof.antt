@@ -1,5 +1,6 @@
+-- `marks::column` meets its contract: line by line, what is marked of a row is in its column 5.
 use Prim.Native.Nat.{_-_}
-use mathlib.Core.Path.{ap}
+use mathlib.Core.Path.{_≡_, ap}
 use lib.ListN.{length}
 use borrow.Author.Needs.{needs}
 use Rattle.marks.proofs.Columns.{Loop, turn-start, turn-asks, turn-again, turn-zero, turn-done}
@@ -12,13 +13,25 @@ Inv-loop trace from lines t₀ marks rows₀ a₀ at₀ t rows a at = Loop trace
 abbrev μ-loop : tie.MeasureT-loop
 μ-loop trace from lines t₀ marks rows₀ a₀ at₀ t rows a at = lines - at
 
+-- from each place that has a name to the one before it
+abbrev start : tie.After-slice-known2 Inv-loop μ-loop → tie.Start Inv-loop μ-loop
+start c = c .before .before .before .before
+
+abbrev turn : tie.After-on-line-arg2 Inv-loop μ-loop → tie.In-loop Inv-loop μ-loop
+turn c = c .before .before
+
+abbrev line-read : tie.After-slice-known4 Inv-loop μ-loop → tie.After-on-line Inv-loop μ-loop
+line-read c = c .before .before .before .before
+
 loop-holds : tie.Need-loop-holds Inv-loop μ-loop
 loop-holds c =
-    let a = c .before .before .before .before .args in
+    let a = start c .args in
     turn-start (a .trace .now) (a .from) (a .lines) (a .t .now) (a .marks .now) (a .rows .now)
 
 on-line-requires : tie.Need-on-line-requires Inv-loop μ-loop
-on-line-requires c κs = turn-asks (c .before .before .before .loop .inv) (c .before .before .loop-test .taken) (c .before .before .before .before .before .before .before .before .pre)
+on-line-requires c κs =
+    let i = turn c in
+    turn-asks (i .before .loop .inv) (i .loop-test .taken) (start (i .before .before) .pre)
 
 add-at : tie.Need-add-at Inv-loop μ-loop
 add-at c = search needs
@@ -28,17 +41,21 @@ loop-less c = search needs
 
 loop-again : tie.Need-loop-again Inv-loop μ-loop
 loop-again c =
-    let r = c .before .before .before .before .on-line in
-    turn-again (c .before .before .before .before .before .before .before .before .loop .inv) (c .before .before .before .before .before .before .before .loop-test .taken) (r .result) (r .last .1 .1 .1 .0) (r .last .1 .1 .1 .1 .1 .0) (r .kept .1 .1 .1 .1 .1 .0) (r .ensures)
+    let r = line-read c in
+    let i = turn (r .before) in
+    turn-again (i .before .loop .inv) (i .loop-test .taken) (r .on-line .result) (r .on-line .last .1 .1 .1 .0) (r .on-line .last .1 .1 .1 .1 .1 .0) (r .on-line .kept .1 .1 .1 .1 .1 .0) (r .on-line .ensures)
+
+zero : (c : tie.After-loop Inv-loop μ-loop) → c .before .loop .t ≡ start (c .before .before) .args .t .now
+zero c = turn-zero (c .before .loop .inv) (c .loop-test .left) (start (c .before .before) .pre)
 
 same-length : tie.Need-same-length Inv-loop μ-loop
-same-length c = ap length (turn-zero (c .before .loop .inv) (c .loop-test .left) (c .before .before .before .before .before .before .pre))
+same-length c = ap length (zero c)
 
 same-length-2 : tie.Need-same-length-2 Inv-loop μ-loop
 same-length-2 c = c .before .loop .inv .rows-long
 
 returns : tie.Need-returns Inv-loop μ-loop
-returns c = (turn-done (c .before .loop .inv) (c .loop-test .left), turn-zero (c .before .loop .inv) (c .loop-test .left) (c .before .before .before .before .before .before .pre))
+returns c = (turn-done (c .before .loop .inv) (c .loop-test .left), zero c)
 
 pub column-spec : {M : Type 1} → statement M
 column-spec =

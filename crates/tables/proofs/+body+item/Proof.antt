@@ -1,12 +1,13 @@
 -- The two readers meet their contracts: what each step asks for and leaves is that of the item that is read.
-use Prim.Native.Nat.{ℕ, _+_, _*_, _-_, _<_}
+use Prim.Native.Nat.{ℕ, _+_, _*_, _-_, _^_, _<_}
+use mathlib.Core.List.{List}
+use lib.ListN.{length}
 use mathlib.Core.Path.{_∙_}
 use native.Mathlib.Omega.{arith}
 use borrow.Author.Needs.{needs}
-use Rattle.tables.proofs.Parts.{back-length}
-use Rattle.tables.proofs.Bodies.{Loop, loop-start, loop-asks, loop-less, loop-again, loop-done}
-use Rattle.tables.proofs.Items.{line-fits, own-room, join-asks, sync-leaves, Costs, rows-asks, spend-asks, cost-leaves, Calls, deeper, room, body-asks, count-asks, child-asks, call-leaves, spawn-leaves}
-use borrow.Fn.Kinds.{In}
+use Rattle.tables.proofs.Bodies.{Loop, loop-start, loop-asks, Next, loop-less, loop-again, loop-done}
+use Rattle.tables.proofs.Items.{line-fits, own-room, join-asks, sync-leaves, Costs, rows-asks, spend-asks, cost-leaves, Calls, deeper, room, body-asks, Back, back-long, count-asks, child-asks, call-leaves, spawn-leaves}
+use borrow.Fn.Kinds.{In, Out}
 use borrow.Fn.PlainCycle.{Measures, is, falls, and}
 use Rattle.tables.proofs.body.Reads as body
 use Rattle.tables.proofs.body.Kinds as body-kinds
@@ -16,7 +17,6 @@ use Rattle.tables.proofs.item.Kinds as item-kinds
 use Rattle.tables.proofs.+body+item.Lts-item as item-lts
 use Rattle.line.proofs.kind_at.Reads as kind-at-reads
 use Rattle.line.proofs.site_at.Reads as site-at-reads
-use Rattle.line.proofs.value_at.Reads as value-at-reads
 use Rattle.tables.proofs.called.Reads as called-reads
 use Rattle.tables.proofs.join.Reads as join-reads
 use Rattle.tables.proofs.part.Reads as part-reads
@@ -25,6 +25,7 @@ use Rattle.tables.proofs.spend.Reads as spend-reads
 use Rattle.walk.proofs.Open.new.Reads as new-reads
 use Rattle.walk.proofs.count.Reads as count-reads
 use Rattle.walk.proofs.spend.Reads as spend-reads′
+use Rattle.walk.proofs.weight_at.Reads as weight-at-reads
 use Rattle.tables.proofs.+body+item.{statement}
 use Rattle.tables.proofs.+body+item.Tie.{close}
 
@@ -51,7 +52,7 @@ abbrev body-calls : ℕ → body-lts.Claims
 body-calls t = (new-reads.Asked, new-reads.Learnt, kind-at-reads.Asked, kind-at-reads.Learnt, item-below t, item.Post, join-reads.Asked, join-reads.Learnt)
 
 abbrev item-calls : ℕ → item-lts.Claims
-item-calls t = (value-at-reads.Asked, value-at-reads.Learnt, spend-reads′.Asked, spend-reads′.Learnt, spend-reads.Asked, spend-reads.Learnt, join-reads.Asked, join-reads.Learnt, site-at-reads.Asked, site-at-reads.Learnt, part-reads.Asked, part-reads.Learnt, body-below t, body.Post, count-reads.Asked, count-reads.Learnt, called-reads.Asked, called-reads.Learnt, spawned-reads.Asked, spawned-reads.Learnt)
+item-calls t = (weight-at-reads.Asked, weight-at-reads.Learnt, spend-reads′.Asked, spend-reads′.Learnt, spend-reads.Asked, spend-reads.Learnt, join-reads.Asked, join-reads.Learnt, site-at-reads.Asked, site-at-reads.Learnt, part-reads.Asked, part-reads.Learnt, body-below t, body.Post, count-reads.Asked, count-reads.Learnt, called-reads.Asked, called-reads.Learnt, spawned-reads.Asked, spawned-reads.Learnt)
 
 abbrev body-Inv-loop : body-lts.InvT-loop
 body-Inv-loop trace from row deep t₀ rows₀ n w f₀ kind₀ t rows f kind = Loop trace from row deep t₀ rows₀ t rows n w f kind
@@ -59,204 +60,273 @@ body-Inv-loop trace from row deep t₀ rows₀ n w f₀ kind₀ t rows f kind = 
 abbrev body-μ-loop : body-lts.MeasureT-loop
 body-μ-loop trace from row deep t₀ rows₀ n w f₀ kind₀ t rows f kind = 65536 - f .at
 
-body-new-requires : (t : ℕ) → body-lts.Need-new-requires (body-calls t) (body-at t) body.Post body-Inv-loop body-μ-loop
-body-new-requires t c κs = search needs
+module _ (t : ℕ) where
+  -- a place of `body`, or what is needed there
+  abbrev Body : (body-lts.Claims → In 3 body-kinds.ps → Out 3 body-kinds.ps body-kinds.r → body-lts.InvT-loop → body-lts.MeasureT-loop → Type 0) → Type 0
+  Body P = P (body-calls t) (body-at t) body.Post body-Inv-loop body-μ-loop
 
-body-kind-at-requires : (t : ℕ) → body-lts.Need-kind-at-requires (body-calls t) (body-at t) body.Post body-Inv-loop body-μ-loop
-body-kind-at-requires t c κs = search needs
+  -- from each place of `body` that has a name to the one before it
+  abbrev body-start : Body body-lts.After-new → Body body-lts.Start
+  body-start c = c .before .before .before .before
 
-body-loop-holds : (t : ℕ) → body-lts.Need-loop-holds (body-calls t) (body-at t) body.Post body-Inv-loop body-μ-loop
-body-loop-holds t c = loop-start (c .before .before .before .before .before .pre .1) (c .before .new .result) (c .before .new .ensures) (c .kind-at .result) (c .kind-at .ensures)
+  abbrev body-first : Body body-lts.At-loop → Body body-lts.After-new
+  body-first c = c .before .before
 
-body-item-requires : (t : ℕ) → body-lts.Need-item-requires (body-calls t) (body-at t) body.Post body-Inv-loop body-μ-loop
-body-item-requires t c κs = (omega (arith, c .before .before .before .before .before .before .before .before .before .pre .0), loop-asks (c .before .before .before .loop .inv) (c .before .before .loop-test .taken))
+  abbrev body-turn : Body body-lts.After-item-arg2 → Body body-lts.In-loop
+  body-turn c = c .before .before
 
-body-kind-at-requires-2 : (t : ℕ) → body-lts.Need-kind-at-requires-2 (body-calls t) (body-at t) body.Post body-Inv-loop body-μ-loop
-body-kind-at-requires-2 t c κs = search needs
+  abbrev body-item : Body body-lts.After-slice-known4 → Body body-lts.After-item
+  body-item c = c .before .before .before .before
 
-body-loop-less : (t : ℕ) → body-lts.Need-loop-less (body-calls t) (body-at t) body.Post body-Inv-loop body-μ-loop
-body-loop-less t c =
-    let i = c .before .before .before .before .before .item in
-    loop-less (c .before .before .before .before .before .before .before .before .before .loop .inv) (c .before .before .before .before .before .before .before .before .loop-test .taken) (i .result) (i .last .1 .1 .1 .1 .1 .0) (i .last .1 .1 .1 .1 .1 .1 .0) (i .kept .1 .1 .1 .1 .1 .0) (i .kept .1 .1 .1 .1 .1 .1 .0) (i .ensures)
+  abbrev body-join : Body body-lts.After-slice-known5 → Body body-lts.After-join
+  body-join c = c .before .before
 
-body-loop-again : (t : ℕ) → body-lts.Need-loop-again (body-calls t) (body-at t) body.Post body-Inv-loop body-μ-loop
-body-loop-again t c =
-    let i = c .before .before .before .before .before .item in
-    loop-again (c .before .before .before .before .before .before .before .before .before .loop .inv) (c .before .before .before .before .before .before .before .before .loop-test .taken) (i .result) (i .last .1 .1 .1 .1 .1 .0) (i .last .1 .1 .1 .1 .1 .1 .0) (i .kept .1 .1 .1 .1 .1 .0) (i .kept .1 .1 .1 .1 .1 .1 .0) (i .ensures) (c .kind-at2 .result) (c .kind-at2 .ensures)
+  abbrev body-left : Body body-lts.After-join-arg → Body body-lts.After-loop
+  body-left c = c .before
 
-body-join-requires : (t : ℕ) → body-lts.Need-join-requires (body-calls t) (body-at t) body.Post body-Inv-loop body-μ-loop
-body-join-requires t c κs = join-asks (c .before .before .loop .inv .lent)
+  -- what an item left of the scratch and of the rows
+  abbrev item-scratch : Body body-lts.After-item → List ℕ
+  item-scratch c = c .item .last .1 .1 .1 .1 .1 .0
 
-body-same-length : (t : ℕ) → body-lts.Need-same-length (body-calls t) (body-at t) body.Post body-Inv-loop body-μ-loop
-body-same-length t c = c .before .before .join .kept .0 ∙ c .before .before .before .before .before .loop .inv .scratch-long
+  abbrev item-rows : Body body-lts.After-item → List ℕ
+  item-rows c = c .item .last .1 .1 .1 .1 .1 .1 .0
 
-body-same-length-2 : (t : ℕ) → body-lts.Need-same-length-2 (body-calls t) (body-at t) body.Post body-Inv-loop body-μ-loop
-body-same-length-2 t c = c .before .before .before .before .before .loop .inv .rows-long
+  next : (c : Body body-lts.After-item) → Next (body-turn (c .before) .before .loop .inv) (c .item .result) (item-scratch c) (item-rows c)
+  next c =
+      record {
+        more-lines = body-turn (c .before) .loop-test .taken;
+        scratch-long = c .item .kept .1 .1 .1 .1 .1 .0;
+        rows-long = c .item .kept .1 .1 .1 .1 .1 .1 .0;
+        leaves = c .item .ensures;
+      }
 
-body-returns : (t : ℕ) → body-lts.Need-returns (body-calls t) (body-at t) body.Post body-Inv-loop body-μ-loop
-body-returns t c =
-    let j = c .before .before .join in
-    loop-done (c .before .before .before .before .before .loop .inv) (c .before .before .before .before .loop-test .left) (j .result) (j .last .0) (j .ensures)
+  body-new-requires : Body body-lts.Need-new-requires
+  body-new-requires c κs = search needs
 
-item-value-at-requires : (t : ℕ) → item-lts.Need-value-at-requires (item-calls t) (item-at t) item.Post
-item-value-at-requires t c κs = search needs
+  body-kind-at-requires : Body body-lts.Need-kind-at-requires
+  body-kind-at-requires c κs = search needs
 
-item-cast-v : (t : ℕ) → item-lts.Need-cast-v (item-calls t) (item-at t) item.Post
-item-cast-v t c = search needs
+  body-loop-holds : Body body-lts.Need-loop-holds
+  body-loop-holds c = loop-start (body-start (c .before) .pre .1) (c .before .new .result) (c .before .new .ensures) (c .kind-at .result) (c .kind-at .ensures)
 
-item-spend-requires : (t : ℕ) → item-lts.Need-spend-requires (item-calls t) (item-at t) item.Post
-item-spend-requires t c κs =
-    let a = c .before .before .before .before .before .before in
-    let h : Costs (a .args .trace .now) (a .args .kind) (a .args .row) (a .args .deep) (a .args .f) (a .args .t .now) (a .args .rows .now) (a .args .n) (a .args .w) (c .before .value-at .result) =
-    record { asks = a .pre .1; value-is = c .before .value-at .ensures; cost = c .before .before .if1 .taken } in
-    rows-asks h
+  body-item-requires : Body body-lts.Need-item-requires
+  body-item-requires c κs =
+      let i = body-turn c in
+      (omega (arith, body-start (body-first (i .before)) .pre .0), loop-asks (i .before .loop .inv) (i .loop-test .taken))
 
-item-spend-requires-2 : (t : ℕ) → item-lts.Need-spend-requires-2 (item-calls t) (item-at t) item.Post
-item-spend-requires-2 t c κs =
-    let a = c .before .before .before .before .before .before .before .before .before .before in
-    let h : Costs (a .args .trace .now) (a .args .kind) (a .args .row) (a .args .deep) (a .args .f) (a .args .t .now) (a .args .rows .now) (a .args .n) (a .args .w) (c .before .before .before .before .before .value-at .result) =
-    record { asks = a .pre .1; value-is = c .before .before .before .before .before .value-at .ensures; cost = c .before .before .before .before .before .before .if1 .taken } in
-    spend-asks h
+  body-kind-at-requires-2 : Body body-lts.Need-kind-at-requires-2
+  body-kind-at-requires-2 c κs = search needs
 
-item-same-length : (t : ℕ) → item-lts.Need-same-length (item-calls t) (item-at t) item.Post
-item-same-length t c = search needs
+  body-loop-less : Body body-lts.Need-loop-less
+  body-loop-less c = loop-less _ (next (body-item (c .before)))
 
-item-same-length-2 : (t : ℕ) → item-lts.Need-same-length-2 (item-calls t) (item-at t) item.Post
-item-same-length-2 t c = search needs
+  body-loop-again : Body body-lts.Need-loop-again
+  body-loop-again c = loop-again _ (next (body-item (c .before))) (c .kind-at2 .result) (c .kind-at2 .ensures)
 
-item-returns : (t : ℕ) → item-lts.Need-returns (item-calls t) (item-at t) item.Post
-item-returns t c =
-    let a = c .before .before .before .before .before .before .before .before .before .before .before .before .before in
-    let h : Costs (a .args .trace .now) (a .args .kind) (a .args .row) (a .args .deep) (a .args .f) (a .args .t .now) (a .args .rows .now) (a .args .n) (a .args .w) (c .before .before .before .before .before .before .before .before .value-at .result) =
-    record { asks = a .pre .1; value-is = c .before .before .before .before .before .before .before .before .value-at .ensures; cost = c .before .before .before .before .before .before .before .before .before .if1 .taken } in
-    cost-leaves h (c .before .before .spend2 .result) (c .before .before .spend2 .last .0) (c .before .before .before .before .before .before .spend .last .0) (c .before .before .before .before .before .before .spend .ensures) (c .before .before .spend2 .ensures)
+  body-join-requires : Body body-lts.Need-join-requires
+  body-join-requires c κs = join-asks (body-left c .before .loop .inv .lent)
 
-item-join-requires : (t : ℕ) → item-lts.Need-join-requires (item-calls t) (item-at t) item.Post
-item-join-requires t c κs = join-asks (c .before .before .before .before .before .before .pre .1 .lent)
+  body-same-length : Body body-lts.Need-same-length
+  body-same-length c = let j = body-join c in j .join .kept .0 ∙ body-left (j .before) .before .loop .inv .scratch-long
 
-item-same-length-3 : (t : ℕ) → item-lts.Need-same-length-3 (item-calls t) (item-at t) item.Post
-item-same-length-3 t c = search needs
+  body-same-length-2 : Body body-lts.Need-same-length-2
+  body-same-length-2 c = body-left (body-join c .before) .before .loop .inv .rows-long
 
-item-returns-2 : (t : ℕ) → item-lts.Need-returns-2 (item-calls t) (item-at t) item.Post
-item-returns-2 t c =
-    let j = c .before .before .join in
-    sync-leaves (c .before .before .before .before .before .before .before .before .before .pre .1 .lent) (c .before .before .before .before .before .before .before .before .before .args .kind) (c .before .before .before .before .before .before .before .before .before .pre .1 .kind-is) (c .before .before .before .before .if2 .taken) (j .result) (j .last .0) (j .ensures)
+  body-returns : Body body-lts.Need-returns
+  body-returns c =
+      let j = body-join c in
+      let l = body-left (j .before) in
+      loop-done (l .before .loop .inv) (l .loop-test .left) (j .join .result) (j .join .last .0) (j .join .ensures)
 
-item-site-at-requires : (t : ℕ) → item-lts.Need-site-at-requires (item-calls t) (item-at t) item.Post
-item-site-at-requires t c κs = search needs
+module _ (t : ℕ) where
+  -- a place of `item`, or what is needed there
+  abbrev Item : (item-lts.Claims → In 3 item-kinds.ps → Out 3 item-kinds.ps item-kinds.r → Type 0) → Type 0
+  Item P = P (item-calls t) (item-at t) item.Post
 
-item-cast-site : (t : ℕ) → item-lts.Need-cast-site (item-calls t) (item-at t) item.Post
-item-cast-site t c = search needs
+  -- from each place of `item` that has a name to the one before it
+  abbrev item-start : Item item-lts.After-slice-known2 → Item item-lts.Start
+  item-start c = c .before .before .before
 
-item-part-requires : (t : ℕ) → item-lts.Need-part-requires (item-calls t) (item-at t) item.Post
-item-part-requires t c κs =
-    let a = c .before .before .before .before .before .before in
-    omega (arith, own-room (a .pre .1 .lent), a .good .1 .1 .1 .1 .1 .0 .0)
+  abbrev weight-test : Item item-lts.After-weight-at → Item item-lts.After-slice-known2
+  weight-test c = c .before .before
 
-item-add-body : (t : ℕ) → item-lts.Need-add-body (item-calls t) (item-at t) item.Post
-item-add-body t c = record { fits = line-fits (c .before .before .before .before .before .before .before .pre .1 .lent) }
+  abbrev rows-weight : Item item-lts.After-spend → Item item-lts.After-weight-at
+  rows-weight c = c .before .before
 
-item-sub-body : (t : ℕ) → item-lts.Need-sub-body (item-calls t) (item-at t) item.Post
-item-sub-body t c =
-    let a = c .before .before .before .before .before .before .before in
-    let h : Calls (a .args .trace .now) (a .args .kind) (a .args .row) (a .args .deep) (a .args .f) (a .args .t .now) (a .args .rows .now) (a .args .n) (a .args .w) (c .before .site-at .result) (c .part .result) =
-    record { asks = a .pre .1; site-is = c .before .site-at .ensures; no-cost = c .before .before .before .if1 .left; no-sync = c .before .before .if2 .left; begins = c .part .ensures } in
-    deeper h
+  abbrev spend-rows : Item item-lts.After-spend-arg2 → Item item-lts.After-spend
+  spend-rows c = c .before .before .before
 
-item-mul-body : (t : ℕ) → item-lts.Need-mul-body (item-calls t) (item-at t) item.Post
-item-mul-body t c =
-    let a = c .before .before .before .before .before .before .before in
-    let h : Calls (a .args .trace .now) (a .args .kind) (a .args .row) (a .args .deep) (a .args .f) (a .args .t .now) (a .args .rows .now) (a .args .n) (a .args .w) (c .before .site-at .result) (c .part .result) =
-    record { asks = a .pre .1; site-is = c .before .site-at .ensures; no-cost = c .before .before .before .if1 .left; no-sync = c .before .before .if2 .left; begins = c .part .ensures } in
-    omega (arith, room h, a .good .1 .1 .1 .1 .1 .0 .0)
+  abbrev item-spend : Item item-lts.After-slice-known4 → Item item-lts.After-spend2
+  item-spend c = c .before .before
 
-item-sub-body-2 : (t : ℕ) → item-lts.Need-sub-body-2 (item-calls t) (item-at t) item.Post
-item-sub-body-2 t c =
-    let a = c .before .before .before .before .before .before .before in
-    let h : Calls (a .args .trace .now) (a .args .kind) (a .args .row) (a .args .deep) (a .args .f) (a .args .t .now) (a .args .rows .now) (a .args .n) (a .args .w) (c .before .site-at .result) (c .part .result) =
-    record { asks = a .pre .1; site-is = c .before .site-at .ensures; no-cost = c .before .before .before .if1 .left; no-sync = c .before .before .if2 .left; begins = c .part .ensures } in
-    room h
+  abbrev join-test : Item item-lts.After-join-arg → Item item-lts.Then2
+  join-test c = c .before
 
-item-part-body-start : (t : ℕ) → item-lts.Need-part-body-start (item-calls t) (item-at t) item.Post
-item-part-body-start t c =
-    let a = c .before .before .before .before .before .before .before in
-    let h : Calls (a .args .trace .now) (a .args .kind) (a .args .row) (a .args .deep) (a .args .f) (a .args .t .now) (a .args .rows .now) (a .args .n) (a .args .w) (c .before .site-at .result) (c .part .result) =
-    record { asks = a .pre .1; site-is = c .before .site-at .ensures; no-cost = c .before .before .before .if1 .left; no-sync = c .before .before .if2 .left; begins = c .part .ensures } in
-    omega (arith, room h)
+  abbrev sync-start : Item item-lts.Then2 → Item item-lts.Start
+  sync-start c = item-start (c .before .before)
 
-item-part-body-end : (t : ℕ) → item-lts.Need-part-body-end (item-calls t) (item-at t) item.Post
-item-part-body-end t c =
-    let a = c .before .before .before .before .before .before .before in
-    let h : Calls (a .args .trace .now) (a .args .kind) (a .args .row) (a .args .deep) (a .args .f) (a .args .t .now) (a .args .rows .now) (a .args .n) (a .args .w) (c .before .site-at .result) (c .part .result) =
-    record { asks = a .pre .1; site-is = c .before .site-at .ensures; no-cost = c .before .before .before .if1 .left; no-sync = c .before .before .if2 .left; begins = c .part .ensures } in
-    omega (arith, room h)
+  abbrev item-join : Item item-lts.After-slice-known5 → Item item-lts.After-join
+  item-join c = c .before .before
 
-item-body-requires : (t : ℕ) → item-lts.Need-body-requires (item-calls t) (item-at t) item.Post
-item-body-requires t c κs =
-    let a = c .before .before .before .before .before .before .before .before .before in
-    let h : Calls (a .args .trace .now) (a .args .kind) (a .args .row) (a .args .deep) (a .args .f) (a .args .t .now) (a .args .rows .now) (a .args .n) (a .args .w) (c .before .before .before .site-at .result) (c .before .before .part .result) =
-    record { asks = a .pre .1; site-is = c .before .before .before .site-at .ensures; no-cost = c .before .before .before .before .before .if1 .left; no-sync = c .before .before .before .before .if2 .left; begins = c .before .before .part .ensures } in
-    (omega (arith, a .pre .0, deeper h), body-asks h)
+  abbrev child-start : Item item-lts.After-site-at → Item item-lts.Start
+  child-start c = item-start (c .before .before .before)
 
-item-count-requires : (t : ℕ) → item-lts.Need-count-requires (item-calls t) (item-at t) item.Post
-item-count-requires t c κs =
-    let a = c .before .before .before .before .before .before .before .before .before .before .before .before .before .before .before in
-    let h : Calls (a .args .trace .now) (a .args .kind) (a .args .row) (a .args .deep) (a .args .f) (a .args .t .now) (a .args .rows .now) (a .args .n) (a .args .w) (c .before .before .before .before .before .before .before .before .before .site-at .result) (c .before .before .before .before .before .before .before .before .part .result) =
-    record { asks = a .pre .1; site-is = c .before .before .before .before .before .before .before .before .before .site-at .ensures; no-cost = c .before .before .before .before .before .before .before .before .before .before .before .if1 .left; no-sync = c .before .before .before .before .before .before .before .before .before .before .if2 .left; begins = c .before .before .before .before .before .before .before .before .part .ensures } in
-    let g = c .before .before .before .before .before .body in
-    count-asks h (g .result) (g .last .1 .1 .1 .1 .0) (g .last .1 .1 .1 .1 .1 .0) (g .kept .1 .1 .1 .1 .0) (g .kept .1 .1 .1 .1 .1 .0) (g .ensures)
+  abbrev body-part : Item item-lts.After-body-arg2 → Item item-lts.After-part
+  body-part c = c .before .before
 
-item-called-requires : (t : ℕ) → item-lts.Need-called-requires (item-calls t) (item-at t) item.Post
-item-called-requires t c κs =
-    let a = c .before .before .before .before .before .before .before .before .before .before .before .before .before .before .before .before .before .before .before .before in
-    let h : Calls (a .args .trace .now) (a .args .kind) (a .args .row) (a .args .deep) (a .args .f) (a .args .t .now) (a .args .rows .now) (a .args .n) (a .args .w) (c .before .before .before .before .before .before .before .before .before .before .before .before .before .before .site-at .result) (c .before .before .before .before .before .before .before .before .before .before .before .before .before .part .result) =
-    record { asks = a .pre .1; site-is = c .before .before .before .before .before .before .before .before .before .before .before .before .before .before .site-at .ensures; no-cost = c .before .before .before .before .before .before .before .before .before .before .before .before .before .before .before .before .if1 .left; no-sync = c .before .before .before .before .before .before .before .before .before .before .before .before .before .before .before .if2 .left; begins = c .before .before .before .before .before .before .before .before .before .before .before .before .before .part .ensures } in
-    let g = c .before .before .before .before .before .before .before .before .before .before .body in
-    child-asks h (g .result) (g .last .1 .1 .1 .1 .0) (g .last .1 .1 .1 .1 .1 .0) (g .kept .1 .1 .1 .1 .0) (g .kept .1 .1 .1 .1 .1 .0) (g .ensures)
+  abbrev count-body : Item item-lts.After-count-arg → Item item-lts.After-body
+  count-body c = c .before .before .before .before .before
 
-item-same-length-4 : (t : ℕ) → item-lts.Need-same-length-4 (item-calls t) (item-at t) item.Post
-item-same-length-4 t c =
-    let a = c .before .before .before .before .before .before .before .before .before .before .before .before .before .before .before .before .before .before .before .before .before .before .before in
-    let g = c .before .before .before .before .before .before .before .before .before .before .before .before .before .body in
-    c .before .before .called .kept .0 ∙ back-length (c .before .before .before .before .before .before .before .before .before .before .before .before .before .before .before .before .part .result) (a .args .t .now) (g .last .1 .1 .1 .1 .0) (g .kept .1 .1 .1 .1 .0)
+  abbrev test-count : Item item-lts.After-slice-known8 → Item item-lts.After-count
+  test-count c = c .before .before
 
-item-same-length-5 : (t : ℕ) → item-lts.Need-same-length-5 (item-calls t) (item-at t) item.Post
-item-same-length-5 t c = c .before .before .before .before .before .before .before .count .kept .0 ∙ c .before .before .before .before .before .before .before .before .before .before .before .before .before .body .kept .1 .1 .1 .1 .1 .0
+  abbrev called-test : Item item-lts.After-called-arg → Item item-lts.Then3
+  called-test c = c .before
 
-item-returns-3 : (t : ℕ) → item-lts.Need-returns-3 (item-calls t) (item-at t) item.Post
-item-returns-3 t c =
-    let a = c .before .before .before .before .before .before .before .before .before .before .before .before .before .before .before .before .before .before .before .before .before .before .before in
-    let h : Calls (a .args .trace .now) (a .args .kind) (a .args .row) (a .args .deep) (a .args .f) (a .args .t .now) (a .args .rows .now) (a .args .n) (a .args .w) (c .before .before .before .before .before .before .before .before .before .before .before .before .before .before .before .before .before .site-at .result) (c .before .before .before .before .before .before .before .before .before .before .before .before .before .before .before .before .part .result) =
-    record { asks = a .pre .1; site-is = c .before .before .before .before .before .before .before .before .before .before .before .before .before .before .before .before .before .site-at .ensures; no-cost = c .before .before .before .before .before .before .before .before .before .before .before .before .before .before .before .before .before .before .before .if1 .left; no-sync = c .before .before .before .before .before .before .before .before .before .before .before .before .before .before .before .before .before .before .if2 .left; begins = c .before .before .before .before .before .before .before .before .before .before .before .before .before .before .before .before .part .ensures } in
-    let g = c .before .before .before .before .before .before .before .before .before .before .before .before .before .body in
-    let r = c .before .before .called in
-    call-leaves h (g .result) (g .last .1 .1 .1 .1 .0) (g .last .1 .1 .1 .1 .1 .0) (g .kept .1 .1 .1 .1 .0) (g .kept .1 .1 .1 .1 .1 .0) (g .ensures) (c .before .before .before .before .before .before .before .count .last .0) (c .before .before .before .before .before .before .before .count .ensures) (r .result) (r .last .0) (c .before .before .before .before .if3 .taken) (r .ensures)
+  abbrev spawned-test : Item item-lts.After-spawned-arg → Item item-lts.Else3
+  spawned-test c = c .before
 
-item-spawned-requires : (t : ℕ) → item-lts.Need-spawned-requires (item-calls t) (item-at t) item.Post
-item-spawned-requires t c κs =
-    let a = c .before .before .before .before .before .before .before .before .before .before .before .before .before .before .before .before .before .before .before .before in
-    let h : Calls (a .args .trace .now) (a .args .kind) (a .args .row) (a .args .deep) (a .args .f) (a .args .t .now) (a .args .rows .now) (a .args .n) (a .args .w) (c .before .before .before .before .before .before .before .before .before .before .before .before .before .before .site-at .result) (c .before .before .before .before .before .before .before .before .before .before .before .before .before .part .result) =
-    record { asks = a .pre .1; site-is = c .before .before .before .before .before .before .before .before .before .before .before .before .before .before .site-at .ensures; no-cost = c .before .before .before .before .before .before .before .before .before .before .before .before .before .before .before .before .if1 .left; no-sync = c .before .before .before .before .before .before .before .before .before .before .before .before .before .before .before .if2 .left; begins = c .before .before .before .before .before .before .before .before .before .before .before .before .before .part .ensures } in
-    let g = c .before .before .before .before .before .before .before .before .before .before .body in
-    child-asks h (g .result) (g .last .1 .1 .1 .1 .0) (g .last .1 .1 .1 .1 .1 .0) (g .kept .1 .1 .1 .1 .0) (g .kept .1 .1 .1 .1 .1 .0) (g .ensures)
+  abbrev item-called : Item item-lts.After-slice-known9 → Item item-lts.After-called
+  item-called c = c .before .before
 
-item-same-length-6 : (t : ℕ) → item-lts.Need-same-length-6 (item-calls t) (item-at t) item.Post
-item-same-length-6 t c =
-    let a = c .before .before .before .before .before .before .before .before .before .before .before .before .before .before .before .before .before .before .before .before .before .before .before in
-    let g = c .before .before .before .before .before .before .before .before .before .before .before .before .before .body in
-    c .before .before .spawned .kept .0 ∙ back-length (c .before .before .before .before .before .before .before .before .before .before .before .before .before .before .before .before .part .result) (a .args .t .now) (g .last .1 .1 .1 .1 .0) (g .kept .1 .1 .1 .1 .0)
+  abbrev item-spawned : Item item-lts.After-slice-known10 → Item item-lts.After-spawned
+  item-spawned c = c .before .before
 
-item-same-length-7 : (t : ℕ) → item-lts.Need-same-length-7 (item-calls t) (item-at t) item.Post
-item-same-length-7 t c = c .before .before .before .before .before .before .before .count .kept .0 ∙ c .before .before .before .before .before .before .before .before .before .before .before .before .before .body .kept .1 .1 .1 .1 .1 .0
+  -- the scratch is no longer than a number can say
+  scratch-fits : (c : Item item-lts.Start) → length (c .args .t .now) < 2 ^ 64
+  scratch-fits c = omega (arith, c .good .1 .1 .1 .1 .1 .0 .0)
 
-item-returns-4 : (t : ℕ) → item-lts.Need-returns-4 (item-calls t) (item-at t) item.Post
-item-returns-4 t c =
-    let a = c .before .before .before .before .before .before .before .before .before .before .before .before .before .before .before .before .before .before .before .before .before .before .before in
-    let h : Calls (a .args .trace .now) (a .args .kind) (a .args .row) (a .args .deep) (a .args .f) (a .args .t .now) (a .args .rows .now) (a .args .n) (a .args .w) (c .before .before .before .before .before .before .before .before .before .before .before .before .before .before .before .before .before .site-at .result) (c .before .before .before .before .before .before .before .before .before .before .before .before .before .before .before .before .part .result) =
-    record { asks = a .pre .1; site-is = c .before .before .before .before .before .before .before .before .before .before .before .before .before .before .before .before .before .site-at .ensures; no-cost = c .before .before .before .before .before .before .before .before .before .before .before .before .before .before .before .before .before .before .before .if1 .left; no-sync = c .before .before .before .before .before .before .before .before .before .before .before .before .before .before .before .before .before .before .if2 .left; begins = c .before .before .before .before .before .before .before .before .before .before .before .before .before .before .before .before .part .ensures } in
-    let g = c .before .before .before .before .before .before .before .before .before .before .before .before .before .body in
-    let r = c .before .before .spawned in
-    spawn-leaves h (g .result) (g .last .1 .1 .1 .1 .0) (g .last .1 .1 .1 .1 .1 .0) (g .kept .1 .1 .1 .1 .0) (g .kept .1 .1 .1 .1 .1 .0) (g .ensures) (c .before .before .before .before .before .before .before .count .last .0) (c .before .before .before .before .before .before .before .count .ensures) (r .result) (r .last .0) (c .before .before .before .before .if3 .left) (r .ensures)
+  -- what the child left of its part and of the rows
+  abbrev body-scratch : Item item-lts.After-body → List ℕ
+  body-scratch c = c .body .last .1 .1 .1 .1 .0
+
+  abbrev body-rows : Item item-lts.After-body → List ℕ
+  body-rows c = c .body .last .1 .1 .1 .1 .1 .0
+
+  -- what is known where a weight was read, where the child's part is known, and where the child has returned
+  at-weight : (c : Item item-lts.After-weight-at) → (
+      let a = item-start (weight-test c) .args in Costs (a .trace .now) (a .kind) (a .row) (a .deep) (a .f) (a .t .now) (a .rows .now) (a .n) (a .w) (c .weight-at .result))
+  at-weight c = record { asks = item-start (weight-test c) .pre .1; weight-is = c .weight-at .ensures; cost = c .before .if1 .taken }
+
+  at-part : (c : Item item-lts.After-part) → (
+      let a = child-start (c .before) .args in Calls (a .trace .now) (a .kind) (a .row) (a .deep) (a .f) (a .t .now) (a .rows .now) (a .n) (a .w) (c .before .site-at .result) (c .part .result))
+  at-part c =
+      let e = c .before .before in
+      record { asks = child-start (c .before) .pre .1; site-is = c .before .site-at .ensures; no-cost = e .before .if1 .left; no-sync = e .if2 .left; begins = c .part .ensures }
+
+  at-body : (c : Item item-lts.After-body) → Back (at-part (body-part (c .before))) (c .body .result) (body-scratch c) (body-rows c)
+  at-body c = record { part-long = c .body .kept .1 .1 .1 .1 .0; rows-long = c .body .kept .1 .1 .1 .1 .1 .0; leaves = c .body .ensures }
+
+  item-weight-at-requires : Item item-lts.Need-weight-at-requires
+  item-weight-at-requires c κs = search needs
+
+  item-spend-requires : Item item-lts.Need-spend-requires
+  item-spend-requires c κs = rows-asks (at-weight (c .before))
+
+  item-spend-requires-2 : Item item-lts.Need-spend-requires-2
+  item-spend-requires-2 c κs = spend-asks (at-weight (rows-weight (spend-rows c)))
+
+  item-same-length : Item item-lts.Need-same-length
+  item-same-length c = search needs
+
+  item-same-length-2 : Item item-lts.Need-same-length-2
+  item-same-length-2 c = search needs
+
+  item-returns : Item item-lts.Need-returns
+  item-returns c =
+      let e = item-spend c in
+      let r = spend-rows (e .before) in
+      cost-leaves (at-weight (rows-weight r)) (e .spend2 .result) (e .spend2 .last .0) (r .spend .last .0) (r .spend .ensures) (e .spend2 .ensures)
+
+  item-join-requires : Item item-lts.Need-join-requires
+  item-join-requires c κs = join-asks (sync-start (join-test c) .pre .1 .lent)
+
+  item-same-length-3 : Item item-lts.Need-same-length-3
+  item-same-length-3 c = search needs
+
+  item-returns-2 : Item item-lts.Need-returns-2
+  item-returns-2 c =
+      let j = item-join c in
+      let e = join-test (j .before) in
+      let a = sync-start e in
+      sync-leaves (a .pre .1 .lent) (a .args .kind) (a .pre .1 .kind-is) (e .if2 .taken) (j .join .result) (j .join .last .0) (j .join .ensures)
+
+  item-site-at-requires : Item item-lts.Need-site-at-requires
+  item-site-at-requires c κs = search needs
+
+  item-cast-site : Item item-lts.Need-cast-site
+  item-cast-site c = search needs
+
+  item-part-requires : Item item-lts.Need-part-requires
+  item-part-requires c κs =
+      let a = child-start c in
+      omega (arith, own-room (a .pre .1 .lent), scratch-fits a)
+
+  item-add-body : Item item-lts.Need-add-body
+  item-add-body c = record { fits = line-fits (child-start (c .before) .pre .1 .lent) }
+
+  item-sub-body : Item item-lts.Need-sub-body
+  item-sub-body c = deeper (at-part c)
+
+  item-mul-body : Item item-lts.Need-mul-body
+  item-mul-body c = omega (arith, room (at-part c), scratch-fits (child-start (c .before)))
+
+  item-sub-body-2 : Item item-lts.Need-sub-body-2
+  item-sub-body-2 c = room (at-part c)
+
+  item-part-body-start : Item item-lts.Need-part-body-start
+  item-part-body-start c = omega (arith, room (at-part c))
+
+  item-part-body-end : Item item-lts.Need-part-body-end
+  item-part-body-end c = omega (arith, room (at-part c))
+
+  item-body-requires : Item item-lts.Need-body-requires
+  item-body-requires c κs =
+      let h = at-part (body-part c) in
+      (omega (arith, child-start (body-part c .before) .pre .0, deeper h), body-asks h)
+
+  item-count-requires : Item item-lts.Need-count-requires
+  item-count-requires c κs = count-asks _ (at-body (count-body c))
+
+  item-called-requires : Item item-lts.Need-called-requires
+  item-called-requires c κs = child-asks _ (at-body (count-body (test-count (called-test c .before) .before)))
+
+  item-same-length-4 : Item item-lts.Need-same-length-4
+  item-same-length-4 c =
+      let r = item-called c in
+      r .called .kept .0 ∙ back-long _ (at-body (count-body (test-count (called-test (r .before) .before) .before)))
+
+  item-same-length-5 : Item item-lts.Need-same-length-5
+  item-same-length-5 c =
+      let k = test-count (called-test (item-called c .before) .before) in
+      k .count .kept .0 ∙ at-body (count-body (k .before)) .rows-long
+
+  item-returns-3 : Item item-lts.Need-returns-3
+  item-returns-3 c =
+      let r = item-called c in
+      let e = called-test (r .before) in
+      let k = test-count (e .before) in
+      call-leaves _ (at-body (count-body (k .before))) (k .count .ensures) (r .called .result) (r .called .last .0) (e .if3 .taken) (r .called .ensures)
+
+  item-spawned-requires : Item item-lts.Need-spawned-requires
+  item-spawned-requires c κs = child-asks _ (at-body (count-body (test-count (spawned-test c .before) .before)))
+
+  item-same-length-6 : Item item-lts.Need-same-length-6
+  item-same-length-6 c =
+      let r = item-spawned c in
+      r .spawned .kept .0 ∙ back-long _ (at-body (count-body (test-count (spawned-test (r .before) .before) .before)))
+
+  item-same-length-7 : Item item-lts.Need-same-length-7
+  item-same-length-7 c =
+      let k = test-count (spawned-test (item-spawned c .before) .before) in
+      k .count .kept .0 ∙ at-body (count-body (k .before)) .rows-long
+
+  item-returns-4 : Item item-lts.Need-returns-4
+  item-returns-4 c =
+      let r = item-spawned c in
+      let e = spawned-test (r .before) in
+      let k = test-count (e .before) in
+      spawn-leaves _ (at-body (count-body (k .before))) (k .count .ensures) (r .spawned .result) (r .spawned .last .0) (e .if3 .left) (r .spawned .ensures)
 
 pub +body+item-spec : {M : Type 1} → statement M
 +body+item-spec = close μ-body μ-item (λ t. body-lts.spec (body-calls t)
@@ -278,8 +348,7 @@ pub +body+item-spec : {M : Type 1} → statement M
     λ t. item-lts.spec (item-calls t)
     (item-at t)
     item.Post
-    (item-value-at-requires t)
-    (item-cast-v t)
+    (item-weight-at-requires t)
     (item-spend-requires t)
     (item-spend-requires-2 t)
     (item-same-length t)

@@ -1,93 +1,129 @@
 -- `tables::accepted` meets its contract: what is cleared, read, counted and moved comes to the promise.
-use Prim.Native.Nat.{_+_, _*_}
-use mathlib.Core.Path.{_∙_}
+use Prim.Native.Nat.{ℕ, _^_, _<_}
+use mathlib.Core.List.{List}
+use mathlib.Core.Path.{_≡_, _∙_}
+use lib.ListN.{length, getD}
 use native.Mathlib.Omega.{arith}
 use borrow.Author.Needs.{needs}
 use Rattle.walk.proofs.Zeros.{cleared-all}
-use Rattle.tables.proofs.Whole.{limits, rows-room, table-room, root-asks, root-counts, promised}
+use Rattle.tables.proofs.Whole.{limits, rows-room, table-room, Blank, root-asks, Read, root-counts, promised}
 use Rattle.tables.proofs.accepted.Statement.{statement}
 use Rattle.tables.proofs.accepted.Tie as tie
+
+-- from each place that has a name to the one before it
+abbrev zero-start : tie.After-zero-arg → tie.Start
+zero-start c = c .before .before .before .before
+
+abbrev zeros : tie.After-zero-arg2 → tie.After-zero
+zeros c = c .before .before .before
+
+abbrev body-zeros : tie.After-slice-known4 → tie.After-zero2
+body-zeros c = c .before .before
+
+abbrev body-begins : tie.After-body-arg2 → tie.After-slice-known4
+body-begins c = c .before .before
+
+abbrev count-body : tie.After-count-arg → tie.After-body
+count-body c = c .before .before .before .before .before
+
+abbrev settle-count : tie.After-settle-arg2 → tie.After-count
+settle-count c = c .before .before .before .before
+
+abbrev end-settle : tie.After-slice-known9 → tie.After-settle
+end-settle c = c .before .before .before .before
+
+-- the arguments, from where the room is cleared and from where the root is read
+abbrev cleared : tie.After-zero-arg2 → tie.Start
+cleared c = zero-start (zeros c .before)
+
+abbrev begun : tie.After-body-arg2 → tie.Start
+begun c = cleared (body-zeros (body-begins c) .before)
+
+abbrev counted : tie.After-count → tie.Start
+counted c = begun (count-body (c .before) .before)
+
+-- the rows lent are numbers of 64 bits
+rows-fit : (c : tie.After-zero-arg) (i : ℕ) → getD (zero-start c .args .rows .now) i 0 < 2 ^ 64
+rows-fit c i = omega (arith, c .before .slice-known2 .given i)
+
+-- what the root left of the scratch and of the rows
+abbrev root-scratch : tie.After-body → List ℕ
+root-scratch c = c .body .last .1 .1 .1 .1 .0
+
+abbrev root-rows : tie.After-body → List ℕ
+root-rows c = c .body .last .1 .1 .1 .1 .1 .0
+
+blank : (c : tie.After-zero2) → Blank (cleared (c .before) .pre) (zeros (c .before) .zero .last .0) (c .zero2 .last .0)
+blank c = record { scratch-is = zeros (c .before) .zero .ensures ∙ cleared-all (cleared (c .before) .args .scratch .now); rows-are = c .zero2 .ensures }
+
+read : (c : tie.After-body) → Read (begun (c .before) .pre) (c .body .result) (root-scratch c) (root-rows c)
+read c =
+    let z = body-zeros (body-begins (c .before)) in
+    record {
+      t₁ = zeros (z .before) .zero .last .0;
+      r₁ = z .zero2 .last .0;
+      blank = blank z;
+      scratch-same = c .body .kept .1 .1 .1 .1 .0 ∙ zeros (z .before) .zero .kept .0;
+      rows-same = c .body .kept .1 .1 .1 .1 .1 .0 ∙ z .zero2 .kept .0;
+      leaves = c .body .ensures;
+    }
+
+scratch-long : (c : tie.After-settle) → length (c .settle .last .0) ≡ length (counted (settle-count (c .before)) .args .scratch .now)
+scratch-long c = c .settle .kept .0 ∙ read (count-body (settle-count (c .before) .before)) .scratch-same
+
+counts-long : (c : tie.After-count) → length (c .count .last .0) ≡ length (counted c .args .rows .now)
+counts-long c = c .count .kept .0 ∙ read (count-body (c .before)) .rows-same
+
+rows-long : (c : tie.After-settle) → length (c .settle .last .1 .0) ≡ length (counted (settle-count (c .before)) .args .rows .now)
+rows-long c = c .settle .kept .1 .0 ∙ counts-long (settle-count (c .before))
 
 zero-requires : tie.Need-zero-requires
 zero-requires c κs = search needs
 
 add-zero : tie.Need-add-zero
-add-zero c =
-    let a = c .before .before .before .before .before .before .before .before in
-    let l = limits (a .args .text .now) (a .args .depth) (a .args .sites) (a .args .scratch .now) (a .args .rows .now) (a .args .count) (a .args .lines) (a .pre) in
-    omega (arith, l .2, l .3)
+add-zero c = let l = limits (cleared c .pre) in omega (arith, l .2, l .3)
 
 mul-zero : tie.Need-mul-zero
-mul-zero c =
-    let a = c .before .before .before .before .before .before .before .before in
-    let l = limits (a .args .text .now) (a .args .depth) (a .args .sites) (a .args .scratch .now) (a .args .rows .now) (a .args .count) (a .args .lines) (a .pre) in
-    omega (arith, l .2, l .3)
+mul-zero c = let l = limits (cleared c .pre) in omega (arith, l .2, l .3)
 
 zero-requires-2 : tie.Need-zero-requires-2
-zero-requires-2 c κs =
-    let a = c .before .before .before .before .before .before .before .before in
-    rows-room (a .args .text .now) (a .args .depth) (a .args .sites) (a .args .scratch .now) (a .args .rows .now) (a .args .count) (a .args .lines) (a .pre)
+zero-requires-2 c κs = rows-room (cleared c .pre)
 
 sub-body : tie.Need-sub-body
-sub-body c =
-    let a = c .before .before .before .before .before .before .before .before .before .before .before in
-    limits (a .args .text .now) (a .args .depth) (a .args .sites) (a .args .scratch .now) (a .args .rows .now) (a .args .count) (a .args .lines) (a .pre) .0
+sub-body c = limits (cleared (body-zeros c .before) .pre) .0
 
 add-body : tie.Need-add-body
-add-body c =
-    let a = c .before .before .before .before .before .before .before .before .before .before .before .before .before in
-    let l = limits (a .args .text .now) (a .args .depth) (a .args .sites) (a .args .scratch .now) (a .args .rows .now) (a .args .count) (a .args .lines) (a .pre) in
-    omega (arith, l .2, l .3)
+add-body c = let l = limits (begun c .pre) in omega (arith, l .2, l .3)
 
 add-body-2 : tie.Need-add-body-2
-add-body-2 c =
-    let a = c .before .before .before .before .before .before .before .before .before .before .before .before .before in
-    let l = limits (a .args .text .now) (a .args .depth) (a .args .sites) (a .args .scratch .now) (a .args .rows .now) (a .args .count) (a .args .lines) (a .pre) in
-    omega (arith, l .2, l .3)
+add-body-2 c = let l = limits (begun c .pre) in omega (arith, l .2, l .3)
 
 body-requires : tie.Need-body-requires
-body-requires c κs =
-    let a = c .before .before .before .before .before .before .before .before .before .before .before .before .before in
-    root-asks (a .args .text .now) (a .args .depth) (a .args .sites) (a .args .scratch .now) (a .args .rows .now) (a .args .count) (a .args .lines) (a .pre) (c .before .before .before .before .before .before .before .before .zero .last .0) (c .before .before .before .before .zero2 .last .0) (c .before .before .before .before .before .before .before .before .zero .ensures ∙ cleared-all (a .args .scratch .now)) (c .before .before .before .before .zero2 .ensures) (λ i. omega (arith, c .before .before .before .before .before .before .before .before .before .before .slice-known2 .given i))
+body-requires c κs = root-asks (begun c .pre) (blank (body-zeros (body-begins c))) (rows-fit (zeros (body-zeros (body-begins c) .before) .before))
 
 count-requires : tie.Need-count-requires
-count-requires c κs =
-    let a = c .before .before .before .before .before .before .before .before .before .before .before .before .before .before .before .before .before .before .before in
-    let b = c .before .before .before .before .before .body in
-    let ls = b .kept .1 .1 .1 .1 .0 ∙ c .before .before .before .before .before .before .before .before .before .before .before .before .before .before .zero .kept .0 in
-    let lr = b .kept .1 .1 .1 .1 .1 .0 ∙ c .before .before .before .before .before .before .before .before .before .before .zero2 .kept .0 in
-    root-counts (a .args .text .now) (a .args .depth) (a .args .sites) (a .args .scratch .now) (a .args .rows .now) (a .args .count) (a .args .lines) (a .pre) (c .before .before .before .before .before .before .before .before .before .before .before .before .before .before .zero .last .0) (c .before .before .before .before .before .before .before .before .before .before .zero2 .last .0) (c .before .before .before .before .before .before .before .before .before .before .before .before .before .before .zero .ensures ∙ cleared-all (a .args .scratch .now)) (c .before .before .before .before .before .before .before .before .before .before .zero2 .ensures) (b .result) (b .last .1 .1 .1 .1 .0) (b .last .1 .1 .1 .1 .1 .0) lr (b .ensures)
+count-requires c κs = root-counts _ (read (count-body c))
 
 add-settle : tie.Need-add-settle
-add-settle c =
-    let a = c .before .before .before .before .before .before .before .before .before .before .before .before .before .before .before .before .before .before .before .before .before .before .before .before in
-    let l = limits (a .args .text .now) (a .args .depth) (a .args .sites) (a .args .scratch .now) (a .args .rows .now) (a .args .count) (a .args .lines) (a .pre) in
-    omega (arith, l .2, l .3)
+add-settle c = let l = limits (counted (settle-count c) .pre) in omega (arith, l .2, l .3)
 
 settle-requires : tie.Need-settle-requires
 settle-requires c κs =
-    let a = c .before .before .before .before .before .before .before .before .before .before .before .before .before .before .before .before .before .before .before .before .before .before .before .before in
-    let b = c .before .before .before .before .before .before .before .before .before .before .body in
-    let ls = b .kept .1 .1 .1 .1 .0 ∙ c .before .before .before .before .before .before .before .before .before .before .before .before .before .before .before .before .before .before .before .zero .kept .0 in
-    let lr = b .kept .1 .1 .1 .1 .1 .0 ∙ c .before .before .before .before .before .before .before .before .before .before .before .before .before .before .before .zero2 .kept .0 in
-    let l = limits (a .args .text .now) (a .args .depth) (a .args .sites) (a .args .scratch .now) (a .args .rows .now) (a .args .count) (a .args .lines) (a .pre) in
-    (omega (arith, ls, table-room (a .args .text .now) (a .args .depth) (a .args .sites) (a .args .scratch .now) (a .args .rows .now) (a .args .count) (a .args .lines) (a .pre), l .3), omega (arith, c .before .before .before .before .count .kept .0, lr, rows-room (a .args .text .now) (a .args .depth) (a .args .sites) (a .args .scratch .now) (a .args .rows .now) (a .args .count) (a .args .lines) (a .pre)))
+    let k = settle-count c in
+    let h = counted k .pre in
+    (omega (arith, read (count-body (k .before)) .scratch-same, table-room h, limits h .3), omega (arith, counts-long k, rows-room h))
 
 same-length : tie.Need-same-length
-same-length c =
-    c .before .before .before .before .settle .kept .0 ∙ c .before .before .before .before .before .before .before .before .before .before .before .before .before .before .before .body .kept .1 .1 .1 .1 .0 ∙ c .before .before .before .before .before .before .before .before .before .before .before .before .before .before .before .before .before .before .before .before .before .before .before .before .zero .kept .0
+same-length c = scratch-long (end-settle c)
 
 same-length-2 : tie.Need-same-length-2
-same-length-2 c =
-    c .before .before .before .before .settle .kept .1 .0 ∙ c .before .before .before .before .before .before .before .before .before .count .kept .0 ∙ c .before .before .before .before .before .before .before .before .before .before .before .before .before .before .before .body .kept .1 .1 .1 .1 .1 .0 ∙ c .before .before .before .before .before .before .before .before .before .before .before .before .before .before .before .before .before .before .before .before .zero2 .kept .0
+same-length-2 c = rows-long (end-settle c)
 
 returns : tie.Need-returns
 returns c =
-    let a = c .before .before .before .before .before .before .before .before .before .before .before .before .before .before .before .before .before .before .before .before .before .before .before .before .before .before .before .before .before in
-    let b = c .before .before .before .before .before .before .before .before .before .before .before .before .before .before .before .body in
-    let ls = b .kept .1 .1 .1 .1 .0 ∙ c .before .before .before .before .before .before .before .before .before .before .before .before .before .before .before .before .before .before .before .before .before .before .before .before .zero .kept .0 in
-    let lr = b .kept .1 .1 .1 .1 .1 .0 ∙ c .before .before .before .before .before .before .before .before .before .before .before .before .before .before .before .before .before .before .before .before .zero2 .kept .0 in
-    promised (a .args .text .now) (a .args .depth) (a .args .sites) (a .args .scratch .now) (a .args .rows .now) (a .args .count) (a .args .lines) (a .pre) (c .before .before .before .before .before .before .before .before .before .before .before .before .before .before .before .before .before .before .before .before .before .before .before .before .zero .last .0) (c .before .before .before .before .before .before .before .before .before .before .before .before .before .before .before .before .before .before .before .before .zero2 .last .0) (c .before .before .before .before .before .before .before .before .before .before .before .before .before .before .before .before .before .before .before .before .before .before .before .before .zero .ensures ∙ cleared-all (a .args .scratch .now)) (c .before .before .before .before .before .before .before .before .before .before .before .before .before .before .before .before .before .before .before .before .zero2 .ensures) (b .result) (b .last .1 .1 .1 .1 .0) (b .last .1 .1 .1 .1 .1 .0) lr (b .ensures) (c .before .before .before .before .before .before .before .before .before .count .last .0) (c .before .before .before .before .settle .last .0) (c .before .before .before .before .settle .last .1 .0) (c .before .before .before .before .settle .kept .0 ∙ ls) (c .before .before .before .before .settle .kept .1 .0 ∙ c .before .before .before .before .before .before .before .before .before .count .kept .0 ∙ lr) (c .before .before .before .before .before .before .before .before .before .count .ensures) (c .before .before .before .before .settle .ensures)
+    let e = end-settle c in
+    let k = settle-count (e .before) in
+    promised _ (read (count-body (k .before))) (k .count .ensures) (e .settle .ensures) (scratch-long e) (rows-long e)
 
 pub accepted-spec : {M : Type 1} → statement M
 accepted-spec =
