@@ -15,7 +15,7 @@ use Rattle.walk.specs.declared.Open.{Open}
 use Rattle.walk.specs.Weight.{weightAt}
 use Rattle.walk.specs.Stands.{Stands, Says, kindOf, siteOf}
 use Rattle.walk.specs.Numbers.{numbers}
-use Rattle.walk.specs.Gain.{one, counted, Grown}
+use Rattle.walk.specs.Gain.{one, returned, Grown}
 use Rattle.walk.specs.Item.{itemChains}
 use Rattle.walk.specs.Reader.{ItemDone}
 use Rattle.walk.proofs.Items.{size-some, chain-le}
@@ -168,7 +168,7 @@ module _ {s : List ℕ} {deep : ℕ} {z : Zones} {t m rows : List ℕ} {kind sit
         (called-asks .0, (called-asks .1, (omega (arith, at), omega (arith, at, u .marks-long, l .lines, lines-in s (child .g) (z .own .at + 1) (child .stands)))))
 
     -- it was counted, and the step left r and the marks m₂
-    module _ {rows₂ : List ℕ} (counts : Grown rows₁ (counted site (c .work) (c .prefix)) rows₂) (r : Zones) (m₂ : List ℕ) where
+    module _ {rows₂ : List ℕ} (counts : Grown rows₁ (returned site (c .work) (c .prefix)) rows₂) (r : Zones) (m₂ : List ℕ) where
       -- the child's body is g: what the step asks for and leaves, as the item's
       behind : (n : ℕ) (k : Chains) (g b : Body) (x : Chains) → Stands s (z .own .at + 1) (linesOf g) → Shows n m z k
           → (weight (chainOf (z .own .at + 1) site g) ≡ c .prefix → Shows n m₁ z k → z .own .at < c .at → Zone m₁ (z .own .at + 1) (c .at) (chainOf (z .own .at + 1) site g) → At n (c .at) (z .own .work + c .work) x m₁ z r m₂)

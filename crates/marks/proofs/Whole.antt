@@ -25,7 +25,7 @@ use Rattle.admit.specs.Answer.{admission}
 use Rattle.admit.proofs.Admitted.{refused-only, accepted-only}
 use Rattle.walk.specs.declared.Open.{Open}
 use Rattle.walk.specs.Stands.{Stands}
-use Rattle.walk.specs.Gain.{counted, Grown}
+use Rattle.walk.specs.Gain.{returned, Grown}
 use Rattle.walk.proofs.Root.{tree, first-line, last-line}
 use Rattle.walk.proofs.Room.{lines-in}
 use Rattle.walk.proofs.Zeros.{zeros-at}
@@ -121,7 +121,7 @@ module _ {s : List ℕ} {D M : ℕ} {x : Lent} {count lines : ℕ} (a : Admitted
     count-asks = count-fits marks s D M x t (a .is) count (a .count-is) c rows₁ (u .rows-same) (left .done)
 
     -- the root was counted
-    module _ (rows₂ : List ℕ) (counts : Grown rows₁ (counted 0 (c .work) (c .prefix)) rows₂) (lr₂ : length rows₂ ≡ length (x .rows)) where
+    module _ (rows₂ : List ℕ) (counts : Grown rows₁ (returned 0 (c .work) (c .prefix)) rows₂) (lr₂ : length rows₂ ≡ length (x .rows)) where
       abbrev p : Parts D t
       p = tree D M t good
 

@@ -236,7 +236,7 @@ fn item(
     store(t, z);
     let c = body(trace, at + 1, site, deep - 1, &mut t[8..], marks, rows);
     let back = load(t);
-    walk::count(rows, site, c.work, c.prefix);
+    walk::returned(rows, site, c.work, c.prefix);
     if kind == 2 {
         return called(marks, back, c);
     }
@@ -345,7 +345,7 @@ fn accepted(
     walk::zero(rows, trace::COLUMNS * (count + 1));
     wipe_lines(marks, 0, count);
     let f = body(text, count, 0, depth - 1, scratch, marks, rows);
-    walk::count(rows, 0, f.work, f.prefix);
+    walk::returned(rows, 0, f.work, f.prefix);
     column(text, count, lines, scratch, marks, rows);
     trace::Answer::Accepted(f.work, f.prefix, count, lines)
 }

@@ -16,7 +16,7 @@ use Rattle.walk.specs.declared.Open.{Open}
 use Rattle.walk.specs.Weight.{weightAt}
 use Rattle.walk.specs.Stands.{Stands, Says, kindOf, siteOf}
 use Rattle.walk.specs.Numbers.{numbers}
-use Rattle.walk.specs.Gain.{one, counted, Grown}
+use Rattle.walk.specs.Gain.{one, returned, Grown}
 use Rattle.walk.specs.Item.{itemChains}
 use Rattle.walk.specs.Reader.{ItemDone, alone, BodyDone}
 use Rattle.walk.proofs.Items.{size-some, chain-le}
@@ -197,7 +197,7 @@ module _ {s : List ℕ} {kind row deep : ℕ} {f : Open} {t rows : List ℕ} {n 
         )
 
     -- it was counted, and the step left r and the scratch t₂
-    module _ {rows₂ : List ℕ} (counts : Grown rows₁ (counted site (c .work) (c .prefix)) rows₂) (r : Open) (t₂ : List ℕ) where
+    module _ {rows₂ : List ℕ} (counts : Grown rows₁ (returned site (c .work) (c .prefix)) rows₂) (r : Open) (t₂ : List ℕ) where
       -- the child's body is g: its numbers and rows, and the scratch behind it
       behind : (k : Chains) (g : Body) → f ≡ numbers (f .at) (f .work) k → Stands s (f .at + 1) (linesOf g) → Holds n w t k [] → ChildDone f site rows g c rows₂ × Holds n w back k (chainOf (f .at + 1) site g)
       behind k g e st sh =

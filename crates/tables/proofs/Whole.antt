@@ -24,7 +24,7 @@ use Rattle.admit.specs.declared.Verdict.the-variants as Verdict
 use Rattle.admit.specs.Answer.{admission}
 use Rattle.admit.proofs.Admitted.{refused-only, accepted-only}
 use Rattle.walk.specs.declared.Open.{Open}
-use Rattle.walk.specs.Gain.{counted, Grown}
+use Rattle.walk.specs.Gain.{returned, Grown}
 use Rattle.walk.specs.Reader.{alone, BodyDone}
 use Rattle.walk.proofs.Zeros.{zeros-at}
 use Rattle.walk.proofs.Root.{tree, first-line, last-line}
@@ -104,7 +104,7 @@ module _ {s : List ℕ} {D M : ℕ} {scratch rows : List ℕ} {count lines : ℕ
     root-counts = root.count-fits tables s D M (lent scratch rows) (a .t) (a .is) count (a .count-is) c rows₂ (u .rows-same) (left .0)
 
     -- the root itself, and its table
-    module _ {rows₃ : List ℕ} (counts : Grown rows₂ (counted 0 (c .work) (c .prefix)) rows₃) {t₃ rows₄ : List ℕ} (settled : Settled (count + 1) t₂ rows₃ t₃ rows₄) (l₃ : length t₃ ≡ length scratch) (l₄ : length rows₄ ≡ length rows) where
+    module _ {rows₃ : List ℕ} (counts : Grown rows₂ (returned 0 (c .work) (c .prefix)) rows₃) {t₃ rows₄ : List ℕ} (settled : Settled (count + 1) t₂ rows₃ t₃ rows₄) (l₃ : length t₃ ≡ length scratch) (l₄ : length rows₄ ≡ length rows) where
       abbrev answer : Answer
       answer = Accepted (c .work) (c .prefix) count lines
 

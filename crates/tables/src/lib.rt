@@ -207,7 +207,7 @@ fn item(
     let site = line::site_at(trace, at) as usize;
     let o = part(n, f);
     let c = body(trace, at + 1, site, deep - 1, &mut t[o..], rows, n, w);
-    walk::count(rows, site, c.work, c.prefix);
+    walk::returned(rows, site, c.work, c.prefix);
     if kind == 2 {
         return called(t, n, w, f, site, c);
     }
@@ -252,7 +252,7 @@ fn accepted(
         sites + 3,
         count + 1,
     );
-    walk::count(rows, 0, f.work, f.prefix);
+    walk::returned(rows, 0, f.work, f.prefix);
     settle(scratch, rows, count + 1);
     trace::Answer::Accepted(f.work, f.prefix, count, lines)
 }

@@ -24,7 +24,7 @@ use Rattle.trace.proofs.Recurrence.{weight-chain}
 use Rattle.walk.specs.declared.Open.{Open}
 use Rattle.walk.specs.Stands.{Stands}
 use Rattle.walk.specs.Numbers.{numbers}
-use Rattle.walk.specs.Gain.{counted, made, Grown}
+use Rattle.walk.specs.Gain.{returned, made, Grown}
 use Rattle.walk.specs.Reader.{Ready, BodyDone}
 use Rattle.walk.proofs.Columns.{whole-on}
 use Rattle.walk.proofs.Root.{tree, whole-small, root-stands, root-ready, cells-are, behind}
@@ -88,9 +88,9 @@ module _ (e : Engine) (s : List ℕ) (D M : ℕ) (x : Lent) (t : List Frame) (is
         at i v l h = omega (arith, done .rows-are i (omega (arith, cleared-long, rows-room)), zeros i (omega arith), whole-small D M t fine i)
 
     -- and the root was counted
-    module _ (rows₂ : List ℕ) (counts : Grown rows₁ (counted 0 (c .work) (c .prefix)) rows₂) where
+    module _ (rows₂ : List ℕ) (counts : Grown rows₁ (returned 0 (c .work) (c .prefix)) rows₂) where
       itself : Grown rows₁ (made 0 body) rows₂
-      itself i l = counts i l ∙ ap (λ (y : ℕ). getD rows₁ i 0 + counted 0 y (c .prefix) i) work-is ∙ ap (λ (y : ℕ). getD rows₁ i 0 + counted 0 (workOf body) y i) span-is
+      itself i l = counts i l ∙ ap (λ (y : ℕ). getD rows₁ i 0 + returned 0 y (c .prefix) i) work-is ∙ ap (λ (y : ℕ). getD rows₁ i 0 + returned 0 (workOf body) y i) span-is
 
       long : columns * (sites t + 1) ≤ length cleared
       long = omega (arith, cleared-long, rows-room, count-is)

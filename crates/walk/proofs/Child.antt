@@ -16,7 +16,7 @@ use Rattle.trace.proofs.Recurrence.{weight-chain}
 use Rattle.walk.specs.declared.Open.{Open}
 use Rattle.walk.specs.Stands.{Stands, Says, kindOf, siteOf, valueOf}
 use Rattle.walk.specs.Numbers.{numbers}
-use Rattle.walk.specs.Gain.{one, counted, made, gain, Grown}
+use Rattle.walk.specs.Gain.{one, returned, made, gain, Grown}
 use Rattle.walk.specs.Item.{More}
 use Rattle.walk.specs.Reader.{Ready, BodyDone}
 use Rattle.walk.proofs.Items.{stands-left}
@@ -144,7 +144,7 @@ pub record ChildDone (f : Open) (site : ℕ) (rows : List ℕ) (g : Body) (r : O
   pub rows-are : (i : ℕ) → i < length rows → getD rows₂ i 0 ≡ getD rows i 0 + (made site g i + gain site g i)
   pub numbers-are : (k : Chains) → numbers (r .at) (f .work + r .work) k ≡ numbers (f .at + (1 + size g)) (f .work + workOf g) k
 
-pub child-done : (f : Open) (site : ℕ) (rows rows₁ rows₂ : List ℕ) (g : Body) (r : Open) → length rows₁ ≡ length rows → BodyDone (f .at + 1) site rows g r rows₁ → Grown rows₁ (counted site (r .work) (r .prefix)) rows₂ → ChildDone f site rows g r rows₂
+pub child-done : (f : Open) (site : ℕ) (rows rows₁ rows₂ : List ℕ) (g : Body) (r : Open) → length rows₁ ≡ length rows → BodyDone (f .at + 1) site rows g r rows₁ → Grown rows₁ (returned site (r .work) (r .prefix)) rows₂ → ChildDone f site rows g r rows₂
 child-done f site rows rows₁ rows₂ g r len done counts =
     let p : r .prefix ≡ weight (chainOf (f .at + 1) site g) = ap (λ (x : Open). x .prefix) (done .numbers-are) in
     let v : r .work ≡ workOf g = ap (λ (x : Open). x .work) (done .numbers-are) in

@@ -12,7 +12,7 @@ use Rattle.trace.specs.ByTree.{cell}
 use Rattle.trace.specs.Tree.{leafWork, Body, done, leaf, child, Within, workOf, localOf, spanOf, madeSum, rowSum, callsIn, workIn, spansIn, localIn}
 use Rattle.trace.proofs.Basics.{cond-same, cond-add}
 use Rattle.trace.proofs.Columns.{none-from-root}
-use Rattle.walk.specs.Gain.{one, counted, made, gain, Grown}
+use Rattle.walk.specs.Gain.{one, returned, made, gain, Grown}
 use Rattle.walk.proofs.Rows.{one-same, one-other}
 
 -- number a of row j and number a of row s: the rows decide
@@ -77,21 +77,21 @@ gain-on row s (leaf l r) = omega (arith, one-cross 3 4 row s (leafWork l) (colum
 gain-on row s (child k j g r) = omega (arith, made-on j s g, gain-on j s g, gain-on row s r)
 
 -- and so are the numbers behind the rows
-counted-out : (m j work span i : ℕ) → j ≤ m → columns * (m + 1) ≤ i → counted j work span i ≡ 0
-counted-out m j work span i h l =
+returned-out : (m j work span i : ℕ) → j ≤ m → columns * (m + 1) ≤ i → returned j work span i ≡ 0
+returned-out m j work span i h l =
     omega (arith, one-other (columns * j) 1 i (λ z. omega arith), one-other (columns * j + 1) work i (λ z. omega arith), one-other (columns * j + 2) span i (λ z. omega arith))
 
 pub gain-out : (m D d row i : ℕ) (b : Body) → Within m D d b → row ≤ m → columns * (m + 1) ≤ i → gain row b i ≡ 0
 gain-out m D d row i done h w l = refl
 gain-out m D d row i (leaf k r) h w l = omega (arith, one-other (columns * row + 3) (leafWork k) i (λ z. omega arith), gain-out m D d row i r (h .1) w l)
-gain-out m D d row i (child k j g r) h w l = omega (arith, counted-out m j (workOf g) (spanOf g) i (h .1) l, gain-out m D (suc d) j i g (h .3) (h .1) l, gain-out m D d row i r (h .4) w l)
+gain-out m D d row i (child k j g r) h w l = omega (arith, returned-out m j (workOf g) (spanOf g) i (h .1) l, gain-out m D (suc d) j i g (h .3) (h .1) l, gain-out m D d row i r (h .4) w l)
 
 -- what the root comes to in number i, by its body b: all that is inside, and the root itself
 abbrev pub whole : Body → ℕ → ℕ
 whole b i = gain 0 b i + made 0 b i
 
 module _ (m D d : ℕ) (b : Body) (w : Within m D d b) where
-  later : (i : ℕ) → columns ≤ i → counted 0 (workOf b) (spanOf b) i ≡ 0
+  later : (i : ℕ) → columns ≤ i → returned 0 (workOf b) (spanOf b) i ≡ 0
   later i h = omega (arith, one-other 0 1 i (λ z. omega arith), one-other 1 (workOf b) i (λ z. omega arith), one-other 2 (spanOf b) i (λ z. omega arith))
 
   whole-calls : (s : ℕ) → whole b (columns * s) ≡ callsIn s b

@@ -13,13 +13,21 @@ use Rattle.trace.specs.Tree.{leafWork, Body, done, leaf, child, workOf, spanOf}
 abbrev pub one : ℕ → ℕ → ℕ → ℕ
 one j v i = cond (eqb j i) v 0
 
--- an invocation of site s: a call, its work and its span
-abbrev pub counted : ℕ → ℕ → ℕ → ℕ → ℕ
-counted s work span i = one (columns * s) 1 i + (one (columns * s + 1) work i + one (columns * s + 2) span i)
+-- column 1 of row s: an invocation was made from it
+abbrev pub oneCall : ℕ → ℕ → ℕ
+oneCall s i = one (columns * s) 1 i
+
+-- columns 2 and 3 of row s: an invocation's work and its span
+abbrev pub credited : ℕ → ℕ → ℕ → ℕ → ℕ
+credited s work span i = one (columns * s + 1) work i + one (columns * s + 2) span i
+
+-- both, of an invocation of site s that has returned
+abbrev pub returned : ℕ → ℕ → ℕ → ℕ → ℕ
+returned s work span i = oneCall s i + credited s work span i
 
 -- the same by its body
 abbrev pub made : ℕ → Body → ℕ → ℕ
-made s g i = counted s (workOf g) (spanOf g) i
+made s g i = returned s (workOf g) (spanOf g) i
 
 -- s is the row of the invocation whose body is read
 abbrev pub gain : ℕ → Body → ℕ → ℕ

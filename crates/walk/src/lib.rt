@@ -7,7 +7,7 @@ ghost use lib.ListN.{length, getD, set, drop, replicate};
 ghost use Rattle.trace.specs.Rows.{columns};
 ghost use Rattle.trace.specs.Fold.{nothing};
 ghost use Rattle.walk.specs.Weight.{weightAt};
-ghost use Rattle.walk.specs.Gain.{one, counted, Grown};
+ghost use Rattle.walk.specs.Gain.{one, oneCall, credited, returned, Grown};
 ghost use Rattle.walk.specs.Numbers.{numbers, spentN, laterHeavier, joinedN, calledN, childLonger, spawnedN};
 
 // An open invocation: its next line, the work so far, and what its three chains weigh: up to the last join, the longest child's since, and
@@ -139,16 +139,33 @@ pub fn add(a: &mut [u64], i: usize, v: u64)
     a[i] = a[i] + v;
 }
 
-// Columns 1 to 3 of row s: an invocation of site s with this work and this span has returned.
-pub fn count(rows: &mut [u64], s: usize, work: u64, span: u64)
+// Column 1 of row s: an invocation was made from it.
+fn count(rows: &mut [u64], s: usize)
+    requires { ⌜ (columns * s < length (now rows)) × (getD (now rows) (columns * s) 0 + 1 < 2 ^ 64) ⌝ }
+    ensures { λ _. ⌜ Grown (now (rows .entry)) (oneCall s) (now (rows .exit)) ⌝ }
+{
+    add(rows, COLUMNS * s, 1);
+}
+
+// Columns 2 and 3 of row s: an invocation's work and its span.
+fn credit(rows: &mut [u64], s: usize, work: u64, span: u64)
     requires { ⌜ columns * s + 2 < length (now rows) ⌝ }
-    requires { ⌜ (getD (now rows) (columns * s) 0 + 1 < 2 ^ 64) × ((getD (now rows) (columns * s + 1) 0 + work < 2 ^ 64) × (getD (now rows) (columns * s + 2) 0 + span < 2 ^ 64)) ⌝ }
-    ensures { λ _. ⌜ Grown (now (rows .entry)) (counted s work span) (now (rows .exit)) ⌝ }
+    requires { ⌜ (getD (now rows) (columns * s + 1) 0 + work < 2 ^ 64) × (getD (now rows) (columns * s + 2) 0 + span < 2 ^ 64) ⌝ }
+    ensures { λ _. ⌜ Grown (now (rows .entry)) (credited s work span) (now (rows .exit)) ⌝ }
 {
     let i = COLUMNS * s;
-    add(rows, i, 1);
     add(rows, i + 1, work);
     add(rows, i + 2, span);
+}
+
+// An invocation of site s with this work and this span has returned: columns 1 to 3 of its row.
+pub fn returned(rows: &mut [u64], s: usize, work: u64, span: u64)
+    requires { ⌜ columns * s + 2 < length (now rows) ⌝ }
+    requires { ⌜ (getD (now rows) (columns * s) 0 + 1 < 2 ^ 64) × ((getD (now rows) (columns * s + 1) 0 + work < 2 ^ 64) × (getD (now rows) (columns * s + 2) 0 + span < 2 ^ 64)) ⌝ }
+    ensures { λ _. ⌜ Grown (now (rows .entry)) (returned s work span) (now (rows .exit)) ⌝ }
+{
+    count(rows, s);
+    credit(rows, s, work, span);
 }
 
 // Column 4 of row s: a cost of v directly in an invocation of it.

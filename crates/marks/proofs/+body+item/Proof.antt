@@ -28,7 +28,7 @@ use Rattle.marks.proofs.spawned.Reads as spawned-reads
 use Rattle.marks.proofs.spend.Reads as spend-reads
 use Rattle.marks.proofs.store.Reads as store-reads
 use Rattle.walk.proofs.Open.new.Reads as new-reads
-use Rattle.walk.proofs.count.Reads as count-reads
+use Rattle.walk.proofs.returned.Reads as returned-reads
 use Rattle.walk.proofs.spend.Reads as spend-reads′
 use Rattle.walk.proofs.weight_at.Reads as weight-at-reads
 use Rattle.marks.proofs.+body+item.{statement}
@@ -57,7 +57,7 @@ abbrev body-calls : ℕ → body-lts.Claims
 body-calls t = (new-reads.Asked, new-reads.Learnt, prefix-reads.Asked, prefix-reads.Learnt, kind-at-reads.Asked, kind-at-reads.Learnt, item-below t, item.Post, join-reads.Asked, join-reads.Learnt)
 
 abbrev item-calls : ℕ → item-lts.Claims
-item-calls t = (weight-at-reads.Asked, weight-at-reads.Learnt, spend-reads′.Asked, spend-reads′.Learnt, spend-reads.Asked, spend-reads.Learnt, join-reads.Asked, join-reads.Learnt, site-at-reads.Asked, site-at-reads.Learnt, store-reads.Asked, store-reads.Learnt, body-below t, body.Post, load-reads.Asked, load-reads.Learnt, count-reads.Asked, count-reads.Learnt, called-reads.Asked, called-reads.Learnt, spawned-reads.Asked, spawned-reads.Learnt)
+item-calls t = (weight-at-reads.Asked, weight-at-reads.Learnt, spend-reads′.Asked, spend-reads′.Learnt, spend-reads.Asked, spend-reads.Learnt, join-reads.Asked, join-reads.Learnt, site-at-reads.Asked, site-at-reads.Learnt, store-reads.Asked, store-reads.Learnt, body-below t, body.Post, load-reads.Asked, load-reads.Learnt, returned-reads.Asked, returned-reads.Learnt, called-reads.Asked, called-reads.Learnt, spawned-reads.Asked, spawned-reads.Learnt)
 
 abbrev body-Inv-loop : body-lts.InvT-loop
 body-Inv-loop trace from row deep t₀ marks₀ rows₀ z₀ kind₀ t marks rows z kind = Loop trace from row deep t₀ marks₀ rows₀ t marks rows z kind
@@ -203,11 +203,11 @@ module _ (t : ℕ) where
   abbrev load-body : Item item-lts.After-load-arg → Item item-lts.After-body
   load-body c = c .before .before .before .before .before .before .before
 
-  abbrev count-load : Item item-lts.After-count-arg → Item item-lts.After-load
-  count-load c = c .before .before .before
+  abbrev returned-load : Item item-lts.After-returned-arg → Item item-lts.After-load
+  returned-load c = c .before .before .before
 
-  abbrev test-count : Item item-lts.After-slice-known12 → Item item-lts.After-count
-  test-count c = c .before .before
+  abbrev test-returned : Item item-lts.After-slice-known12 → Item item-lts.After-returned
+  test-returned c = c .before .before
 
   abbrev called-test : Item item-lts.After-called-arg → Item item-lts.Then3
   called-test c = c .before
@@ -325,62 +325,62 @@ module _ (t : ℕ) where
   item-load-requires : Item item-lts.Need-load-requires
   item-load-requires c κs = let b = load-body c in back-room (at-store (body-store b)) (body-scratch b) (b .body .ensures .1)
 
-  item-count-requires : Item item-lts.Need-count-requires
-  item-count-requires c κs = count-asks _ (at-body (load-body (count-load c .before)))
+  item-returned-requires : Item item-lts.Need-returned-requires
+  item-returned-requires c κs = count-asks _ (at-body (load-body (returned-load c .before)))
 
   item-called-requires : Item item-lts.Need-called-requires
   item-called-requires c κs =
-      let l = count-load (test-count (called-test c .before) .before) in
+      let l = returned-load (test-returned (called-test c .before) .before) in
       rw (loaded l) (called-asks _ (at-body (load-body (l .before))))
 
   item-same-length-4 : Item item-lts.Need-same-length-4
-  item-same-length-4 c = ap length (unloaded (count-load (test-count (called-test (item-called c .before) .before) .before)))
+  item-same-length-4 c = ap length (unloaded (returned-load (test-returned (called-test (item-called c .before) .before) .before)))
 
   item-same-length-5 : Item item-lts.Need-same-length-5
   item-same-length-5 c =
       let r = item-called c in
-      r .called .kept .0 ∙ at-body (load-body (count-load (test-count (called-test (r .before) .before) .before) .before)) .marks-long
+      r .called .kept .0 ∙ at-body (load-body (returned-load (test-returned (called-test (r .before) .before) .before) .before)) .marks-long
 
   item-same-length-6 : Item item-lts.Need-same-length-6
   item-same-length-6 c =
-      let k = test-count (called-test (item-called c .before) .before) in
-      k .count .kept .0 ∙ at-body (load-body (count-load (k .before) .before)) .rows-long
+      let k = test-returned (called-test (item-called c .before) .before) in
+      k .returned .kept .0 ∙ at-body (load-body (returned-load (k .before) .before)) .rows-long
 
   item-returns-3 : Item item-lts.Need-returns-3
   item-returns-3 c =
       let r = item-called c in
       let e = called-test (r .before) in
-      let k = test-count (e .before) in
-      let l = count-load (k .before) in
+      let k = test-returned (e .before) in
+      let l = returned-load (k .before) in
       let b = load-body (l .before) in
-      (call-leaves _ (at-body b) (k .count .ensures) (r .called .result) (r .called .last .0) (e .if3 .taken) (subst (λ (x : Zones). Called (body-marks b) x (b .body .result) (r .called .result) (r .called .last .0)) (loaded l) (r .called .ensures)), unloaded l)
+      (call-leaves _ (at-body b) (k .returned .ensures) (r .called .result) (r .called .last .0) (e .if3 .taken) (subst (λ (x : Zones). Called (body-marks b) x (b .body .result) (r .called .result) (r .called .last .0)) (loaded l) (r .called .ensures)), unloaded l)
 
   item-spawned-requires : Item item-lts.Need-spawned-requires
   item-spawned-requires c κs =
-      let l = count-load (test-count (spawned-test c .before) .before) in
+      let l = returned-load (test-returned (spawned-test c .before) .before) in
       rw (loaded l) (spawned-asks _ (at-body (load-body (l .before))))
 
   item-same-length-7 : Item item-lts.Need-same-length-7
-  item-same-length-7 c = ap length (unloaded (count-load (test-count (spawned-test (item-spawned c .before) .before) .before)))
+  item-same-length-7 c = ap length (unloaded (returned-load (test-returned (spawned-test (item-spawned c .before) .before) .before)))
 
   item-same-length-8 : Item item-lts.Need-same-length-8
   item-same-length-8 c =
       let r = item-spawned c in
-      r .spawned .kept .0 ∙ at-body (load-body (count-load (test-count (spawned-test (r .before) .before) .before) .before)) .marks-long
+      r .spawned .kept .0 ∙ at-body (load-body (returned-load (test-returned (spawned-test (r .before) .before) .before) .before)) .marks-long
 
   item-same-length-9 : Item item-lts.Need-same-length-9
   item-same-length-9 c =
-      let k = test-count (spawned-test (item-spawned c .before) .before) in
-      k .count .kept .0 ∙ at-body (load-body (count-load (k .before) .before)) .rows-long
+      let k = test-returned (spawned-test (item-spawned c .before) .before) in
+      k .returned .kept .0 ∙ at-body (load-body (returned-load (k .before) .before)) .rows-long
 
   item-returns-4 : Item item-lts.Need-returns-4
   item-returns-4 c =
       let r = item-spawned c in
       let e = spawned-test (r .before) in
-      let k = test-count (e .before) in
-      let l = count-load (k .before) in
+      let k = test-returned (e .before) in
+      let l = returned-load (k .before) in
       let b = load-body (l .before) in
-      (spawn-leaves _ (at-body b) (k .count .ensures) (r .spawned .result) (r .spawned .last .0) (e .if3 .left) (subst (λ (x : Zones). Spawned (body-marks b) x (b .body .result) (r .spawned .result) (r .spawned .last .0)) (loaded l) (r .spawned .ensures)), unloaded l)
+      (spawn-leaves _ (at-body b) (k .returned .ensures) (r .spawned .result) (r .spawned .last .0) (e .if3 .left) (subst (λ (x : Zones). Spawned (body-marks b) x (b .body .result) (r .spawned .result) (r .spawned .last .0)) (loaded l) (r .spawned .ensures)), unloaded l)
 
 pub +body+item-spec : {M : Type 1} → statement M
 +body+item-spec = close μ-body μ-item (λ t. body-lts.spec (body-calls t)
@@ -423,7 +423,7 @@ pub +body+item-spec : {M : Type 1} → statement M
     (item-part-body-end t)
     (item-body-requires t)
     (item-load-requires t)
-    (item-count-requires t)
+    (item-returned-requires t)
     (item-called-requires t)
     (item-same-length-4 t)
     (item-same-length-5 t)

@@ -26,11 +26,11 @@ body-wipe c = c .before .before
 abbrev body-begins : tie.After-body-arg3 → tie.After-slice-known6
 body-begins c = c .before .before .before
 
-abbrev count-body : tie.After-count-arg → tie.After-body
-count-body c = c .before .before .before .before .before .before .before
+abbrev returned-body : tie.After-returned-arg → tie.After-body
+returned-body c = c .before .before .before .before .before .before .before
 
-abbrev column-count : tie.After-column-arg3 → tie.After-count
-column-count c = c .before .before .before .before .before
+abbrev column-returned : tie.After-column-arg3 → tie.After-returned
+column-returned c = c .before .before .before .before .before
 
 abbrev end-column : tie.After-slice-known12 → tie.After-column
 end-column c = c .before .before .before .before
@@ -45,8 +45,8 @@ wiped c = cleared (wipe-zeros c .before)
 abbrev begun : tie.After-slice-known6 → tie.Start
 begun c = wiped (body-wipe c .before)
 
-abbrev counted : tie.After-count → tie.Start
-counted c = begun (body-begins (count-body (c .before) .before))
+abbrev root-start : tie.After-returned → tie.Start
+root-start c = begun (body-begins (returned-body (c .before) .before))
 
 -- the rows lent are numbers of 64 bits
 rows-fit : (c : tie.After-zero-arg) (i : ℕ) → getD (zero-start c .args .rows .now) i 0 < 2 ^ 64
@@ -95,8 +95,8 @@ read c =
       leaves = c .body .ensures .0;
     }
 
-counts-long : (c : tie.After-count) → length (c .count .last .0) ≡ length (counted c .args .rows .now)
-counts-long c = c .count .kept .0 ∙ read (count-body (c .before)) .rows-same
+counts-long : (c : tie.After-returned) → length (c .returned .last .0) ≡ length (root-start c .args .rows .now)
+counts-long c = c .returned .kept .0 ∙ read (returned-body (c .before)) .rows-same
 
 zero-requires : tie.Need-zero-requires
 zero-requires c κs = search needs
@@ -121,19 +121,19 @@ body-requires c κs =
     let w = body-wipe (body-begins c) in
     body-asks _ (blank w) (rows-fit (zeros (wipe-zeros (w .before) .before) .before))
 
-count-requires : tie.Need-count-requires
-count-requires c κs = count-asks _ (read (count-body c))
+returned-requires : tie.Need-returned-requires
+returned-requires c κs = count-asks _ (read (returned-body c))
 
 column-requires : tie.Need-column-requires
 column-requires c κs =
-    let k = column-count c in
-    on-asks _ (read (count-body (k .before))) (k .count .last .0) (k .count .ensures) (counts-long k)
+    let k = column-returned c in
+    on-asks _ (read (returned-body (k .before))) (k .returned .last .0) (k .returned .ensures) (counts-long k)
 
 same-length : tie.Need-same-length
 same-length c =
     let o = end-column c in
-    let b = count-body (column-count (o .before) .before) in
-    ap length (o .column .ensures .1 ∙ read b .zero) ∙ length-replicate {A = ℕ} (length (counted (column-count (o .before)) .args .scratch .now)) 0
+    let b = returned-body (column-returned (o .before) .before) in
+    ap length (o .column .ensures .1 ∙ read b .zero) ∙ length-replicate {A = ℕ} (length (root-start (column-returned (o .before)) .args .scratch .now)) 0
 
 same-length-2 : tie.Need-same-length-2
 same-length-2 c = search needs
@@ -144,8 +144,8 @@ same-length-3 c = search needs
 returns : tie.Need-returns
 returns c =
     let o = end-column c in
-    let k = column-count (o .before) in
-    promised _ (read (count-body (k .before))) (k .count .last .0) (k .count .ensures) (counts-long k) (column-scratch o) (column-rows o) (o .column .ensures .0) (o .column .ensures .1) (o .column .kept .1 .1 .1 .1 .1 .0 ∙ counts-long k)
+    let k = column-returned (o .before) in
+    promised _ (read (returned-body (k .before))) (k .returned .last .0) (k .returned .ensures) (counts-long k) (column-scratch o) (column-rows o) (o .column .ensures .0) (o .column .ensures .1) (o .column .kept .1 .1 .1 .1 .1 .0 ∙ counts-long k)
 
 pub accepted-spec : {M : Type 1} → statement M
 accepted-spec =
@@ -158,7 +158,7 @@ accepted-spec =
     wipe-lines-requires
     sub-body
     body-requires
-    count-requires
+    returned-requires
     column-requires
     same-length
     same-length-2

@@ -23,7 +23,7 @@ use Rattle.tables.proofs.part.Reads as part-reads
 use Rattle.tables.proofs.spawned.Reads as spawned-reads
 use Rattle.tables.proofs.spend.Reads as spend-reads
 use Rattle.walk.proofs.Open.new.Reads as new-reads
-use Rattle.walk.proofs.count.Reads as count-reads
+use Rattle.walk.proofs.returned.Reads as returned-reads
 use Rattle.walk.proofs.spend.Reads as spend-reads′
 use Rattle.walk.proofs.weight_at.Reads as weight-at-reads
 use Rattle.tables.proofs.+body+item.{statement}
@@ -52,7 +52,7 @@ abbrev body-calls : ℕ → body-lts.Claims
 body-calls t = (new-reads.Asked, new-reads.Learnt, kind-at-reads.Asked, kind-at-reads.Learnt, item-below t, item.Post, join-reads.Asked, join-reads.Learnt)
 
 abbrev item-calls : ℕ → item-lts.Claims
-item-calls t = (weight-at-reads.Asked, weight-at-reads.Learnt, spend-reads′.Asked, spend-reads′.Learnt, spend-reads.Asked, spend-reads.Learnt, join-reads.Asked, join-reads.Learnt, site-at-reads.Asked, site-at-reads.Learnt, part-reads.Asked, part-reads.Learnt, body-below t, body.Post, count-reads.Asked, count-reads.Learnt, called-reads.Asked, called-reads.Learnt, spawned-reads.Asked, spawned-reads.Learnt)
+item-calls t = (weight-at-reads.Asked, weight-at-reads.Learnt, spend-reads′.Asked, spend-reads′.Learnt, spend-reads.Asked, spend-reads.Learnt, join-reads.Asked, join-reads.Learnt, site-at-reads.Asked, site-at-reads.Learnt, part-reads.Asked, part-reads.Learnt, body-below t, body.Post, returned-reads.Asked, returned-reads.Learnt, called-reads.Asked, called-reads.Learnt, spawned-reads.Asked, spawned-reads.Learnt)
 
 abbrev body-Inv-loop : body-lts.InvT-loop
 body-Inv-loop trace from row deep t₀ rows₀ n w f₀ kind₀ t rows f kind = Loop trace from row deep t₀ rows₀ t rows n w f kind
@@ -174,11 +174,11 @@ module _ (t : ℕ) where
   abbrev body-part : Item item-lts.After-body-arg2 → Item item-lts.After-part
   body-part c = c .before .before
 
-  abbrev count-body : Item item-lts.After-count-arg → Item item-lts.After-body
-  count-body c = c .before .before .before .before .before
+  abbrev returned-body : Item item-lts.After-returned-arg → Item item-lts.After-body
+  returned-body c = c .before .before .before .before .before
 
-  abbrev test-count : Item item-lts.After-slice-known8 → Item item-lts.After-count
-  test-count c = c .before .before
+  abbrev test-returned : Item item-lts.After-slice-known8 → Item item-lts.After-returned
+  test-returned c = c .before .before
 
   abbrev called-test : Item item-lts.After-called-arg → Item item-lts.Then3
   called-test c = c .before
@@ -285,48 +285,48 @@ module _ (t : ℕ) where
       let h = at-part (body-part c) in
       (omega (arith, child-start (body-part c .before) .pre .0, deeper h), body-asks h)
 
-  item-count-requires : Item item-lts.Need-count-requires
-  item-count-requires c κs = count-asks _ (at-body (count-body c))
+  item-returned-requires : Item item-lts.Need-returned-requires
+  item-returned-requires c κs = count-asks _ (at-body (returned-body c))
 
   item-called-requires : Item item-lts.Need-called-requires
-  item-called-requires c κs = child-asks _ (at-body (count-body (test-count (called-test c .before) .before)))
+  item-called-requires c κs = child-asks _ (at-body (returned-body (test-returned (called-test c .before) .before)))
 
   item-same-length-4 : Item item-lts.Need-same-length-4
   item-same-length-4 c =
       let r = item-called c in
-      r .called .kept .0 ∙ back-long _ (at-body (count-body (test-count (called-test (r .before) .before) .before)))
+      r .called .kept .0 ∙ back-long _ (at-body (returned-body (test-returned (called-test (r .before) .before) .before)))
 
   item-same-length-5 : Item item-lts.Need-same-length-5
   item-same-length-5 c =
-      let k = test-count (called-test (item-called c .before) .before) in
-      k .count .kept .0 ∙ at-body (count-body (k .before)) .rows-long
+      let k = test-returned (called-test (item-called c .before) .before) in
+      k .returned .kept .0 ∙ at-body (returned-body (k .before)) .rows-long
 
   item-returns-3 : Item item-lts.Need-returns-3
   item-returns-3 c =
       let r = item-called c in
       let e = called-test (r .before) in
-      let k = test-count (e .before) in
-      call-leaves _ (at-body (count-body (k .before))) (k .count .ensures) (r .called .result) (r .called .last .0) (e .if3 .taken) (r .called .ensures)
+      let k = test-returned (e .before) in
+      call-leaves _ (at-body (returned-body (k .before))) (k .returned .ensures) (r .called .result) (r .called .last .0) (e .if3 .taken) (r .called .ensures)
 
   item-spawned-requires : Item item-lts.Need-spawned-requires
-  item-spawned-requires c κs = child-asks _ (at-body (count-body (test-count (spawned-test c .before) .before)))
+  item-spawned-requires c κs = child-asks _ (at-body (returned-body (test-returned (spawned-test c .before) .before)))
 
   item-same-length-6 : Item item-lts.Need-same-length-6
   item-same-length-6 c =
       let r = item-spawned c in
-      r .spawned .kept .0 ∙ back-long _ (at-body (count-body (test-count (spawned-test (r .before) .before) .before)))
+      r .spawned .kept .0 ∙ back-long _ (at-body (returned-body (test-returned (spawned-test (r .before) .before) .before)))
 
   item-same-length-7 : Item item-lts.Need-same-length-7
   item-same-length-7 c =
-      let k = test-count (spawned-test (item-spawned c .before) .before) in
-      k .count .kept .0 ∙ at-body (count-body (k .before)) .rows-long
+      let k = test-returned (spawned-test (item-spawned c .before) .before) in
+      k .returned .kept .0 ∙ at-body (returned-body (k .before)) .rows-long
 
   item-returns-4 : Item item-lts.Need-returns-4
   item-returns-4 c =
       let r = item-spawned c in
       let e = spawned-test (r .before) in
-      let k = test-count (e .before) in
-      spawn-leaves _ (at-body (count-body (k .before))) (k .count .ensures) (r .spawned .result) (r .spawned .last .0) (e .if3 .left) (r .spawned .ensures)
+      let k = test-returned (e .before) in
+      spawn-leaves _ (at-body (returned-body (k .before))) (k .returned .ensures) (r .spawned .result) (r .spawned .last .0) (e .if3 .left) (r .spawned .ensures)
 
 pub +body+item-spec : {M : Type 1} → statement M
 +body+item-spec = close μ-body μ-item (λ t. body-lts.spec (body-calls t)
@@ -367,7 +367,7 @@ pub +body+item-spec : {M : Type 1} → statement M
     (item-part-body-start t)
     (item-part-body-end t)
     (item-body-requires t)
-    (item-count-requires t)
+    (item-returned-requires t)
     (item-called-requires t)
     (item-same-length-4 t)
     (item-same-length-5 t)

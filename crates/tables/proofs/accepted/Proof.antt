@@ -23,11 +23,11 @@ body-zeros c = c .before .before
 abbrev body-begins : tie.After-body-arg2 → tie.After-slice-known4
 body-begins c = c .before .before
 
-abbrev count-body : tie.After-count-arg → tie.After-body
-count-body c = c .before .before .before .before .before
+abbrev returned-body : tie.After-returned-arg → tie.After-body
+returned-body c = c .before .before .before .before .before
 
-abbrev settle-count : tie.After-settle-arg2 → tie.After-count
-settle-count c = c .before .before .before .before
+abbrev settle-returned : tie.After-settle-arg2 → tie.After-returned
+settle-returned c = c .before .before .before .before
 
 abbrev end-settle : tie.After-slice-known9 → tie.After-settle
 end-settle c = c .before .before .before .before
@@ -39,8 +39,8 @@ cleared c = zero-start (zeros c .before)
 abbrev begun : tie.After-body-arg2 → tie.Start
 begun c = cleared (body-zeros (body-begins c) .before)
 
-abbrev counted : tie.After-count → tie.Start
-counted c = begun (count-body (c .before) .before)
+abbrev root-start : tie.After-returned → tie.Start
+root-start c = begun (returned-body (c .before) .before)
 
 -- the rows lent are numbers of 64 bits
 rows-fit : (c : tie.After-zero-arg) (i : ℕ) → getD (zero-start c .args .rows .now) i 0 < 2 ^ 64
@@ -68,14 +68,14 @@ read c =
       leaves = c .body .ensures;
     }
 
-scratch-long : (c : tie.After-settle) → length (c .settle .last .0) ≡ length (counted (settle-count (c .before)) .args .scratch .now)
-scratch-long c = c .settle .kept .0 ∙ read (count-body (settle-count (c .before) .before)) .scratch-same
+scratch-long : (c : tie.After-settle) → length (c .settle .last .0) ≡ length (root-start (settle-returned (c .before)) .args .scratch .now)
+scratch-long c = c .settle .kept .0 ∙ read (returned-body (settle-returned (c .before) .before)) .scratch-same
 
-counts-long : (c : tie.After-count) → length (c .count .last .0) ≡ length (counted c .args .rows .now)
-counts-long c = c .count .kept .0 ∙ read (count-body (c .before)) .rows-same
+counts-long : (c : tie.After-returned) → length (c .returned .last .0) ≡ length (root-start c .args .rows .now)
+counts-long c = c .returned .kept .0 ∙ read (returned-body (c .before)) .rows-same
 
-rows-long : (c : tie.After-settle) → length (c .settle .last .1 .0) ≡ length (counted (settle-count (c .before)) .args .rows .now)
-rows-long c = c .settle .kept .1 .0 ∙ counts-long (settle-count (c .before))
+rows-long : (c : tie.After-settle) → length (c .settle .last .1 .0) ≡ length (root-start (settle-returned (c .before)) .args .rows .now)
+rows-long c = c .settle .kept .1 .0 ∙ counts-long (settle-returned (c .before))
 
 zero-requires : tie.Need-zero-requires
 zero-requires c κs = search needs
@@ -101,17 +101,17 @@ add-body-2 c = let l = limits (begun c .pre) in omega (arith, l .2, l .3)
 body-requires : tie.Need-body-requires
 body-requires c κs = root-asks (begun c .pre) (blank (body-zeros (body-begins c))) (rows-fit (zeros (body-zeros (body-begins c) .before) .before))
 
-count-requires : tie.Need-count-requires
-count-requires c κs = root-counts _ (read (count-body c))
+returned-requires : tie.Need-returned-requires
+returned-requires c κs = root-counts _ (read (returned-body c))
 
 add-settle : tie.Need-add-settle
-add-settle c = let l = limits (counted (settle-count c) .pre) in omega (arith, l .2, l .3)
+add-settle c = let l = limits (root-start (settle-returned c) .pre) in omega (arith, l .2, l .3)
 
 settle-requires : tie.Need-settle-requires
 settle-requires c κs =
-    let k = settle-count c in
-    let h = counted k .pre in
-    (omega (arith, read (count-body (k .before)) .scratch-same, table-room h, limits h .3), omega (arith, counts-long k, rows-room h))
+    let k = settle-returned c in
+    let h = root-start k .pre in
+    (omega (arith, read (returned-body (k .before)) .scratch-same, table-room h, limits h .3), omega (arith, counts-long k, rows-room h))
 
 same-length : tie.Need-same-length
 same-length c = scratch-long (end-settle c)
@@ -122,8 +122,8 @@ same-length-2 c = rows-long (end-settle c)
 returns : tie.Need-returns
 returns c =
     let e = end-settle c in
-    let k = settle-count (e .before) in
-    promised _ (read (count-body (k .before))) (k .count .ensures) (e .settle .ensures) (scratch-long e) (rows-long e)
+    let k = settle-returned (e .before) in
+    promised _ (read (returned-body (k .before))) (k .returned .ensures) (e .settle .ensures) (scratch-long e) (rows-long e)
 
 pub accepted-spec : {M : Type 1} → statement M
 accepted-spec =
@@ -137,7 +137,7 @@ accepted-spec =
     add-body
     add-body-2
     body-requires
-    count-requires
+    returned-requires
     add-settle
     settle-requires
     same-length
