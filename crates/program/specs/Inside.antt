@@ -1,4 +1,4 @@
--- What a private function of the program answers.
+-- For proofs, not for the reader of document 01: what a private function of the program answers.
 use Prim.Native.Nat.{ℕ}
 use Rattle.line.specs.declared.Wrote.{Wrote}
 use Rattle.line.specs.declared.Wrote.the-variants.{Chars, Refused}
