@@ -109,11 +109,11 @@ fn join(t: &mut [u64], n: usize, w: usize, f: walk::Open) -> walk::Open
     requires { ⌜ f .at + 1 < 2 ^ 64 ⌝ }
     ensures { λ r. ⌜ Joined n w (now (t .entry)) f r (now (t .exit)) ⌝ }
 {
-    let later = f.later_heavier();
     if f.longest == 0 {
-        return f.joined(later);
+        return f.joined(f.later_heavier());
     }
     let k = 2 * n;
+    let later = f.later_heavier();
     if later {
         add_from(t, 0, k, w);
         clear(t, n, w);
@@ -141,12 +141,12 @@ fn spawned(t: &mut [u64], n: usize, w: usize, f: walk::Open, s: usize, c: walk::
     requires { ⌜ (s < w) × ((5 * n ≤ length (now t)) × (f .work + c .work < 2 ^ 64)) ⌝ }
     ensures { λ r. ⌜ Spawned n w (now (t .entry)) f c r (now (t .exit)) ⌝ }
 {
-    let longer = f.child_longer(c);
     if f.longest == 0 {
-        return f.spawned(c, longer);
+        return f.spawned(c, f.child_longer(c));
     }
     let k = 2 * n;
     let g = 4 * n;
+    let longer = f.child_longer(c);
     if longer {
         add_from(t, 0, k, w);
         clear(t, n, w);
