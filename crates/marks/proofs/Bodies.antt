@@ -6,21 +6,21 @@ use native.Mathlib.Omega.{arith}
 use lib.ListN.{length}
 use Rattle.line.specs.At.{kindAt}
 use Rattle.chain.specs.Plan.{CostLine}
-use Rattle.trace.specs.Tree.{Body, done, linesOf}
-use Rattle.trace.specs.Fold.{Chains, nothing, joined, run, chainOf}
+use Rattle.trace.specs.Tree.{Body, linesOf, workOf}
+use Rattle.trace.specs.Fold.{Chains, nothing, run, chainOf}
 use Rattle.walk.specs.declared.Open.{Open}
 use Rattle.walk.specs.Stands.{Stands, Says, kindOf}
 use Rattle.walk.specs.Numbers.{numbers}
 use Rattle.walk.specs.Item.{More, rest, itemSize, itemWork, itemChains}
-use Rattle.walk.specs.Reader.{Ready, alone, Turn}
+use Rattle.walk.specs.Reader.{Ready, ItemDone, alone, Turn}
 use Rattle.walk.proofs.Items.{size-some}
 use Rattle.walk.proofs.Says.{kind-says}
 use Rattle.walk.proofs.Lines.{is-more, is-done}
-use Rattle.walk.proofs.Reader.{own-numbers, farther, ready-again, turn-start, turn-again, turn-done}
+use Rattle.walk.proofs.Reader.{own-numbers, farther, ready-again, turn-start, turn-again, turn-done, body-done}
 use Rattle.marks.specs.declared.Zones.{Zones}
-use Rattle.marks.specs.Shown.{allPrefix, Zone, Shows, Kept}
+use Rattle.marks.specs.Shown.{Zone, Shows, Kept}
 use Rattle.marks.specs.Steps.{Joined}
-use Rattle.marks.specs.Reader.{Lent, ItemAsks, ItemLeft, ItemLeaves, begun, BodyAsks, BodyLeft, BodyLeaves}
+use Rattle.marks.specs.Reader.{Lent, ItemAsks, ItemLeft, ItemLeaves, ItemsLeft, ItemsLeave, begun, BodyAsks, BodyLeaves}
 use Rattle.marks.proofs.Shown.{zone-none, zone-lost-right}
 
 -- a body that begins has no marks yet
@@ -38,12 +38,13 @@ pub kept-on : (n a e : ℕ) (m m₁ m₂ : List ℕ) → a ≤ e → Kept n a m 
 kept-on n a e m m₁ m₂ l x y j o = y j o ∙ x j (λ p q. o p (omega arith))
 
 module _ (s : List ℕ) (deep : ℕ) where
-  -- the loop has come to z: what is left of the body, and what it comes to, are as from its first line on
-  abbrev Turns : (from : ℕ) (m₀ rows₀ : List ℕ) (z : Zones) (m rows : List ℕ) → Type 0
-  Turns from m₀ rows₀ z m rows = (b : Body) → Stands s from (linesOf b) → (l : Body) × (k : Chains) × Turn s from (z .row) rows₀ b (z .own) rows l k × Shows from m z k × Kept from (z .own .at) m₀ m
+  -- the loop has come from z₀ to z: what is left of the body, and what it comes to, are as from z₀ on
+  abbrev Turns : (z₀ : Zones) (m₀ rows₀ : List ℕ) (z : Zones) (m rows : List ℕ) → Type 0
+  Turns z₀ m₀ rows₀ z m rows = (b : Body) (n : ℕ) (k₀ : Chains) → Stands s (z₀ .own .at) (linesOf b) → z₀ .own ≡ numbers (z₀ .own .at) (z₀ .own .work) k₀ → Shows n m₀ z₀ k₀
+      → (l : Body) × (k : Chains) × Turn s (z₀ .row) (z₀ .own) rows₀ b k₀ (z .own) rows l k × Shows n m z k × Kept n (z .own .at) m₀ m
 
-  turns-start : (from row : ℕ) (m rows : List ℕ) → Turns from m rows (begun from row) m rows
-  turns-start from row m rows b h = (b, nothing, turn-start s from row rows b h, shows-begun from row m, λ j o. refl)
+  turns-start : (z : Zones) (m rows : List ℕ) → Turns z m rows z m rows
+  turns-start z m rows b n k h e sh = (b, k, turn-start s (z .row) (z .own) rows b k h e, sh, λ j o. refl)
 
   module _ (kind : ℕ) (z : Zones) (t m rows : List ℕ) (says : Says kindOf s (z .own .at) kind) where
     more : (kind ≡ 5 → ⊥) → (l : Lent s deep z t m rows) → More (l .ready .body)
@@ -74,48 +75,41 @@ module _ (s : List ℕ) (deep : ℕ) where
             shows = left .shows;
           }
 
-      turns-again : (from : ℕ) (m₀ rows₀ : List ℕ) → length rows ≡ length rows₀ → Turns from m₀ rows₀ z m rows → Turns from m₀ rows₀ r m′ rows′
-      turns-again from m₀ rows₀ len turns b h =
-          let u = turns b h in
+      turns-again : (z₀ : Zones) (m₀ rows₀ : List ℕ) → z .row ≡ z₀ .row → length rows ≡ length rows₀ → Turns z₀ m₀ rows₀ z m rows → Turns z₀ m₀ rows₀ r m′ rows′
+      turns-again z₀ m₀ rows₀ same len turns b n k₀ h e sh =
+          let u = turns b n k₀ h e sh in
           let more = is-more s (z .own .at) kind says (u .0) (u .2 .stands) k5 in
-          let d = done (u .0) from (u .1) more (u .2 .stands) (u .2 .weighs) (u .3) in (
+          let d = done (u .0) n (u .1) more (u .2 .stands) (u .2 .weighs) (u .3) in (
             rest (u .0),
-            itemChains (z .own .at) (z .row) (u .0) (u .1),
-            subst (λ (x : ℕ). Turn s from x rows₀ b (r .own) rows′ (rest (u .0)) (itemChains (z .own .at) (z .row) (u .0) (u .1))) (sym (d .same-row)) (turn-again s from (z .row) rows₀ b (z .own) rows (u .0) (u .1) (u .2) len (r .own) rows′ more (d .done)),
-            d .shows,
-            kept-on from (z .own .at) (r .own .at) m₀ m m′ (omega (arith, goes-on)) (u .4) (d .kept),
+            itemChains (z .own .at) (z₀ .row) (u .0) (u .1),
+            turn-again s (z₀ .row) (z₀ .own) rows₀ b k₀ (z .own) rows (u .0) (u .1) (u .2) len (r .own) rows′ more (subst (λ (x : ℕ). ItemDone x (z .own) rows (u .0) (u .1) (r .own) rows′) same (d .done)),
+            subst (λ (x : ℕ). Shows n m′ r (itemChains (z .own .at) x (u .0) (u .1))) same (d .shows),
+            kept-on n (z .own .at) (r .own .at) m₀ m m′ (omega (arith, goes-on)) (u .4) (d .kept),
           )
 
-    turns-done : (from row : ℕ) (m₀ rows₀ : List ℕ) → z .row ≡ row → length rows ≡ length rows₀ → Turns from m₀ rows₀ z m rows → kind ≡ 5 → (r : Zones) (m′ : List ℕ) → Joined m z r m′ → BodyLeaves s from row m₀ rows₀ (r .own) m′ rows
-    turns-done from row m₀ rows₀ same len turns k5 r m′ j b h =
-        let u = turns b h in
-        let e = is-done s (z .own .at) kind says (u .0) (u .2 .stands) k5 in
-        let d = j from (u .1) (u .2 .weighs) (u .3) in
-        let at : r .own .at ≡ z .own .at + 1 = ap (λ (x : Open). x .at) (d .numbers-are) in
-        let c : joined (u .1) .p ≡ chainOf from (z .row) b = ap (λ (x : Chains). joined x .p) (sym (ap (λ (x : Body). run (z .own .at) (z .row) x (u .1)) e) ∙ u .2 .same-chains) in
-        subst (λ (x : ℕ). BodyLeft from x b m₀ rows₀ (r .own) m′ rows) same
-        (record {
-          done = turn-done s from (z .row) rows₀ b (z .own) rows (u .0) (u .1) (u .2) len (r .own) e (d .numbers-are);
-          zone = subst (Zone m′ from (r .own .at)) c (zone-whole from m′ r (joined (u .1) .p) (d .shows));
-          kept = rw at (kept-on from (z .own .at) (z .own .at + 1) m₀ m m′ (omega arith) (u .4) (d .kept));
-        })
+    turns-done : (z₀ : Zones) (m₀ rows₀ : List ℕ) → length rows ≡ length rows₀ → Turns z₀ m₀ rows₀ z m rows → kind ≡ 5 → (b : Body) (n : ℕ) (k₀ : Chains) → Stands s (z₀ .own .at) (linesOf b)
+        → z₀ .own ≡ numbers (z₀ .own .at) (z₀ .own .work) k₀ → Shows n m₀ z₀ k₀ → ItemsLeft n b k₀ z₀ m₀ rows₀ z m rows
+    turns-done z₀ m₀ rows₀ len turns k5 b n k₀ h e sh =
+        let u = turns b n k₀ h e sh in
+        let q = is-done s (z .own .at) kind says (u .0) (u .2 .stands) k5 in
+        let c : u .1 ≡ run (z₀ .own .at) (z₀ .row) b k₀ = sym (ap (λ (x : Body). run (z .own .at) (z₀ .row) x (u .1)) q) ∙ u .2 .same-chains in
+        record { done = turn-done s (z₀ .row) (z₀ .own) rows₀ b k₀ (z .own) rows (u .0) (u .1) (u .2) len q; shows = subst (Shows n m z) c (u .3); kept = u .4 }
 
--- the loop has come from the first line on to z, whose next line is of this kind
-pub record Loop (s : List ℕ) (from row deep : ℕ) (t₀ m₀ rows₀ t m rows : List ℕ) (z : Zones) (kind : ℕ) : Type 0 where
+-- the loop has come from z₀ to z, whose next line is of this kind
+pub record Loop (s : List ℕ) (deep : ℕ) (z₀ : Zones) (t₀ m₀ rows₀ t m rows : List ℕ) (z : Zones) (kind : ℕ) : Type 0 where
   pub kind-is : kind ≡ kindAt s (z .own .at)
-  pub row-is : z .row ≡ row
+  pub row-is : z .row ≡ z₀ .row
   pub same-scratch : t ≡ t₀
   pub marks-long : length m ≡ length m₀
   pub rows-long : length rows ≡ length rows₀
   pub lent : Lent s deep z t m rows
-  pub turns : Turns s deep from m₀ rows₀ z m rows
+  pub turns : Turns s deep z₀ m₀ rows₀ z m rows
 
-pub loop-start : {s : List ℕ} {from row deep : ℕ} {t m rows : List ℕ} → BodyAsks s from row deep t m rows → (own : Open) → own ≡ numbers from 0 nothing → (z : Zones) → z ≡ allPrefix own row → (kind : ℕ) → kind ≡ kindAt s from → Loop s from row deep t m rows t m rows z kind
-loop-start {s} {from} {row} {deep} {t} {m} {rows} asks own e z q kind k =
-    subst (λ (x : Zones). Loop s from row deep t m rows t m rows x kind) (sym (q ∙ ap (λ (x : Open). allPrefix x row) e))
-    (record { kind-is = k; row-is = refl; same-scratch = refl; marks-long = refl; rows-long = refl; lent = asks; turns = turns-start s deep from row m rows })
+pub loop-start : {s : List ℕ} {deep : ℕ} {z : Zones} {t m rows : List ℕ} → Lent s deep z t m rows → (kind : ℕ) → kind ≡ kindAt s (z .own .at) → Loop s deep z t m rows t m rows z kind
+loop-start {s} {deep} {z} {t} {m} {rows} asks kind k =
+    record { kind-is = k; row-is = refl; same-scratch = refl; marks-long = refl; rows-long = refl; lent = asks; turns = turns-start s deep z m rows }
 
-module _ {s : List ℕ} {from row deep : ℕ} {t₀ m₀ rows₀ t m rows : List ℕ} {z : Zones} {kind : ℕ} (l : Loop s from row deep t₀ m₀ rows₀ t m rows z kind) where
+module _ {s : List ℕ} {deep : ℕ} {z₀ : Zones} {t₀ m₀ rows₀ t m rows : List ℕ} {z : Zones} {kind : ℕ} (l : Loop s deep z₀ t₀ m₀ rows₀ t m rows z kind) where
   says : Says kindOf s (z .own .at) kind
   says = kind-says s (z .own .at) (z .own .at) kind refl (l .kind-is)
 
@@ -136,7 +130,7 @@ module _ {s : List ℕ} {from row deep : ℕ} {t₀ m₀ rows₀ t m rows : List
         let h = goes-on s deep kind z t m rows says (l .lent) (i .more-lines) r m′ rows′ (i .marks-long) (i .rows-long) (i .leaves) in
         omega (arith, l .lent .ready .ends, size-some (l .lent .ready .body))
 
-    pub loop-again : (next : ℕ) → next ≡ kindAt s (r .own .at) → Loop s from row deep t₀ m₀ rows₀ t′ m′ rows′ r next
+    pub loop-again : (next : ℕ) → next ≡ kindAt s (r .own .at) → Loop s deep z₀ t₀ m₀ rows₀ t′ m′ rows′ r next
     loop-again next k =
         record {
           kind-is = k;
@@ -145,8 +139,29 @@ module _ {s : List ℕ} {from row deep : ℕ} {t₀ m₀ rows₀ t m rows : List
           marks-long = i .marks-long ∙ l .marks-long;
           rows-long = i .rows-long ∙ l .rows-long;
           lent = rw (i .same-scratch) (lent-again s deep kind z t m rows says (l .lent) (i .more-lines) r m′ rows′ (i .marks-long) (i .rows-long) (i .leaves));
-          turns = turns-again s deep kind z t m rows says (l .lent) (i .more-lines) r m′ rows′ (i .marks-long) (i .rows-long) (i .leaves) from m₀ rows₀ (l .rows-long) (l .turns);
+          turns = turns-again s deep kind z t m rows says (l .lent) (i .more-lines) r m′ rows′ (i .marks-long) (i .rows-long) (i .leaves) z₀ m₀ rows₀ (l .row-is) (l .rows-long) (l .turns);
         }
 
-  pub loop-done : kind ≡ 5 → (r : Zones) (m′ : List ℕ) → Joined m z r m′ → BodyLeaves s from row m₀ rows₀ (r .own) m′ rows × (t ≡ t₀)
-  loop-done k5 r m′ j = (turns-done s deep kind z t m rows says from row m₀ rows₀ (l .row-is) (l .rows-long) (l .turns) k5 r m′ j, l .same-scratch)
+  pub loop-done : kind ≡ 5 → ItemsLeave s deep z₀ t₀ m₀ rows₀ z m rows × (t ≡ t₀)
+  loop-done k5 = (
+    record { lent = subst (λ (x : List ℕ). Lent s deep z x m rows) (l .same-scratch) (l .lent); same-row = l .row-is; leaves = turns-done s deep kind z t m rows says z₀ m₀ rows₀ (l .rows-long) (l .turns) k5 },
+    l .same-scratch,
+  )
+
+-- the body may be read from its first line on
+pub begins : {s : List ℕ} {from row deep : ℕ} {t m rows : List ℕ} (z : Zones) → z ≡ begun from row → BodyAsks s from row deep t m rows → Lent s deep z t m rows
+begins {s} {from} {row} {deep} {t} {m} {rows} z e a = subst (λ (x : Zones). Lent s deep x t m rows) (sym e) a
+
+-- its items were read from there on, and the join at the return follows
+pub body-leaves : {s : List ℕ} {from row deep : ℕ} {t m rows : List ℕ} {z : Zones} {m₁ rows₁ : List ℕ} (z₀ : Zones) → z₀ ≡ begun from row → ItemsLeave s deep z₀ t m rows z m₁ rows₁
+    → (r : Zones) (m₂ : List ℕ) → Joined m₁ z r m₂ → BodyLeaves s from row m rows (r .own) m₂ rows₁
+body-leaves {s} {from} {row} {deep} {t} {m} {rows} {z} {m₁} {rows₁} z₀ e₀ i r m₂ j b h =
+    let o = subst (λ (x : Zones). ItemsLeave s deep x t m rows z m₁ rows₁) e₀ i .leaves b from nothing h refl (shows-begun from row m) in
+    let weighs = own-numbers (z .own) (z .own .at) (0 + workOf b) (run from row b nothing) (o .done .numbers-are) in
+    let d = j from (run from row b nothing) weighs (o .shows) in
+    let at : r .own .at ≡ z .own .at + 1 = ap (λ (x : Open). x .at) (d .numbers-are) in
+    record {
+      done = body-done from row rows b (z .own) rows₁ (o .done) (r .own) (d .numbers-are);
+      zone = zone-whole from m₂ r (chainOf from row b) (d .shows);
+      kept = rw at (kept-on from (z .own .at) (z .own .at + 1) m m₁ m₂ (omega arith) (o .kept) (d .kept));
+    }

@@ -1,4 +1,4 @@
--- For proofs and engines, not for the reader of document 01: what the two readers of the marks engine ask for and leave.
+-- For proofs and engines, not for the reader of document 01: what the three readers of the marks engine ask for and leave.
 -- t is the scratch from their invocation's part on, and m the marks.
 use Prim.Native.Nat.{ℕ, _+_, _*_, _≤_}
 use mathlib.Core.Path.{_≡_}
@@ -7,12 +7,12 @@ use lib.ListN.{length}
 use Rattle.line.specs.Read.{width}
 use Rattle.line.specs.At.{kindAt}
 use Rattle.trace.specs.Tree.{Body, linesOf}
-use Rattle.trace.specs.Fold.{Chains, nothing, chainOf}
+use Rattle.trace.specs.Fold.{Chains, nothing, chainOf, run}
 use Rattle.walk.specs.declared.Open.{Open}
 use Rattle.walk.specs.Stands.{Stands}
 use Rattle.walk.specs.Numbers.{numbers}
 use Rattle.walk.specs.Item.{More, itemChains}
-use Rattle.walk.specs.Reader.{Ready, ItemDone, BodyDone}
+use Rattle.walk.specs.Reader.{Ready, ItemDone, ItemsDone, BodyDone}
 use Rattle.marks.specs.declared.Zones.{Zones}
 use Rattle.marks.specs.Shown.{allPrefix, Zone, Shows, Kept}
 use Rattle.marks.specs.Park.{Zero}
@@ -46,6 +46,19 @@ pub record ItemLeft (n : ℕ) (b : Body) (k : Chains) (z : Zones) (m rows : List
 abbrev pub ItemLeaves : (s : List ℕ) (z : Zones) (m rows : List ℕ) (r : Zones) (m′ rows′ : List ℕ) → Type 0
 ItemLeaves s z m rows r m′ rows′ = (b : Body) (n : ℕ) (k : Chains) → More b → Stands s (z .own .at) (linesOf b) → z .own ≡ numbers (z .own .at) (z .own .work) k → Shows n m z k
     → ItemLeft n b k z m rows r m′ rows′
+
+-- at the return of b, of an invocation that began at line n and had come to the chains k
+pub record ItemsLeft (n : ℕ) (b : Body) (k : Chains) (z : Zones) (m rows : List ℕ) (r : Zones) (m′ rows′ : List ℕ) : Type 0 where
+  pub done : ItemsDone (z .row) (z .own) rows b k (r .own) rows′
+  pub shows : Shows n m′ r (run (z .own .at) (z .row) b k)
+  pub kept : Kept n (r .own .at) m m′
+
+-- The reader of an invocation's items up to its return: whatever body stands here, wherever its invocation began and
+-- whatever chains it has come to. At the return a join may follow.
+pub record ItemsLeave (s : List ℕ) (deep : ℕ) (z : Zones) (t m rows : List ℕ) (r : Zones) (m′ rows′ : List ℕ) : Type 0 where
+  pub lent : Lent s deep r t m′ rows′
+  pub same-row : r .row ≡ z .row
+  pub leaves : (b : Body) (n : ℕ) (k : Chains) → Stands s (z .own .at) (linesOf b) → z .own ≡ numbers (z .own .at) (z .own .work) k → Shows n m z k → ItemsLeft n b k z m rows r m′ rows′
 
 -- an invocation of a row whose body begins at a line
 abbrev pub begun : ℕ → ℕ → Zones

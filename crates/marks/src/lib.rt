@@ -10,7 +10,7 @@ ghost use Rattle.walk.specs.Gain.{one, Grown};
 ghost use Rattle.marks.specs.Shown.{allPrefix, Wiped};
 ghost use Rattle.marks.specs.Steps.{Fits, Spent, Joined, Called, Spawned};
 ghost use Rattle.marks.specs.Park.{park, parked, blank};
-ghost use Rattle.marks.specs.Reader.{ItemAsks, ItemLeaves, BodyAsks, BodyLeaves};
+ghost use Rattle.marks.specs.Reader.{Lent, ItemAsks, ItemLeaves, ItemsLeave, BodyAsks, BodyLeaves};
 ghost use Rattle.marks.specs.Column.{marked, entered, Returned, LineAsks, LineLeaves, ColumnAsks, ColumnLeaves};
 ghost use Rattle.marks.specs.Root.{lent, Admitted};
 
@@ -185,7 +185,30 @@ fn load(t: &mut [u64]) -> Zones
     z
 }
 
-// Reads the items of an invocation of a row from its first line up to and with its return. At most deep more invocations open inside one another.
+// Reads the items of an invocation, which has come to z, up to its return, and leaves the join to its caller.
+// At most deep more invocations open inside one another.
+fn read_items(
+    trace: &[u8],
+    z: Zones,
+    deep: usize,
+    t: &mut [u64],
+    marks: &mut [u8],
+    rows: &mut [u64],
+) -> Zones
+    requires { ⌜ Lent (now trace) deep z (now t) (now marks) (now rows) ⌝ }
+    ensures { λ r. ⌜ ItemsLeave (now (trace .entry)) deep z (now (t .entry)) (now (marks .entry)) (now (rows .entry)) r (now (marks .exit)) (now (rows .exit)) ⌝ }
+    ensures { λ _. ⌜ now (t .exit) ≡ now (t .entry) ⌝ }
+{
+    let mut a = z;
+    let mut kind = line::kind_at(trace, z.own.at);
+    while kind != 5 {
+        a = item(trace, kind, a, deep, t, marks, rows);
+        kind = line::kind_at(trace, a.own.at);
+    }
+    a
+}
+
+// Reads an invocation of a row from its first line up to and with its return.
 fn body(
     trace: &[u8],
     from: usize,
@@ -199,12 +222,14 @@ fn body(
     ensures { λ r. ⌜ BodyLeaves (now (trace .entry)) from row (now (marks .entry)) (now (rows .entry)) r (now (marks .exit)) (now (rows .exit)) ⌝ }
     ensures { λ _. ⌜ now (t .exit) ≡ now (t .entry) ⌝ }
 {
-    let mut z = Zones::prefix(walk::Open::new(from), row);
-    let mut kind = line::kind_at(trace, from);
-    while kind != 5 {
-        z = item(trace, kind, z, deep, t, marks, rows);
-        kind = line::kind_at(trace, z.own.at);
-    }
+    let z = read_items(
+        trace,
+        Zones::prefix(walk::Open::new(from), row),
+        deep,
+        t,
+        marks,
+        rows,
+    );
     let end = join(marks, z);
     end.own
 }

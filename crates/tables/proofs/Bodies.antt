@@ -5,29 +5,29 @@ use Prim.Native.Nat.{ℕ, _+_, _-_, _<_}
 use native.Mathlib.Omega.{arith}
 use lib.ListN.{length}
 use Rattle.line.specs.At.{kindAt}
-use Rattle.chain.specs.Plan.{CostLine}
-use Rattle.trace.specs.Tree.{Body, linesOf}
-use Rattle.trace.specs.Fold.{Chains, nothing, joined, run, chainOf}
+use Rattle.trace.specs.Tree.{Body, linesOf, workOf}
+use Rattle.trace.specs.Fold.{Chains, nothing, run, chainOf}
 use Rattle.walk.specs.declared.Open.{Open}
 use Rattle.walk.specs.Stands.{Stands, Says, kindOf}
 use Rattle.walk.specs.Numbers.{numbers}
 use Rattle.walk.specs.Item.{More, rest, itemSize, itemWork, itemChains}
-use Rattle.walk.specs.Reader.{ItemDone, alone, Turn}
+use Rattle.walk.specs.Reader.{ItemDone, ItemsDone, Turn}
 use Rattle.walk.proofs.Items.{size-some}
 use Rattle.walk.proofs.Says.{kind-says}
 use Rattle.walk.proofs.Lines.{is-more, is-done}
-use Rattle.walk.proofs.Reader.{own-numbers, farther, ready-again, turn-start, turn-again, turn-done}
+use Rattle.walk.proofs.Reader.{own-numbers, farther, ready-again, turn-start, turn-again, turn-done, body-done}
 use Rattle.tables.specs.Blocks.{Shows, Holds, Joined}
-use Rattle.tables.specs.Reader.{Lent, ItemAsks, ItemLeaves, BodyAsks, BodyLeaves}
+use Rattle.tables.specs.Reader.{Lent, ItemAsks, ItemLeaves, ItemsLeave, BodyAsks, BodyLeaves}
 use Rattle.tables.proofs.Held.{holds-two, alone-shows}
 
 module _ (s : List ℕ) (row deep n w : ℕ) where
-  -- the loop has come to f: what is left of the body, and what it comes to, are as from its first line on
-  abbrev Turns : (from : ℕ) (t₀ rows₀ : List ℕ) (f : Open) (t rows : List ℕ) → Type 0
-  Turns from t₀ rows₀ f t rows = (b : Body) → Stands s from (linesOf b) → Shows n w t₀ nothing [] → (l : Body) × (k : Chains) × Turn s from row rows₀ b f rows l k × Holds n w t k []
+  -- the loop has come from f₀ to f: what is left of the body, and what it comes to, are as from f₀ on
+  abbrev Turns : (f₀ : Open) (t₀ rows₀ : List ℕ) (f : Open) (t rows : List ℕ) → Type 0
+  Turns f₀ t₀ rows₀ f t rows = (b : Body) (k₀ : Chains) → Stands s (f₀ .at) (linesOf b) → f₀ ≡ numbers (f₀ .at) (f₀ .work) k₀ → Holds n w t₀ k₀ []
+      → (l : Body) × (k : Chains) × Turn s row f₀ rows₀ b k₀ f rows l k × Holds n w t k []
 
-  turns-start : (from : ℕ) (t rows : List ℕ) → Turns from t rows (numbers from 0 nothing) t rows
-  turns-start from t rows b h sh = (b, nothing, turn-start s from row rows b h, holds-two n w t [] [] sh)
+  turns-start : (f : Open) (t rows : List ℕ) → Turns f t rows f t rows
+  turns-start f t rows b k h e sh = (b, k, turn-start s row f rows b k h e, sh)
 
   module _ (kind : ℕ) (f : Open) (t rows : List ℕ) (says : Says kindOf s (f .at) kind) where
     more : (kind ≡ 5 → ⊥) → (l : Lent s row deep f t rows n w) → More (l .ready .body)
@@ -55,35 +55,33 @@ module _ (s : List ℕ) (row deep n w : ℕ) where
             holds = left .1;
           }
 
-      turns-again : (from : ℕ) (t₀ rows₀ : List ℕ) → length rows ≡ length rows₀ → Turns from t₀ rows₀ f t rows → Turns from t₀ rows₀ r t′ rows′
-      turns-again from t₀ rows₀ len turns b h sh =
-          let u = turns b h sh in
+      turns-again : (f₀ : Open) (t₀ rows₀ : List ℕ) → length rows ≡ length rows₀ → Turns f₀ t₀ rows₀ f t rows → Turns f₀ t₀ rows₀ r t′ rows′
+      turns-again f₀ t₀ rows₀ len turns b k₀ h e sh =
+          let u = turns b k₀ h e sh in
           let m = is-more s (f .at) kind says (u .0) (u .2 .stands) k5 in
           let d = done (u .0) (u .1) m (u .2 .stands) (u .2 .weighs) (u .3) in
-          (rest (u .0), itemChains (f .at) row (u .0) (u .1), turn-again s from row rows₀ b f rows (u .0) (u .1) (u .2) len r rows′ m (d .0), d .1)
+          (rest (u .0), itemChains (f .at) row (u .0) (u .1), turn-again s row f₀ rows₀ b k₀ f rows (u .0) (u .1) (u .2) len r rows′ m (d .0), d .1)
 
-    turns-done : (from : ℕ) (t₀ rows₀ : List ℕ) → length rows ≡ length rows₀ → Turns from t₀ rows₀ f t rows → kind ≡ 5 → (r : Open) (t′ : List ℕ) → Joined n w t f r t′ → BodyLeaves s from row t₀ rows₀ n w r t′ rows
-    turns-done from t₀ rows₀ len turns k5 r t′ j b h sh =
-        let u = turns b h sh in
-        let e = is-done s (f .at) kind says (u .0) (u .2 .stands) k5 in
-        let d = j (u .1) (u .2 .weighs) (u .3) in
-        let c : joined (u .1) .p ≡ chainOf from row b = ap (λ (x : Chains). joined x .p) (sym (ap (λ (x : Body). run (f .at) row x (u .1)) e) ∙ u .2 .same-chains) in
-        (turn-done s from row rows₀ b f rows (u .0) (u .1) (u .2) len r e (d .0), subst (λ (x : List CostLine). Shows n w t′ (alone x) []) c (alone-shows n w t′ (joined (u .1) .p) (d .1)))
+    turns-done : (f₀ : Open) (t₀ rows₀ : List ℕ) → length rows ≡ length rows₀ → Turns f₀ t₀ rows₀ f t rows → kind ≡ 5 → (b : Body) (k₀ : Chains) → Stands s (f₀ .at) (linesOf b)
+        → f₀ ≡ numbers (f₀ .at) (f₀ .work) k₀ → Holds n w t₀ k₀ [] → ItemsDone row f₀ rows₀ b k₀ f rows × Holds n w t (run (f₀ .at) row b k₀) []
+    turns-done f₀ t₀ rows₀ len turns k5 b k₀ h e sh =
+        let u = turns b k₀ h e sh in
+        let z = is-done s (f .at) kind says (u .0) (u .2 .stands) k5 in
+        let c : u .1 ≡ run (f₀ .at) row b k₀ = sym (ap (λ (x : Body). run (f .at) row x (u .1)) z) ∙ u .2 .same-chains in
+        (turn-done s row f₀ rows₀ b k₀ f rows (u .0) (u .1) (u .2) len z, subst (λ (x : Chains). Holds n w t x []) c (u .3))
 
--- the loop has come from the first line on to f, whose next line is of this kind
-pub record Loop (s : List ℕ) (from row deep : ℕ) (t₀ rows₀ t rows : List ℕ) (n w : ℕ) (f : Open) (kind : ℕ) : Type 0 where
+-- the loop has come from f₀ to f, whose next line is of this kind
+pub record Loop (s : List ℕ) (row deep : ℕ) (f₀ : Open) (t₀ rows₀ t rows : List ℕ) (n w : ℕ) (f : Open) (kind : ℕ) : Type 0 where
   pub kind-is : kind ≡ kindAt s (f .at)
   pub scratch-long : length t ≡ length t₀
   pub rows-long : length rows ≡ length rows₀
   pub lent : Lent s row deep f t rows n w
-  pub turns : Turns s row deep n w from t₀ rows₀ f t rows
+  pub turns : Turns s row deep n w f₀ t₀ rows₀ f t rows
 
-pub loop-start : {s : List ℕ} {from row deep : ℕ} {t rows : List ℕ} {n w : ℕ} → BodyAsks s from row deep t rows n w → (f : Open) → f ≡ numbers from 0 nothing → (kind : ℕ) → kind ≡ kindAt s from → Loop s from row deep t rows t rows n w f kind
-loop-start {s} {from} {row} {deep} {t} {rows} {n} {w} asks f e kind k =
-    subst (λ (x : Open). Loop s from row deep t rows t rows n w x kind) (sym e)
-    (record { kind-is = k; scratch-long = refl; rows-long = refl; lent = asks; turns = turns-start s row deep n w from t rows })
+pub loop-start : {s : List ℕ} {row deep : ℕ} {f : Open} {t rows : List ℕ} {n w : ℕ} → Lent s row deep f t rows n w → (kind : ℕ) → kind ≡ kindAt s (f .at) → Loop s row deep f t rows t rows n w f kind
+loop-start {s} {row} {deep} {f} {t} {rows} {n} {w} asks kind k = record { kind-is = k; scratch-long = refl; rows-long = refl; lent = asks; turns = turns-start s row deep n w f t rows }
 
-module _ {s : List ℕ} {from row deep : ℕ} {t₀ rows₀ t rows : List ℕ} {n w : ℕ} {f : Open} {kind : ℕ} (l : Loop s from row deep t₀ rows₀ t rows n w f kind) where
+module _ {s : List ℕ} {row deep : ℕ} {f₀ : Open} {t₀ rows₀ t rows : List ℕ} {n w : ℕ} {f : Open} {kind : ℕ} (l : Loop s row deep f₀ t₀ rows₀ t rows n w f kind) where
   says : Says kindOf s (f .at) kind
   says = kind-says s (f .at) (f .at) kind refl (l .kind-is)
 
@@ -103,15 +101,28 @@ module _ {s : List ℕ} {from row deep : ℕ} {t₀ rows₀ t rows : List ℕ} {
         let h = goes-on s row deep n w kind f t rows says (l .lent) (i .more-lines) r t′ rows′ (i .scratch-long) (i .rows-long) (i .leaves) in
         omega (arith, l .lent .ready .ends, size-some (l .lent .ready .body))
 
-    pub loop-again : (next : ℕ) → next ≡ kindAt s (r .at) → Loop s from row deep t₀ rows₀ t′ rows′ n w r next
+    pub loop-again : (next : ℕ) → next ≡ kindAt s (r .at) → Loop s row deep f₀ t₀ rows₀ t′ rows′ n w r next
     loop-again next k =
         record {
           kind-is = k;
           scratch-long = i .scratch-long ∙ l .scratch-long;
           rows-long = i .rows-long ∙ l .rows-long;
           lent = lent-again s row deep n w kind f t rows says (l .lent) (i .more-lines) r t′ rows′ (i .scratch-long) (i .rows-long) (i .leaves);
-          turns = turns-again s row deep n w kind f t rows says (l .lent) (i .more-lines) r t′ rows′ (i .scratch-long) (i .rows-long) (i .leaves) from t₀ rows₀ (l .rows-long) (l .turns);
+          turns = turns-again s row deep n w kind f t rows says (l .lent) (i .more-lines) r t′ rows′ (i .scratch-long) (i .rows-long) (i .leaves) f₀ t₀ rows₀ (l .rows-long) (l .turns);
         }
 
-  pub loop-done : kind ≡ 5 → (r : Open) (t′ : List ℕ) → Joined n w t f r t′ → BodyLeaves s from row t₀ rows₀ n w r t′ rows
-  loop-done k5 r t′ j = turns-done s row deep n w kind f t rows says from t₀ rows₀ (l .rows-long) (l .turns) k5 r t′ j
+  pub loop-done : kind ≡ 5 → ItemsLeave s row deep f₀ t₀ rows₀ n w f t rows
+  loop-done k5 = record { lent = l .lent; leaves = turns-done s row deep n w kind f t rows says f₀ t₀ rows₀ (l .rows-long) (l .turns) k5 }
+
+-- the body may be read from its first line on
+pub begins : {s : List ℕ} {from row deep : ℕ} {t rows : List ℕ} {n w : ℕ} (f : Open) → f ≡ numbers from 0 nothing → BodyAsks s from row deep t rows n w → Lent s row deep f t rows n w
+begins {s} {from} {row} {deep} {t} {rows} {n} {w} f e a = subst (λ (x : Open). Lent s row deep x t rows n w) (sym e) a
+
+-- its items were read from there on, and the join at the return follows
+pub body-leaves : {s : List ℕ} {from row deep : ℕ} {t rows : List ℕ} {n w : ℕ} {f : Open} {t₁ rows₁ : List ℕ} (f₀ : Open) → f₀ ≡ numbers from 0 nothing → ItemsLeave s row deep f₀ t rows n w f t₁ rows₁
+    → (r : Open) (t₂ : List ℕ) → Joined n w t₁ f r t₂ → BodyLeaves s from row t rows n w r t₂ rows₁
+body-leaves {s} {from} {row} {deep} {t} {rows} {n} {w} {f} {t₁} {rows₁} f₀ e₀ i r t₂ j b h sh =
+    let o = subst (λ (x : Open). ItemsLeave s row deep x t rows n w f t₁ rows₁) e₀ i .leaves b nothing h refl (holds-two n w t [] [] sh) in
+    let weighs = own-numbers f (f .at) (0 + workOf b) (run from row b nothing) (o .0 .numbers-are) in
+    let d = j (run from row b nothing) weighs (o .1) in
+    (body-done from row rows b f rows₁ (o .0) r (d .0), alone-shows n w t₂ (chainOf from row b) (d .1))

@@ -1,4 +1,4 @@
--- For proofs and engines, not for the reader of document 01: what the two readers of the table engine ask for and leave.
+-- For proofs and engines, not for the reader of document 01: what the three readers of the table engine ask for and leave.
 -- t is what their invocation was lent of the scratch.
 use Prim.Native.Nat.{ℕ, _+_, _*_, _≤_, _<_}
 use mathlib.Core.Path.{_≡_}
@@ -6,12 +6,12 @@ use mathlib.Core.List.{List, []}
 use lib.ListN.{length}
 use Rattle.line.specs.At.{kindAt}
 use Rattle.trace.specs.Tree.{Body, linesOf}
-use Rattle.trace.specs.Fold.{Chains, nothing, chainOf}
+use Rattle.trace.specs.Fold.{Chains, nothing, chainOf, run}
 use Rattle.walk.specs.declared.Open.{Open}
 use Rattle.walk.specs.Stands.{Stands}
 use Rattle.walk.specs.Numbers.{numbers}
 use Rattle.walk.specs.Item.{More, itemChains}
-use Rattle.walk.specs.Reader.{Ready, ItemDone, alone, BodyDone}
+use Rattle.walk.specs.Reader.{Ready, ItemDone, ItemsDone, alone, BodyDone}
 use Rattle.tables.specs.Blocks.{Shows, Holds}
 
 -- the scratch holds the chains that the numbers f weigh, and has room for deep invocations more
@@ -35,6 +35,13 @@ pub record ItemAsks (s : List ℕ) (kind row deep : ℕ) (f : Open) (t rows : Li
 abbrev pub ItemLeaves : (s : List ℕ) (row : ℕ) (f : Open) (t rows : List ℕ) (n w : ℕ) (r : Open) (t′ rows′ : List ℕ) → Type 0
 ItemLeaves s row f t rows n w r t′ rows′ = (b : Body) (k : Chains) → More b → Stands s (f .at) (linesOf b) → f ≡ numbers (f .at) (f .work) k → Holds n w t k []
     → ItemDone row f rows b k r rows′ × Holds n w t′ (itemChains (f .at) row b k) []
+
+-- The reader of an invocation's items up to its return: whatever body stands here, and whatever chains its invocation has
+-- come to. At the return the scratch holds what they come to, and a join may follow.
+pub record ItemsLeave (s : List ℕ) (row deep : ℕ) (f : Open) (t rows : List ℕ) (n w : ℕ) (r : Open) (t′ rows′ : List ℕ) : Type 0 where
+  pub lent : Lent s row deep r t′ rows′ n w
+  pub leaves : (b : Body) (k : Chains) → Stands s (f .at) (linesOf b) → f ≡ numbers (f .at) (f .work) k → Holds n w t k []
+      → ItemsDone row f rows b k r rows′ × Holds n w t′ (run (f .at) row b k) []
 
 -- the body reader
 abbrev pub BodyAsks : (s : List ℕ) (from row deep : ℕ) (t rows : List ℕ) (n w : ℕ) → Type 0

@@ -13,7 +13,7 @@ ghost use Rattle.trace.specs.Promise.{tables, Promise};
 ghost use Rattle.walk.specs.declared.Open.{Open};
 ghost use Rattle.tables.specs.Blocks.{Added, Cleared, Weighed, sinceAt, partAt, Asks, Spent, Joined, Called, Spawned};
 ghost use Rattle.tables.specs.Root.{lent, Admitted, Settled};
-ghost use Rattle.tables.specs.Reader.{ItemAsks, ItemLeaves, BodyAsks, BodyLeaves};
+ghost use Rattle.tables.specs.Reader.{Lent, ItemAsks, ItemLeaves, ItemsLeave, BodyAsks, BodyLeaves};
 
 // Adds the block at b to the block at a, and clears it.
 fn add_from(t: &mut [u64], a: usize, b: usize, w: usize)
@@ -109,11 +109,11 @@ fn join(t: &mut [u64], n: usize, w: usize, f: walk::Open) -> walk::Open
     requires { ⌜ f .at + 1 < 2 ^ 64 ⌝ }
     ensures { λ r. ⌜ Joined n w (now (t .entry)) f r (now (t .exit)) ⌝ }
 {
-    let later = f.later_heavier();
     if f.longest == 0 {
-        return f.joined(later);
+        return f.joined(f.later_heavier());
     }
     let k = 2 * n;
+    let later = f.later_heavier();
     if later {
         add_from(t, 0, k, w);
         clear(t, n, w);
@@ -141,12 +141,12 @@ fn spawned(t: &mut [u64], n: usize, w: usize, f: walk::Open, s: usize, c: walk::
     requires { ⌜ (s < w) × ((5 * n ≤ length (now t)) × (f .work + c .work < 2 ^ 64)) ⌝ }
     ensures { λ r. ⌜ Spawned n w (now (t .entry)) f c r (now (t .exit)) ⌝ }
 {
-    let longer = f.child_longer(c);
     if f.longest == 0 {
-        return f.spawned(c, longer);
+        return f.spawned(c, f.child_longer(c));
     }
     let k = 2 * n;
     let g = 4 * n;
+    let longer = f.child_longer(c);
     if longer {
         add_from(t, 0, k, w);
         clear(t, n, w);
@@ -157,7 +157,31 @@ fn spawned(t: &mut [u64], n: usize, w: usize, f: walk::Open, s: usize, c: walk::
     f.spawned(c, longer)
 }
 
-// Reads the items of an invocation of a row from its first line up to and with its return. At most deep more invocations open inside one another.
+// Reads the items of an invocation of a row, which has come to f, up to its return, and leaves the join to its caller.
+// At most deep more invocations open inside one another.
+fn read_items(
+    trace: &[u8],
+    f: walk::Open,
+    row: usize,
+    deep: usize,
+    t: &mut [u64],
+    rows: &mut [u64],
+    n: usize,
+    w: usize,
+) -> walk::Open
+    requires { ⌜ Lent (now trace) row deep f (now t) (now rows) n w ⌝ }
+    ensures { λ r. ⌜ ItemsLeave (now (trace .entry)) row deep f (now (t .entry)) (now (rows .entry)) n w r (now (t .exit)) (now (rows .exit)) ⌝ }
+{
+    let mut g = f;
+    let mut kind = line::kind_at(trace, f.at);
+    while kind != 5 {
+        g = item(trace, kind, g, row, deep, t, rows, n, w);
+        kind = line::kind_at(trace, g.at);
+    }
+    g
+}
+
+// Reads an invocation of a row from its first line up to and with its return.
 fn body(
     trace: &[u8],
     from: usize,
@@ -171,12 +195,7 @@ fn body(
     requires { ⌜ BodyAsks (now trace) from row deep (now t) (now rows) n w ⌝ }
     ensures { λ r. ⌜ BodyLeaves (now (trace .entry)) from row (now (t .entry)) (now (rows .entry)) n w r (now (t .exit)) (now (rows .exit)) ⌝ }
 {
-    let mut f = walk::Open::new(from);
-    let mut kind = line::kind_at(trace, from);
-    while kind != 5 {
-        f = item(trace, kind, f, row, deep, t, rows, n, w);
-        kind = line::kind_at(trace, f.at);
-    }
+    let f = read_items(trace, walk::Open::new(from), row, deep, t, rows, n, w);
     join(t, n, w, f)
 }
 

@@ -14,7 +14,7 @@ use Rattle.walk.specs.Stands.{Stands}
 use Rattle.walk.specs.Numbers.{numbers, load}
 use Rattle.walk.specs.Gain.{gain}
 use Rattle.walk.specs.Item.{More, rest, itemSize, itemWork, itemGain, itemChains}
-use Rattle.walk.specs.Reader.{Ready, ItemDone, BodyDone, Turn}
+use Rattle.walk.specs.Reader.{Ready, ItemDone, ItemsDone, BodyDone, Turn}
 use Rattle.walk.proofs.Items.{size-item, item-some, work-item, gain-item, run-item, load-item, stands-rest, within-rest}
 
 -- what the numbers of f are, where they are those of chains
@@ -57,12 +57,12 @@ module _ (s : List ℕ) (row m deep : ℕ) (f : Open) (rows : List ℕ) (r : Rea
       fit i (no l) =
           omega (arith, List·getD-eq-default rows′ 0 {n = i} (omega (arith, len)), List·getD-eq-default rows 0 {n = i} (omega arith), gain-item (r .body) row i, r .rows-fit i)
 
-module _ (s : List ℕ) (n row : ℕ) (rows₀ : List ℕ) (b : Body) where
-  pub turn-start : Stands s n (linesOf b) → Turn s n row rows₀ b (numbers n 0 nothing) rows₀ b nothing
-  turn-start h = record { stands = h; weighs = refl; same-end = refl; same-work = omega arith; same-chains = refl; same-rows = λ i l. refl }
+module _ (s : List ℕ) (row : ℕ) (f₀ : Open) (rows₀ : List ℕ) (b : Body) (k₀ : Chains) where
+  pub turn-start : Stands s (f₀ .at) (linesOf b) → f₀ ≡ numbers (f₀ .at) (f₀ .work) k₀ → Turn s row f₀ rows₀ b k₀ f₀ rows₀ b k₀
+  turn-start h e = record { stands = h; weighs = e; same-end = refl; same-work = refl; same-chains = refl; same-rows = λ i l. refl }
 
-  module _ (f : Open) (rows : List ℕ) (l : Body) (k : Chains) (u : Turn s n row rows₀ b f rows l k) (len : length rows ≡ length rows₀) where
-    pub turn-again : (f′ : Open) (rows′ : List ℕ) → More l → ItemDone row f rows l k f′ rows′ → Turn s n row rows₀ b f′ rows′ (rest l) (itemChains (f .at) row l k)
+  module _ (f : Open) (rows : List ℕ) (l : Body) (k : Chains) (u : Turn s row f₀ rows₀ b k₀ f rows l k) (len : length rows ≡ length rows₀) where
+    pub turn-again : (f′ : Open) (rows′ : List ℕ) → More l → ItemDone row f rows l k f′ rows′ → Turn s row f₀ rows₀ b k₀ f′ rows′ (rest l) (itemChains (f .at) row l k)
     turn-again f′ rows′ more h =
         let at : f′ .at ≡ f .at + itemSize l = ap (λ (x : Open). x .at) (h .numbers-are) in
         record {
@@ -74,13 +74,23 @@ module _ (s : List ℕ) (n row : ℕ) (rows₀ : List ℕ) (b : Body) where
           same-rows = λ i q. omega (arith, h .rows-are i (omega (arith, len)), gain-item l row i, u .same-rows i q);
         }
 
-    -- at the return, where the chains are joined
-    pub turn-done : (r : Open) → l ≡ done → r ≡ numbers (f .at + 1) (f .work) (joined k) → BodyDone n row rows₀ b r rows
-    turn-done r e h =
-        let c : run (f .at) row l k ≡ k = ap (λ (x : Body). run (f .at) row x k) e in
-        let at : f .at + 1 ≡ n + size b = omega (arith, u .same-end, ap size e) in
-        let w : f .work ≡ workOf b = omega (arith, u .same-work, ap workOf e) in
+    -- at the return
+    pub turn-done : l ≡ done → ItemsDone row f₀ rows₀ b k₀ f rows
+    turn-done e =
+        let c : k ≡ run (f₀ .at) row b k₀ = sym (ap (λ (x : Body). run (f .at) row x k) e) ∙ u .same-chains in
+        let w : f .work ≡ f₀ .work + workOf b = omega (arith, u .same-work, ap workOf e) in
         record {
-          numbers-are = h ∙ ap (λ (j : ℕ). numbers j (f .work) (joined k)) at ∙ ap (λ (x : ℕ). numbers (n + size b) x (joined k)) w ∙ ap (λ (x : Chains). numbers (n + size b) (workOf b) (joined x)) (sym c ∙ u .same-chains);
+          at-is = omega (arith, u .same-end, ap size e);
+          numbers-are = u .weighs ∙ ap (λ (x : ℕ). numbers (f .at) x k) w ∙ ap (numbers (f .at) (f₀ .work + workOf b)) c;
           rows-are = λ i q. omega (arith, u .same-rows i q, ap (λ (x : Body). gain row x i) e);
         }
+
+-- a body that was read from its first line on, and the join at its return
+pub body-done : (n row : ℕ) (rows : List ℕ) (b : Body) (f : Open) (rows′ : List ℕ) → ItemsDone row (numbers n 0 nothing) rows b nothing f rows′ → (r : Open)
+    → r ≡ numbers (f .at + 1) (f .work) (joined (run n row b nothing)) → BodyDone n row rows b r rows′
+body-done n row rows b f rows′ d r e =
+    let w : f .work ≡ workOf b = omega (arith, ap (λ (x : Open). x .work) (d .numbers-are)) in
+    record {
+      numbers-are = e ∙ ap (λ (j : ℕ). numbers j (f .work) (joined (run n row b nothing))) (d .at-is) ∙ ap (λ (x : ℕ). numbers (n + size b) x (joined (run n row b nothing))) w;
+      rows-are = d .rows-are;
+    }

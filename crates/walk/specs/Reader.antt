@@ -35,6 +35,12 @@ pub record ItemDone (row : ℕ) (f : Open) (rows : List ℕ) (b : Body) (k : Cha
   pub numbers-are : r ≡ numbers (f .at + itemSize b) (f .work + itemWork b) (itemChains (f .at) row b k)
   pub rows-are : (i : ℕ) → i < length rows → getD rows′ i 0 ≡ getD rows i 0 + itemGain row b i
 
+-- at the return of b, read from the numbers f and the chains k on: the numbers r, not yet joined, and the rows
+pub record ItemsDone (row : ℕ) (f : Open) (rows : List ℕ) (b : Body) (k : Chains) (r : Open) (rows′ : List ℕ) : Type 0 where
+  pub at-is : r .at + 1 ≡ f .at + size b
+  pub numbers-are : r ≡ numbers (r .at) (f .work + workOf b) (run (f .at) row b k)
+  pub rows-are : (i : ℕ) → i < length rows → getD rows′ i 0 ≡ getD rows i 0 + gain row b i
+
 -- an invocation that has come to one chain
 abbrev pub alone : List CostLine → Chains
 alone c = record { p = c; l = []; c = [] }
@@ -44,11 +50,12 @@ pub record BodyDone (n row : ℕ) (rows : List ℕ) (b : Body) (r : Open) (rows�
   pub numbers-are : r ≡ numbers (n + size b) (workOf b) (alone (chainOf n row b))
   pub rows-are : (i : ℕ) → i < length rows → getD rows′ i 0 ≡ getD rows i 0 + gain row b i
 
--- Inside the body b, which begins at line n: what is left of it, and that what b comes to is what this comes to from the chains k.
-pub record Turn (s : List ℕ) (n row : ℕ) (rows₀ : List ℕ) (b : Body) (f : Open) (rows : List ℕ) (left : Body) (k : Chains) : Type 0 where
+-- Inside the body b, which is read from the numbers f₀ and the chains k₀ on: what is left of it, and that what b comes to
+-- is what this comes to from f and k on.
+pub record Turn (s : List ℕ) (row : ℕ) (f₀ : Open) (rows₀ : List ℕ) (b : Body) (k₀ : Chains) (f : Open) (rows : List ℕ) (left : Body) (k : Chains) : Type 0 where
   pub stands : Stands s (f .at) (linesOf left)
   pub weighs : f ≡ numbers (f .at) (f .work) k
-  pub same-end : f .at + size left ≡ n + size b
-  pub same-work : f .work + workOf left ≡ workOf b
-  pub same-chains : run (f .at) row left k ≡ run n row b nothing
+  pub same-end : f .at + size left ≡ f₀ .at + size b
+  pub same-work : f .work + workOf left ≡ f₀ .work + workOf b
+  pub same-chains : run (f .at) row left k ≡ run (f₀ .at) row b k₀
   pub same-rows : (i : ℕ) → i < length rows₀ → getD rows i 0 + gain row left i ≡ getD rows₀ i 0 + gain row b i

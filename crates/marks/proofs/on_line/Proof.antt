@@ -4,33 +4,68 @@ use borrow.Author.Needs.{needs}
 use Rattle.marks.proofs.on_line.Statement.{statement}
 use Rattle.marks.proofs.on_line.Tie as tie
 
+-- from each place that has a name to the one before it
+abbrev start : tie.After-kind-at → tie.Start
+start c = c .before .before .before .before .before
+
+abbrev cost-kind : tie.After-add-marked → tie.After-kind-at
+cost-kind c = c .before .before .before
+
+abbrev end-cost : tie.After-slice-known3 → tie.After-add-marked
+end-cost c = c .before .before
+
+abbrev return-kind : tie.Then2 → tie.After-kind-at
+return-kind c = c .before .before
+
+abbrev return-test : tie.After-leave → tie.Then2
+return-test c = c .before .before
+
+abbrev end-return : tie.After-slice-known4 → tie.After-leave
+end-return c = c .before .before
+
+abbrev other-kind : tie.Else2 → tie.After-kind-at
+other-kind c = c .before .before
+
+abbrev child-test : tie.After-site-at → tie.Else3
+child-test c = c .before .before
+
+abbrev end-child : tie.After-slice-known5 → tie.After-enter
+end-child c = c .before .before
+
 kind-at-requires : tie.Need-kind-at-requires
 kind-at-requires c κs = search needs
 
 add-marked-requires : tie.Need-add-marked-requires
-add-marked-requires c κs = add-asks (c .before .before .before .before .before .before .before .pre) (c .before .before .kind-at .result) (c .before .before .kind-at .ensures) (c .before .if1 .taken)
+add-marked-requires c κs =
+    let k = c .before .before in
+    add-asks (start k .pre) (k .kind-at .result) (k .kind-at .ensures) (c .before .if1 .taken)
 
 same-length : tie.Need-same-length
 same-length c = search needs
 
 returns : tie.Need-returns
 returns c =
-    let r = c .before .before .add-marked in
-    cost-leaves (c .before .before .before .before .before .before .before .before .before .before .pre) (c .before .before .before .before .before .kind-at .result) (c .before .before .before .before .before .kind-at .ensures) (c .before .before .before .before .if1 .taken) (r .last .1 .1 .1 .1 .0) (r .ensures)
+    let r = end-cost c in
+    let k = cost-kind r in
+    cost-leaves (start k .pre) (k .kind-at .result) (k .kind-at .ensures) (r .before .before .if1 .taken) (r .add-marked .last .1 .1 .1 .1 .0) (r .add-marked .ensures)
 
 leave-requires : tie.Need-leave-requires
-leave-requires c κs = leave-asks (c .before .before .before .before .before .before .before .before .pre)
+leave-requires c κs = leave-asks (start (return-kind (c .before)) .pre)
 
 same-length-2 : tie.Need-same-length-2
 same-length-2 c = search needs
 
 returns-2 : tie.Need-returns-2
 returns-2 c =
-    let r = c .before .before .leave in
-    return-leaves (c .before .before .before .before .before .before .before .before .before .before .before .pre) (c .before .before .before .before .before .before .kind-at .result) (c .before .before .before .before .before .before .kind-at .ensures) (c .before .before .before .before .if2 .taken) (r .result) (r .last .0) (r .ensures)
+    let r = end-return c in
+    let i = return-test r in
+    let k = return-kind i in
+    return-leaves (start k .pre) (k .kind-at .result) (k .kind-at .ensures) (i .if2 .taken) (r .leave .result) (r .leave .last .0) (r .leave .ensures)
 
 returns-3 : tie.Need-returns-3
-returns-3 c = sync-leaves (c .before .before .before .before .before .before .before .before .pre) (c .before .before .before .kind-at .result) (c .before .before .before .kind-at .ensures) (c .if3 .taken)
+returns-3 c =
+    let k = other-kind (c .before) in
+    sync-leaves (start k .pre) (k .kind-at .result) (k .kind-at .ensures) (c .if3 .taken)
 
 site-at-requires : tie.Need-site-at-requires
 site-at-requires c κs = search needs
@@ -39,15 +74,18 @@ cast-enter : tie.Need-cast-enter
 cast-enter c = search needs
 
 enter-requires : tie.Need-enter-requires
-enter-requires c κs = enter-asks (c .before .before .before .before .before .before .before .before .before .before .pre)
+enter-requires c κs = enter-asks (start (other-kind (child-test c .before)) .pre)
 
 same-length-3 : tie.Need-same-length-3
 same-length-3 c = search needs
 
 returns-4 : tie.Need-returns-4
 returns-4 c =
-    let r = c .before .before .enter in
-    child-leaves (c .before .before .before .before .before .before .before .before .before .before .before .before .before .pre) (c .before .before .before .before .before .before .before .before .kind-at .result) (c .before .before .before .before .before .before .before .before .kind-at .ensures) (c .before .before .before .site-at .result) (c .before .before .before .site-at .ensures) (c .before .before .before .before .before .before .before .if1 .left) (c .before .before .before .before .before .before .if2 .left) (c .before .before .before .before .before .if3 .left) (r .result) (r .last .0) (r .ensures .0) (r .ensures .1)
+    let r = end-child c in
+    let s = r .before in
+    let e = child-test s in
+    let k = other-kind (e .before) in
+    child-leaves (start k .pre) (k .kind-at .result) (k .kind-at .ensures) (s .site-at .result) (s .site-at .ensures) (e .before .before .if1 .left) (e .before .if2 .left) (e .if3 .left) (r .enter .result) (r .enter .last .0) (r .enter .ensures .0) (r .enter .ensures .1)
 
 pub on-line-spec : {M : Type 1} → statement M
 on-line-spec =

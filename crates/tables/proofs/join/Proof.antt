@@ -8,11 +8,11 @@ use Rattle.tables.proofs.join.Statement.{statement}
 use Rattle.tables.proofs.join.Tie as tie
 
 -- from each place that has a name to the one before it
-abbrev start : tie.After-later-heavier → tie.Start
+abbrev start : tie.After-struct-known → tie.Start
 start c = c .before .before
 
-abbrev asked : tie.Else1 → tie.After-later-heavier
-asked c = c .before .before
+abbrev asked-start : tie.After-later-heavier2 → tie.Start
+asked-start c = start (c .before .before)
 
 abbrev since-test : tie.After-add-from → tie.Then2
 since-test c = c .before .before
@@ -39,31 +39,34 @@ own-fits c = (c .pre .1, omega (arith, load-fits (c .pre .0)))
 later-heavier-requires : tie.Need-later-heavier-requires
 later-heavier-requires c κs = search needs
 
+later-heavier-requires-2 : tie.Need-later-heavier-requires-2
+later-heavier-requires-2 c κs = search needs
+
 joined-requires : tie.Need-joined-requires
 joined-requires c κs = own-fits (start (c .before .before))
 
 returns : tie.Need-returns
 returns c =
-    let l = c .before .before .before in
-    let a = start l in
-    rw (c .joined .ensures) (join-none (a .args .n) (a .args .w) (a .pre .0 .blocks) (a .args .t .now) (a .args .f) (c .before .if1 .taken) (l .later-heavier .result) (l .later-heavier .ensures))
+    let l = c .before in
+    let a = start (l .before .before) in
+    rw (c .joined .ensures) (join-none (a .args .n) (a .args .w) (a .pre .0 .blocks) (a .args .t .now) (a .args .f) (l .before .if1 .taken) (l .later-heavier .result) (l .later-heavier .ensures))
 
 mul-k : tie.Need-mul-k
 mul-k c = search needs
 
 add-from-requires : tie.Need-add-from-requires
 add-from-requires c κs =
-    let e = c .before .before in
-    let a = start (asked e) in
+    let l = c .before .before in
+    let a = asked-start l in
     let r = a .pre .0 in
-    let s = r .holds .later (some-longest (a .args .f) (r .k) (r .weighs) (e .if1 .left)) in
+    let s = r .holds .later (some-longest (a .args .f) (r .k) (r .weighs) (l .before .if1 .left)) in
     ((omega (arith, r .blocks), omega (arith, r .blocks, r .room)), fits 0 (2 * a .args .n) (a .args .w) (a .args .t .now) (r .k .p) (r .k .c) (s .P) (s .C) (omega (arith, r .fits)))
 
 clear-requires : tie.Need-clear-requires
 clear-requires c κs = search needs
 
 joined-requires-2 : tie.Need-joined-requires-2
-joined-requires-2 c κs = own-fits (start (asked (since-test (since-added (since-cleared c)) .before)))
+joined-requires-2 c κs = own-fits (asked-start (since-test (since-added (since-cleared c)) .before))
 
 same-length : tie.Need-same-length
 same-length c = search needs
@@ -73,23 +76,23 @@ returns-2 c =
     let z = since-cleared (c .before) in
     let d = since-added z in
     let i = since-test d in
-    let l = asked (i .before) in
-    let a = start l in
-    rw (c .joined2 .ensures) (join-since (a .args .n) (a .args .w) (a .pre .0 .blocks) (a .args .t .now) (a .args .f) (d .add-from .last .0) (z .clear .last .0) (d .add-from .ensures) (z .clear .ensures) (i .before .if1 .left) (l .later-heavier .result) (l .later-heavier .ensures) (i .if2 .taken))
+    let l = i .before in
+    let a = asked-start l in
+    rw (c .joined2 .ensures) (join-since (a .args .n) (a .args .w) (a .pre .0 .blocks) (a .args .t .now) (a .args .f) (d .add-from .last .0) (z .clear .last .0) (d .add-from .ensures) (z .clear .ensures) (l .before .if1 .left) (l .later-heavier2 .result) (l .later-heavier2 .ensures) (i .if2 .taken))
 
 add-from-requires-2 : tie.Need-add-from-requires-2
 add-from-requires-2 c κs =
-    let e = c .before .before in
-    let a = start (asked e) in
+    let l = c .before .before in
+    let a = asked-start l in
     let r = a .pre .0 in
-    let s = r .holds .later (some-longest (a .args .f) (r .k) (r .weighs) (e .if1 .left)) in
+    let s = r .holds .later (some-longest (a .args .f) (r .k) (r .weighs) (l .before .if1 .left)) in
     ((omega (arith, r .blocks), omega (arith, r .blocks, r .room)), fits 0 (a .args .n) (a .args .w) (a .args .t .now) (r .k .p) (r .k .l) (s .P) (s .L) (omega (arith, r .fits)))
 
 clear-requires-2 : tie.Need-clear-requires-2
 clear-requires-2 c κs = search needs
 
 joined-requires-3 : tie.Need-joined-requires-3
-joined-requires-3 c κs = own-fits (start (asked (child-test (child-added (child-cleared c)) .before)))
+joined-requires-3 c κs = own-fits (asked-start (child-test (child-added (child-cleared c)) .before))
 
 same-length-2 : tie.Need-same-length-2
 same-length-2 c = search needs
@@ -99,9 +102,9 @@ returns-3 c =
     let z = child-cleared (c .before) in
     let d = child-added z in
     let i = child-test d in
-    let l = asked (i .before) in
-    let a = start l in
-    rw (c .joined3 .ensures) (join-longest (a .args .n) (a .args .w) (a .pre .0 .blocks) (a .args .t .now) (a .args .f) (d .add-from2 .last .0) (z .clear2 .last .0) (d .add-from2 .ensures) (z .clear2 .ensures) (i .before .if1 .left) (l .later-heavier .result) (l .later-heavier .ensures) (i .if2 .left))
+    let l = i .before in
+    let a = asked-start l in
+    rw (c .joined3 .ensures) (join-longest (a .args .n) (a .args .w) (a .pre .0 .blocks) (a .args .t .now) (a .args .f) (d .add-from2 .last .0) (z .clear2 .last .0) (d .add-from2 .ensures) (z .clear2 .ensures) (l .before .if1 .left) (l .later-heavier2 .result) (l .later-heavier2 .ensures) (i .if2 .left))
 
 pub join-spec : {M : Type 1} → statement M
 join-spec =
@@ -111,6 +114,7 @@ join-spec =
     joined-requires
     returns
     mul-k
+    later-heavier-requires-2
     add-from-requires
     clear-requires
     joined-requires-2

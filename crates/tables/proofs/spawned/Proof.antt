@@ -9,11 +9,11 @@ use Rattle.tables.proofs.spawned.Statement.{statement}
 use Rattle.tables.proofs.spawned.Tie as tie
 
 -- from each place that has a name to the one before it
-abbrev start : tie.After-child-longer → tie.Start
+abbrev start : tie.After-struct-known → tie.Start
 start c = c .before .before
 
-abbrev asked : tie.Else1 → tie.After-child-longer
-asked c = c .before .before
+abbrev asked-start : tie.After-child-longer2 → tie.Start
+asked-start c = start (c .before .before)
 
 abbrev added-test : tie.After-add-from → tie.Then2
 added-test c = c .before .before
@@ -38,24 +38,27 @@ both-fit : (c : tie.Start) → (c .args .f .work + c .args .c .work < 2 ^ 64) ×
 both-fit c = (c .pre .1 .1 .1, omega (arith, load-fits (c .pre .0)))
 
 -- a child is the longest: each block shows its own chain
-shows : (c : tie.Else1) → (
-    let a = start (asked c) in let r = a .pre .0 in Shows (a .args .n) (a .args .w) (a .args .t .now) (r .k) (r .g))
+shows : (c : tie.After-child-longer2) → (
+    let a = asked-start c in let r = a .pre .0 in Shows (a .args .n) (a .args .w) (a .args .t .now) (r .k) (r .g))
 shows c =
-    let a = start (asked c) in
+    let a = asked-start c in
     let r = a .pre .0 in
-    r .holds .later (some-longest (a .args .f) (r .k) (r .weighs) (c .if1 .left))
+    r .holds .later (some-longest (a .args .f) (r .k) (r .weighs) (c .before .if1 .left))
 
 child-longer-requires : tie.Need-child-longer-requires
-child-longer-requires c κs = omega (arith, load-fits (c .before .pre .0))
+child-longer-requires c κs = omega (arith, load-fits (start (c .before) .pre .0))
+
+child-longer-requires-2 : tie.Need-child-longer-requires-2
+child-longer-requires-2 c κs = omega (arith, load-fits (start (c .before) .pre .0))
 
 spawned-requires : tie.Need-spawned-requires
 spawned-requires c κs = both-fit (start (c .before .before))
 
 returns : tie.Need-returns
 returns c =
-    let l = c .before .before .before in
-    let a = start l in
-    rw (c .spawned .ensures) (spawned-first (a .args .n) (a .args .w) (a .pre .0 .blocks) (a .args .t .now) (a .args .f) (a .args .c) (c .before .if1 .taken) (l .child-longer .result) (l .child-longer .ensures))
+    let l = c .before in
+    let a = start (l .before .before) in
+    rw (c .spawned .ensures) (spawned-first (a .args .n) (a .args .w) (a .pre .0 .blocks) (a .args .t .now) (a .args .f) (a .args .c) (l .before .if1 .taken) (l .child-longer .result) (l .child-longer .ensures))
 
 mul-k : tie.Need-mul-k
 mul-k c = search needs
@@ -66,7 +69,7 @@ mul-g c = search needs
 add-from-requires : tie.Need-add-from-requires
 add-from-requires c κs =
     let e = c .before .before in
-    let a = start (asked e) in
+    let a = asked-start e in
     let r = a .pre .0 in
     let s = shows e in
     ((omega (arith, r .blocks), omega (arith, r .blocks, r .room)), fits 0 (2 * a .args .n) (a .args .w) (a .args .t .now) (r .k .p) (r .k .c) (s .P) (s .C) (omega (arith, r .fits)))
@@ -79,7 +82,7 @@ take-child-requires c κs =
     let zc = cleared c in
     let dc = added zc in
     let e = added-test dc .before in
-    let a = start (asked e) in
+    let a = asked-start e in
     let r = a .pre .0 in
     let s = shows e in
     let d = dc .add-from in
@@ -92,7 +95,7 @@ take-child-requires c κs =
     )
 
 spawned-requires-2 : tie.Need-spawned-requires-2
-spawned-requires-2 c κs = both-fit (start (asked (added-test (added (cleared (taken c .before))) .before)))
+spawned-requires-2 c κs = both-fit (asked-start (added-test (added (cleared (taken c .before))) .before))
 
 same-length : tie.Need-same-length
 same-length c = search needs
@@ -103,19 +106,19 @@ returns-2 c =
     let z = cleared (k .before) in
     let d = added z in
     let i = added-test d in
-    let l = asked (i .before) in
-    let a = start l in
-    rw (c .spawned2 .ensures) (spawned-longer (a .args .n) (a .args .w) (a .pre .0 .blocks) (a .args .t .now) (a .args .f) (a .args .c) (d .add-from .last .0) (z .clear .last .0) (k .take-child .last .0) (d .add-from .ensures) (z .clear .ensures) (k .take-child .ensures) (i .before .if1 .left) (l .child-longer .result) (l .child-longer .ensures) (i .if2 .taken))
+    let l = i .before in
+    let a = asked-start l in
+    rw (c .spawned2 .ensures) (spawned-longer (a .args .n) (a .args .w) (a .pre .0 .blocks) (a .args .t .now) (a .args .f) (a .args .c) (d .add-from .last .0) (z .clear .last .0) (k .take-child .last .0) (d .add-from .ensures) (z .clear .ensures) (k .take-child .ensures) (l .before .if1 .left) (l .child-longer2 .result) (l .child-longer2 .ensures) (i .if2 .taken))
 
 clear-child-requires : tie.Need-clear-child-requires
 clear-child-requires c κs =
     let e = c .before .before in
-    let a = start (asked e) in
+    let a = asked-start e in
     let r = a .pre .0 in
     (omega (arith, r .blocks, a .pre .1 .1 .0), (a .pre .1 .0, record { g = r .g; weighs = r .child; table = shows e .G }))
 
 spawned-requires-3 : tie.Need-spawned-requires-3
-spawned-requires-3 c κs = both-fit (start (asked (child-test (child-cleared c) .before)))
+spawned-requires-3 c κs = both-fit (asked-start (child-test (child-cleared c) .before))
 
 same-length-2 : tie.Need-same-length-2
 same-length-2 c = search needs
@@ -124,9 +127,9 @@ returns-3 : tie.Need-returns-3
 returns-3 c =
     let z = child-cleared (c .before) in
     let i = child-test z in
-    let l = asked (i .before) in
-    let a = start l in
-    rw (c .spawned3 .ensures) (spawned-shorter (a .args .n) (a .args .w) (a .pre .0 .blocks) (a .args .t .now) (a .args .f) (a .args .c) (z .clear-child .last .0) (z .clear-child .ensures) (i .before .if1 .left) (l .child-longer .result) (l .child-longer .ensures) (i .if2 .left))
+    let l = i .before in
+    let a = asked-start l in
+    rw (c .spawned3 .ensures) (spawned-shorter (a .args .n) (a .args .w) (a .pre .0 .blocks) (a .args .t .now) (a .args .f) (a .args .c) (z .clear-child .last .0) (z .clear-child .ensures) (l .before .if1 .left) (l .child-longer2 .result) (l .child-longer2 .ensures) (i .if2 .left))
 
 pub spawned-spec : {M : Type 1} → statement M
 spawned-spec =
@@ -137,6 +140,7 @@ spawned-spec =
     returns
     mul-k
     mul-g
+    child-longer-requires-2
     add-from-requires
     clear-requires
     take-child-requires

@@ -1,20 +1,23 @@
--- The two readers meet their contracts: what each step asks for and leaves is that of the item that is read.
+-- The three readers meet their contracts: what each step asks for and leaves is that of the item that is read.
 use Prim.Native.Nat.{ℕ, _+_, _*_, _-_, _^_, _<_}
 use mathlib.Core.List.{List}
 use lib.ListN.{length}
 use mathlib.Core.Path.{_∙_}
 use native.Mathlib.Omega.{arith}
 use borrow.Author.Needs.{needs}
-use Rattle.tables.proofs.Bodies.{Loop, loop-start, loop-asks, Next, loop-less, loop-again, loop-done}
+use Rattle.tables.proofs.Bodies.{begins, Loop, loop-start, loop-asks, Next, loop-less, loop-again, loop-done, body-leaves}
 use Rattle.tables.proofs.Items.{line-fits, own-room, join-asks, sync-leaves, Costs, rows-asks, spend-asks, cost-leaves, Calls, deeper, room, body-asks, Back, back-long, count-asks, child-asks, call-leaves, spawn-leaves}
 use borrow.Fn.Kinds.{In, Out}
 use borrow.Fn.PlainCycle.{Measures, is, falls, and}
 use Rattle.tables.proofs.body.Reads as body
 use Rattle.tables.proofs.body.Kinds as body-kinds
-use Rattle.tables.proofs.+body+item.Lts-body as body-lts
+use Rattle.tables.proofs.+body+item+read_items.Lts-body as body-lts
+use Rattle.tables.proofs.read_items.Reads as items
+use Rattle.tables.proofs.read_items.Kinds as items-kinds
+use Rattle.tables.proofs.+body+item+read_items.Lts-read_items as items-lts
 use Rattle.tables.proofs.item.Reads as item
 use Rattle.tables.proofs.item.Kinds as item-kinds
-use Rattle.tables.proofs.+body+item.Lts-item as item-lts
+use Rattle.tables.proofs.+body+item+read_items.Lts-item as item-lts
 use Rattle.line.proofs.kind_at.Reads as kind-at-reads
 use Rattle.line.proofs.site_at.Reads as site-at-reads
 use Rattle.tables.proofs.called.Reads as called-reads
@@ -26,21 +29,30 @@ use Rattle.walk.proofs.Open.new.Reads as new-reads
 use Rattle.walk.proofs.returned.Reads as returned-reads
 use Rattle.walk.proofs.spend.Reads as spend-reads′
 use Rattle.walk.proofs.weight_at.Reads as weight-at-reads
-use Rattle.tables.proofs.+body+item.{statement}
-use Rattle.tables.proofs.+body+item.Tie.{close}
+use Rattle.tables.proofs.+body+item+read_items.{statement}
+use Rattle.tables.proofs.+body+item+read_items.Tie.{close}
 
--- the depth left falls from item to body, and a body is above its items
+-- the depth left falls from item to body, a body is above its items, and they above each of them
 abbrev μ-body : Measures 3 body-kinds.ps ℕ
-μ-body κs a = 2 * (a .1 .1 .1 .0) + 1
+μ-body κs a = 3 * (a .1 .1 .1 .0) + 2
+
+abbrev μ-items : Measures 3 items-kinds.ps ℕ
+μ-items κs a = 3 * (a .1 .1 .1 .0) + 1
 
 abbrev μ-item : Measures 3 item-kinds.ps ℕ
-μ-item κs a = 2 * (a .1 .1 .1 .1 .0)
+μ-item κs a = 3 * (a .1 .1 .1 .1 .0)
 
 abbrev body-at : ℕ → In 3 body-kinds.ps
 body-at t = and 3 body-kinds.ps (is 3 body-kinds.ps μ-body t) body.Pre
 
 abbrev body-below : ℕ → In 3 body-kinds.ps
 body-below t = and 3 body-kinds.ps (falls 3 body-kinds.ps _<_ μ-body t) body.Pre
+
+abbrev items-at : ℕ → In 3 items-kinds.ps
+items-at t = and 3 items-kinds.ps (is 3 items-kinds.ps μ-items t) items.Pre
+
+abbrev items-below : ℕ → In 3 items-kinds.ps
+items-below t = and 3 items-kinds.ps (falls 3 items-kinds.ps _<_ μ-items t) items.Pre
 
 abbrev item-at : ℕ → In 3 item-kinds.ps
 item-at t = and 3 item-kinds.ps (is 3 item-kinds.ps μ-item t) item.Pre
@@ -49,94 +61,122 @@ abbrev item-below : ℕ → In 3 item-kinds.ps
 item-below t = and 3 item-kinds.ps (falls 3 item-kinds.ps _<_ μ-item t) item.Pre
 
 abbrev body-calls : ℕ → body-lts.Claims
-body-calls t = (new-reads.Asked, new-reads.Learnt, kind-at-reads.Asked, kind-at-reads.Learnt, item-below t, item.Post, join-reads.Asked, join-reads.Learnt)
+body-calls t = (new-reads.Asked, new-reads.Learnt, items-below t, items.Post, join-reads.Asked, join-reads.Learnt)
+
+abbrev items-calls : ℕ → items-lts.Claims
+items-calls t = (kind-at-reads.Asked, kind-at-reads.Learnt, item-below t, item.Post)
 
 abbrev item-calls : ℕ → item-lts.Claims
 item-calls t = (weight-at-reads.Asked, weight-at-reads.Learnt, spend-reads′.Asked, spend-reads′.Learnt, spend-reads.Asked, spend-reads.Learnt, join-reads.Asked, join-reads.Learnt, site-at-reads.Asked, site-at-reads.Learnt, part-reads.Asked, part-reads.Learnt, body-below t, body.Post, returned-reads.Asked, returned-reads.Learnt, called-reads.Asked, called-reads.Learnt, spawned-reads.Asked, spawned-reads.Learnt)
 
-abbrev body-Inv-loop : body-lts.InvT-loop
-body-Inv-loop trace from row deep t₀ rows₀ n w f₀ kind₀ t rows f kind = Loop trace from row deep t₀ rows₀ t rows n w f kind
+abbrev Inv-loop : items-lts.InvT-loop
+Inv-loop trace row deep t₀ rows₀ n w f₀ kind₀ t rows f kind = Loop trace row deep f₀ t₀ rows₀ t rows n w f kind
 
-abbrev body-μ-loop : body-lts.MeasureT-loop
-body-μ-loop trace from row deep t₀ rows₀ n w f₀ kind₀ t rows f kind = 65536 - f .at
+abbrev μ-loop : items-lts.MeasureT-loop
+μ-loop trace row deep t₀ rows₀ n w f₀ kind₀ t rows f kind = 65536 - f .at
 
 module _ (t : ℕ) where
   -- a place of `body`, or what is needed there
-  abbrev Body : (body-lts.Claims → In 3 body-kinds.ps → Out 3 body-kinds.ps body-kinds.r → body-lts.InvT-loop → body-lts.MeasureT-loop → Type 0) → Type 0
-  Body P = P (body-calls t) (body-at t) body.Post body-Inv-loop body-μ-loop
+  abbrev Body : (body-lts.Claims → In 3 body-kinds.ps → Out 3 body-kinds.ps body-kinds.r → Type 0) → Type 0
+  Body P = P (body-calls t) (body-at t) body.Post
 
   -- from each place of `body` that has a name to the one before it
   abbrev body-start : Body body-lts.After-new → Body body-lts.Start
   body-start c = c .before .before .before .before
 
-  abbrev body-first : Body body-lts.At-loop → Body body-lts.After-new
+  abbrev body-first : Body body-lts.After-read-items-arg2 → Body body-lts.After-new
   body-first c = c .before .before
 
-  abbrev body-turn : Body body-lts.After-item-arg2 → Body body-lts.In-loop
-  body-turn c = c .before .before
-
-  abbrev body-item : Body body-lts.After-slice-known4 → Body body-lts.After-item
-  body-item c = c .before .before .before .before
+  abbrev body-items : Body body-lts.After-join-arg → Body body-lts.After-read-items
+  body-items c = c .before .before .before .before .before
 
   abbrev body-join : Body body-lts.After-slice-known5 → Body body-lts.After-join
   body-join c = c .before .before
 
-  abbrev body-left : Body body-lts.After-join-arg → Body body-lts.After-loop
-  body-left c = c .before
+  body-new-requires : Body body-lts.Need-new-requires
+  body-new-requires c κs = search needs
+
+  body-read-items-requires : Body body-lts.Need-read-items-requires
+  body-read-items-requires c κs =
+      let f = body-first c in
+      let a = body-start f in
+      (omega (arith, a .pre .0), begins (f .new .result) (f .new .ensures) (a .pre .1))
+
+  body-join-requires : Body body-lts.Need-join-requires
+  body-join-requires c κs = join-asks (body-items c .read-items .ensures .lent)
+
+  body-same-length : Body body-lts.Need-same-length
+  body-same-length c = let j = body-join c in j .join .kept .0 ∙ body-items (j .before) .read-items .kept .1 .1 .1 .1 .0
+
+  body-same-length-2 : Body body-lts.Need-same-length-2
+  body-same-length-2 c = body-items (body-join c .before) .read-items .kept .1 .1 .1 .1 .1 .0
+
+  body-returns : Body body-lts.Need-returns
+  body-returns c =
+      let j = body-join c in
+      let i = body-items (j .before) in
+      let f = body-first (i .before) in
+      body-leaves (f .new .result) (f .new .ensures) (i .read-items .ensures) (j .join .result) (j .join .last .0) (j .join .ensures)
+
+module _ (t : ℕ) where
+  -- a place of `read_items`, or what is needed there
+  abbrev Items : (items-lts.Claims → In 3 items-kinds.ps → Out 3 items-kinds.ps items-kinds.r → items-lts.InvT-loop → items-lts.MeasureT-loop → Type 0) → Type 0
+  Items P = P (items-calls t) (items-at t) items.Post Inv-loop μ-loop
+
+  -- from each place of `read_items` that has a name to the one before it
+  abbrev items-start : Items items-lts.After-kind-at → Items items-lts.Start
+  items-start c = c .before .before .before .before
+
+  abbrev turn : Items items-lts.After-item-arg2 → Items items-lts.In-loop
+  turn c = c .before .before
+
+  abbrev item-read : Items items-lts.After-slice-known4 → Items items-lts.After-item
+  item-read c = c .before .before .before .before
 
   -- what an item left of the scratch and of the rows
-  abbrev item-scratch : Body body-lts.After-item → List ℕ
+  abbrev item-scratch : Items items-lts.After-item → List ℕ
   item-scratch c = c .item .last .1 .1 .1 .1 .1 .0
 
-  abbrev item-rows : Body body-lts.After-item → List ℕ
+  abbrev item-rows : Items items-lts.After-item → List ℕ
   item-rows c = c .item .last .1 .1 .1 .1 .1 .1 .0
 
-  next : (c : Body body-lts.After-item) → Next (body-turn (c .before) .before .loop .inv) (c .item .result) (item-scratch c) (item-rows c)
+  next : (c : Items items-lts.After-item) → Next (turn (c .before) .before .loop .inv) (c .item .result) (item-scratch c) (item-rows c)
   next c =
       record {
-        more-lines = body-turn (c .before) .loop-test .taken;
+        more-lines = turn (c .before) .loop-test .taken;
         scratch-long = c .item .kept .1 .1 .1 .1 .1 .0;
         rows-long = c .item .kept .1 .1 .1 .1 .1 .1 .0;
         leaves = c .item .ensures;
       }
 
-  body-new-requires : Body body-lts.Need-new-requires
-  body-new-requires c κs = search needs
+  items-kind-at-requires : Items items-lts.Need-kind-at-requires
+  items-kind-at-requires c κs = search needs
 
-  body-kind-at-requires : Body body-lts.Need-kind-at-requires
-  body-kind-at-requires c κs = search needs
+  items-loop-holds : Items items-lts.Need-loop-holds
+  items-loop-holds c = loop-start (items-start c .pre .1) (c .kind-at .result) (c .kind-at .ensures)
 
-  body-loop-holds : Body body-lts.Need-loop-holds
-  body-loop-holds c = loop-start (body-start (c .before) .pre .1) (c .before .new .result) (c .before .new .ensures) (c .kind-at .result) (c .kind-at .ensures)
+  items-item-requires : Items items-lts.Need-item-requires
+  items-item-requires c κs =
+      let i = turn c in
+      (omega (arith, items-start (i .before .before) .pre .0), loop-asks (i .before .loop .inv) (i .loop-test .taken))
 
-  body-item-requires : Body body-lts.Need-item-requires
-  body-item-requires c κs =
-      let i = body-turn c in
-      (omega (arith, body-start (body-first (i .before)) .pre .0), loop-asks (i .before .loop .inv) (i .loop-test .taken))
+  items-kind-at-requires-2 : Items items-lts.Need-kind-at-requires-2
+  items-kind-at-requires-2 c κs = search needs
 
-  body-kind-at-requires-2 : Body body-lts.Need-kind-at-requires-2
-  body-kind-at-requires-2 c κs = search needs
+  items-loop-less : Items items-lts.Need-loop-less
+  items-loop-less c = loop-less _ (next (item-read (c .before)))
 
-  body-loop-less : Body body-lts.Need-loop-less
-  body-loop-less c = loop-less _ (next (body-item (c .before)))
+  items-loop-again : Items items-lts.Need-loop-again
+  items-loop-again c = loop-again _ (next (item-read (c .before))) (c .kind-at2 .result) (c .kind-at2 .ensures)
 
-  body-loop-again : Body body-lts.Need-loop-again
-  body-loop-again c = loop-again _ (next (body-item (c .before))) (c .kind-at2 .result) (c .kind-at2 .ensures)
+  items-same-length : Items items-lts.Need-same-length
+  items-same-length c = c .before .loop .inv .scratch-long
 
-  body-join-requires : Body body-lts.Need-join-requires
-  body-join-requires c κs = join-asks (body-left c .before .loop .inv .lent)
+  items-same-length-2 : Items items-lts.Need-same-length-2
+  items-same-length-2 c = c .before .loop .inv .rows-long
 
-  body-same-length : Body body-lts.Need-same-length
-  body-same-length c = let j = body-join c in j .join .kept .0 ∙ body-left (j .before) .before .loop .inv .scratch-long
-
-  body-same-length-2 : Body body-lts.Need-same-length-2
-  body-same-length-2 c = body-left (body-join c .before) .before .loop .inv .rows-long
-
-  body-returns : Body body-lts.Need-returns
-  body-returns c =
-      let j = body-join c in
-      let l = body-left (j .before) in
-      loop-done (l .before .loop .inv) (l .loop-test .left) (j .join .result) (j .join .last .0) (j .join .ensures)
+  items-returns : Items items-lts.Need-returns
+  items-returns c = loop-done (c .before .loop .inv) (c .loop-test .left)
 
 module _ (t : ℕ) where
   -- a place of `item`, or what is needed there
@@ -328,24 +368,17 @@ module _ (t : ℕ) where
       let k = test-returned (e .before) in
       spawn-leaves _ (at-body (returned-body (k .before))) (k .returned .ensures) (r .spawned .result) (r .spawned .last .0) (e .if3 .left) (r .spawned .ensures)
 
-pub +body+item-spec : {M : Type 1} → statement M
-+body+item-spec = close μ-body μ-item (λ t. body-lts.spec (body-calls t)
+pub +body+item+read-items-spec : {M : Type 1} → statement M
++body+item+read-items-spec = close μ-body μ-item μ-items (λ t. body-lts.spec (body-calls t)
     (body-at t)
     body.Post
-    body-Inv-loop
-    body-μ-loop
     (body-new-requires t)
-    (body-kind-at-requires t)
-    (body-loop-holds t)
-    (body-item-requires t)
-    (body-kind-at-requires-2 t)
-    (body-loop-less t)
-    (body-loop-again t)
+    (body-read-items-requires t)
     (body-join-requires t)
     (body-same-length t)
     (body-same-length-2 t)
     (body-returns t))
-    λ t. item-lts.spec (item-calls t)
+    (λ t. item-lts.spec (item-calls t)
     (item-at t)
     item.Post
     (item-weight-at-requires t)
@@ -375,4 +408,18 @@ pub +body+item-spec : {M : Type 1} → statement M
     (item-spawned-requires t)
     (item-same-length-6 t)
     (item-same-length-7 t)
-    (item-returns-4 t)
+    (item-returns-4 t))
+    λ t. items-lts.spec (items-calls t)
+    (items-at t)
+    items.Post
+    Inv-loop
+    μ-loop
+    (items-kind-at-requires t)
+    (items-loop-holds t)
+    (items-item-requires t)
+    (items-kind-at-requires-2 t)
+    (items-loop-less t)
+    (items-loop-again t)
+    (items-same-length t)
+    (items-same-length-2 t)
+    (items-returns t)

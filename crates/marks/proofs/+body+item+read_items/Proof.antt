@@ -1,23 +1,29 @@
--- The two readers meet their contracts: what each step asks for and leaves is that of the item that is read.
+-- The three readers meet their contracts: what each step asks for and leaves is that of the item that is read.
 use Prim.Native.Nat.{ℕ, _+_, _*_, _-_, _<_}
 use mathlib.Core.List.{List}
 use mathlib.Core.Path.{_≡_, refl, _∙_, ap, subst}
 use native.Mathlib.Omega.{arith}
 use lib.ListN.{length, take, drop}
 use borrow.Author.Needs.{needs}
+use Rattle.walk.specs.declared.Open.{Open}
 use Rattle.marks.specs.declared.Zones.{Zones}
+use Rattle.marks.specs.Shown.{allPrefix}
+use Rattle.marks.specs.Reader.{begun}
 use Rattle.marks.specs.Steps.{Called, Spawned}
 use Rattle.marks.proofs.Park.{Stored, stored-room, part-zero, part-length, back-room, load-is, load-clear}
-use Rattle.marks.proofs.Bodies.{Loop, loop-start, loop-asks, Next, loop-less, loop-again, loop-done}
+use Rattle.marks.proofs.Bodies.{begins, Loop, loop-start, loop-asks, Next, loop-less, loop-again, loop-done, body-leaves}
 use Rattle.marks.proofs.Items.{line-fits, join-asks, sync-leaves, Costs, rows-asks, spend-asks, cost-leaves, Calls, deeper, room, body-asks, Back, count-asks, called-asks, spawned-asks, call-leaves, spawn-leaves}
 use borrow.Fn.Kinds.{In, Out}
 use borrow.Fn.PlainCycle.{Measures, is, falls, and}
 use Rattle.marks.proofs.body.Reads as body
 use Rattle.marks.proofs.body.Kinds as body-kinds
-use Rattle.marks.proofs.+body+item.Lts-body as body-lts
+use Rattle.marks.proofs.+body+item+read_items.Lts-body as body-lts
+use Rattle.marks.proofs.read_items.Reads as items
+use Rattle.marks.proofs.read_items.Kinds as items-kinds
+use Rattle.marks.proofs.+body+item+read_items.Lts-read_items as items-lts
 use Rattle.marks.proofs.item.Reads as item
 use Rattle.marks.proofs.item.Kinds as item-kinds
-use Rattle.marks.proofs.+body+item.Lts-item as item-lts
+use Rattle.marks.proofs.+body+item+read_items.Lts-item as item-lts
 use Rattle.line.proofs.kind_at.Reads as kind-at-reads
 use Rattle.line.proofs.site_at.Reads as site-at-reads
 use Rattle.marks.proofs.Zones.prefix.Reads as prefix-reads
@@ -31,21 +37,30 @@ use Rattle.walk.proofs.Open.new.Reads as new-reads
 use Rattle.walk.proofs.returned.Reads as returned-reads
 use Rattle.walk.proofs.spend.Reads as spend-reads′
 use Rattle.walk.proofs.weight_at.Reads as weight-at-reads
-use Rattle.marks.proofs.+body+item.{statement}
-use Rattle.marks.proofs.+body+item.Tie.{close}
+use Rattle.marks.proofs.+body+item+read_items.{statement}
+use Rattle.marks.proofs.+body+item+read_items.Tie.{close}
 
--- the depth left falls from item to body, and a body is above its items
+-- the depth left falls from item to body, a body is above its items, and they above each of them
 abbrev μ-body : Measures 4 body-kinds.ps ℕ
-μ-body κs a = 2 * (a .1 .1 .1 .0) + 1
+μ-body κs a = 3 * (a .1 .1 .1 .0) + 2
+
+abbrev μ-items : Measures 4 items-kinds.ps ℕ
+μ-items κs a = 3 * (a .1 .1 .0) + 1
 
 abbrev μ-item : Measures 4 item-kinds.ps ℕ
-μ-item κs a = 2 * (a .1 .1 .1 .0)
+μ-item κs a = 3 * (a .1 .1 .1 .0)
 
 abbrev body-at : ℕ → In 4 body-kinds.ps
 body-at t = and 4 body-kinds.ps (is 4 body-kinds.ps μ-body t) body.Pre
 
 abbrev body-below : ℕ → In 4 body-kinds.ps
 body-below t = and 4 body-kinds.ps (falls 4 body-kinds.ps _<_ μ-body t) body.Pre
+
+abbrev items-at : ℕ → In 4 items-kinds.ps
+items-at t = and 4 items-kinds.ps (is 4 items-kinds.ps μ-items t) items.Pre
+
+abbrev items-below : ℕ → In 4 items-kinds.ps
+items-below t = and 4 items-kinds.ps (falls 4 items-kinds.ps _<_ μ-items t) items.Pre
 
 abbrev item-at : ℕ → In 4 item-kinds.ps
 item-at t = and 4 item-kinds.ps (is 4 item-kinds.ps μ-item t) item.Pre
@@ -54,60 +69,42 @@ abbrev item-below : ℕ → In 4 item-kinds.ps
 item-below t = and 4 item-kinds.ps (falls 4 item-kinds.ps _<_ μ-item t) item.Pre
 
 abbrev body-calls : ℕ → body-lts.Claims
-body-calls t = (new-reads.Asked, new-reads.Learnt, prefix-reads.Asked, prefix-reads.Learnt, kind-at-reads.Asked, kind-at-reads.Learnt, item-below t, item.Post, join-reads.Asked, join-reads.Learnt)
+body-calls t = (new-reads.Asked, new-reads.Learnt, prefix-reads.Asked, prefix-reads.Learnt, items-below t, items.Post, join-reads.Asked, join-reads.Learnt)
+
+abbrev items-calls : ℕ → items-lts.Claims
+items-calls t = (kind-at-reads.Asked, kind-at-reads.Learnt, item-below t, item.Post)
 
 abbrev item-calls : ℕ → item-lts.Claims
 item-calls t = (weight-at-reads.Asked, weight-at-reads.Learnt, spend-reads′.Asked, spend-reads′.Learnt, spend-reads.Asked, spend-reads.Learnt, join-reads.Asked, join-reads.Learnt, site-at-reads.Asked, site-at-reads.Learnt, store-reads.Asked, store-reads.Learnt, body-below t, body.Post, load-reads.Asked, load-reads.Learnt, returned-reads.Asked, returned-reads.Learnt, called-reads.Asked, called-reads.Learnt, spawned-reads.Asked, spawned-reads.Learnt)
 
-abbrev body-Inv-loop : body-lts.InvT-loop
-body-Inv-loop trace from row deep t₀ marks₀ rows₀ z₀ kind₀ t marks rows z kind = Loop trace from row deep t₀ marks₀ rows₀ t marks rows z kind
+abbrev Inv-loop : items-lts.InvT-loop
+Inv-loop trace deep t₀ marks₀ rows₀ z₀ kind₀ t marks rows z kind = Loop trace deep z₀ t₀ marks₀ rows₀ t marks rows z kind
 
-abbrev body-μ-loop : body-lts.MeasureT-loop
-body-μ-loop trace from row deep t₀ marks₀ rows₀ z₀ kind₀ t marks rows z kind = 65536 - z .own .at
+abbrev μ-loop : items-lts.MeasureT-loop
+μ-loop trace deep t₀ marks₀ rows₀ z₀ kind₀ t marks rows z kind = 65536 - z .own .at
 
 module _ (t : ℕ) where
   -- a place of `body`, or what is needed there
-  abbrev Body : (body-lts.Claims → In 4 body-kinds.ps → Out 4 body-kinds.ps body-kinds.r → body-lts.InvT-loop → body-lts.MeasureT-loop → Type 0) → Type 0
-  Body P = P (body-calls t) (body-at t) body.Post body-Inv-loop body-μ-loop
+  abbrev Body : (body-lts.Claims → In 4 body-kinds.ps → Out 4 body-kinds.ps body-kinds.r → Type 0) → Type 0
+  Body P = P (body-calls t) (body-at t) body.Post
 
   -- from each place of `body` that has a name to the one before it
   abbrev body-start : Body body-lts.After-new → Body body-lts.Start
   body-start c = c .before .before .before .before .before
 
-  abbrev body-first : Body body-lts.At-loop → Body body-lts.After-new
+  abbrev body-first : Body body-lts.After-read-items-arg3 → Body body-lts.After-prefix
   body-first c = c .before .before .before
 
-  abbrev body-turn : Body body-lts.After-item-arg3 → Body body-lts.In-loop
-  body-turn c = c .before .before .before
-
-  abbrev body-item : Body body-lts.After-slice-known6 → Body body-lts.After-item
-  body-item c = c .before .before .before .before .before .before
-
-  abbrev body-left : Body body-lts.After-join-arg → Body body-lts.After-loop
-  body-left c = c .before
+  abbrev body-items : Body body-lts.After-join-arg → Body body-lts.After-read-items
+  body-items c = c .before .before .before .before .before .before .before
 
   abbrev body-join : Body body-lts.After-result → Body body-lts.After-join
   body-join c = c .before .before .before
 
-  -- what an item left of the scratch, of the marks and of the rows
-  abbrev item-scratch : Body body-lts.After-item → List ℕ
-  item-scratch c = c .item .last .1 .1 .1 .1 .0
-
-  abbrev item-marks : Body body-lts.After-item → List ℕ
-  item-marks c = c .item .last .1 .1 .1 .1 .1 .0
-
-  abbrev item-rows : Body body-lts.After-item → List ℕ
-  item-rows c = c .item .last .1 .1 .1 .1 .1 .1 .0
-
-  next : (c : Body body-lts.After-item) → Next (body-turn (c .before) .before .loop .inv) (c .item .result) (item-scratch c) (item-marks c) (item-rows c)
-  next c =
-      record {
-        more-lines = body-turn (c .before) .loop-test .taken;
-        same-scratch = c .item .ensures .1;
-        marks-long = c .item .kept .1 .1 .1 .1 .1 .0;
-        rows-long = c .item .kept .1 .1 .1 .1 .1 .1 .0;
-        leaves = c .item .ensures .0;
-      }
+  -- the zones that the items are read from are those of an invocation that begins
+  first : (c : Body body-lts.After-prefix) → (
+      let a = body-start (c .before) .args in c .prefix .result ≡ begun (a .from) (a .row))
+  first c = c .prefix .ensures ∙ ap (λ (x : Open). allPrefix x (body-start (c .before) .args .row)) (c .before .new .ensures)
 
   body-new-requires : Body body-lts.Need-new-requires
   body-new-requires c κs = search needs
@@ -115,45 +112,97 @@ module _ (t : ℕ) where
   body-prefix-requires : Body body-lts.Need-prefix-requires
   body-prefix-requires c κs = search needs
 
-  body-kind-at-requires : Body body-lts.Need-kind-at-requires
-  body-kind-at-requires c κs = search needs
-
-  body-loop-holds : Body body-lts.Need-loop-holds
-  body-loop-holds c =
-      let n = c .before .before in
-      loop-start (body-start n .pre .1) (n .new .result) (n .new .ensures) (c .before .prefix .result) (c .before .prefix .ensures) (c .kind-at .result) (c .kind-at .ensures)
-
-  body-item-requires : Body body-lts.Need-item-requires
-  body-item-requires c κs =
-      let i = body-turn c in
-      (omega (arith, body-start (body-first (i .before)) .pre .0), loop-asks (i .before .loop .inv) (i .loop-test .taken))
-
-  body-kind-at-requires-2 : Body body-lts.Need-kind-at-requires-2
-  body-kind-at-requires-2 c κs = search needs
-
-  body-loop-less : Body body-lts.Need-loop-less
-  body-loop-less c = loop-less _ (next (body-item (c .before)))
-
-  body-loop-again : Body body-lts.Need-loop-again
-  body-loop-again c = loop-again _ (next (body-item (c .before))) (c .kind-at2 .result) (c .kind-at2 .ensures)
+  body-read-items-requires : Body body-lts.Need-read-items-requires
+  body-read-items-requires c κs =
+      let f = body-first c in
+      let a = body-start (f .before) in
+      (omega (arith, a .pre .0), begins (f .prefix .result) (first f) (a .pre .1))
 
   body-join-requires : Body body-lts.Need-join-requires
-  body-join-requires c κs = join-asks (body-left c .before .loop .inv .lent)
+  body-join-requires c κs = join-asks (body-items c .read-items .ensures .0 .lent)
 
   body-same-length : Body body-lts.Need-same-length
-  body-same-length c = ap length (body-left (body-join c .before) .before .loop .inv .same-scratch)
+  body-same-length c = ap length (body-items (body-join c .before) .read-items .ensures .1)
 
   body-same-length-2 : Body body-lts.Need-same-length-2
-  body-same-length-2 c = let j = body-join c in j .join .kept .0 ∙ body-left (j .before) .before .loop .inv .marks-long
+  body-same-length-2 c = let j = body-join c in j .join .kept .0 ∙ body-items (j .before) .read-items .kept .1 .1 .1 .1 .0
 
   body-same-length-3 : Body body-lts.Need-same-length-3
-  body-same-length-3 c = body-left (body-join c .before) .before .loop .inv .rows-long
+  body-same-length-3 c = body-items (body-join c .before) .read-items .kept .1 .1 .1 .1 .1 .0
 
   body-returns : Body body-lts.Need-returns
   body-returns c =
       let j = body-join c in
-      let l = body-left (j .before) in
-      loop-done (l .before .loop .inv) (l .loop-test .left) (j .join .result) (j .join .last .0) (j .join .ensures)
+      let i = body-items (j .before) in
+      let f = body-first (i .before) in
+      (body-leaves (f .prefix .result) (first f) (i .read-items .ensures .0) (j .join .result) (j .join .last .0) (j .join .ensures), i .read-items .ensures .1)
+
+module _ (t : ℕ) where
+  -- a place of `read_items`, or what is needed there
+  abbrev Items : (items-lts.Claims → In 4 items-kinds.ps → Out 4 items-kinds.ps items-kinds.r → items-lts.InvT-loop → items-lts.MeasureT-loop → Type 0) → Type 0
+  Items P = P (items-calls t) (items-at t) items.Post Inv-loop μ-loop
+
+  -- from each place of `read_items` that has a name to the one before it
+  abbrev items-start : Items items-lts.After-kind-at → Items items-lts.Start
+  items-start c = c .before .before .before .before .before
+
+  abbrev turn : Items items-lts.After-item-arg3 → Items items-lts.In-loop
+  turn c = c .before .before .before
+
+  abbrev item-read : Items items-lts.After-slice-known6 → Items items-lts.After-item
+  item-read c = c .before .before .before .before .before .before
+
+  -- what an item left of the scratch, of the marks and of the rows
+  abbrev item-scratch : Items items-lts.After-item → List ℕ
+  item-scratch c = c .item .last .1 .1 .1 .1 .0
+
+  abbrev item-marks : Items items-lts.After-item → List ℕ
+  item-marks c = c .item .last .1 .1 .1 .1 .1 .0
+
+  abbrev item-rows : Items items-lts.After-item → List ℕ
+  item-rows c = c .item .last .1 .1 .1 .1 .1 .1 .0
+
+  next : (c : Items items-lts.After-item) → Next (turn (c .before) .before .loop .inv) (c .item .result) (item-scratch c) (item-marks c) (item-rows c)
+  next c =
+      record {
+        more-lines = turn (c .before) .loop-test .taken;
+        same-scratch = c .item .ensures .1;
+        marks-long = c .item .kept .1 .1 .1 .1 .1 .0;
+        rows-long = c .item .kept .1 .1 .1 .1 .1 .1 .0;
+        leaves = c .item .ensures .0;
+      }
+
+  items-kind-at-requires : Items items-lts.Need-kind-at-requires
+  items-kind-at-requires c κs = search needs
+
+  items-loop-holds : Items items-lts.Need-loop-holds
+  items-loop-holds c = loop-start (items-start c .pre .1) (c .kind-at .result) (c .kind-at .ensures)
+
+  items-item-requires : Items items-lts.Need-item-requires
+  items-item-requires c κs =
+      let i = turn c in
+      (omega (arith, items-start (i .before .before) .pre .0), loop-asks (i .before .loop .inv) (i .loop-test .taken))
+
+  items-kind-at-requires-2 : Items items-lts.Need-kind-at-requires-2
+  items-kind-at-requires-2 c κs = search needs
+
+  items-loop-less : Items items-lts.Need-loop-less
+  items-loop-less c = loop-less _ (next (item-read (c .before)))
+
+  items-loop-again : Items items-lts.Need-loop-again
+  items-loop-again c = loop-again _ (next (item-read (c .before))) (c .kind-at2 .result) (c .kind-at2 .ensures)
+
+  items-same-length : Items items-lts.Need-same-length
+  items-same-length c = ap length (c .before .loop .inv .same-scratch)
+
+  items-same-length-2 : Items items-lts.Need-same-length-2
+  items-same-length-2 c = c .before .loop .inv .marks-long
+
+  items-same-length-3 : Items items-lts.Need-same-length-3
+  items-same-length-3 c = c .before .loop .inv .rows-long
+
+  items-returns : Items items-lts.Need-returns
+  items-returns c = loop-done (c .before .loop .inv) (c .loop-test .left)
 
 module _ (t : ℕ) where
   -- a place of `item`, or what is needed there
@@ -382,26 +431,19 @@ module _ (t : ℕ) where
       let b = load-body (l .before) in
       (spawn-leaves _ (at-body b) (k .returned .ensures) (r .spawned .result) (r .spawned .last .0) (e .if3 .left) (subst (λ (x : Zones). Spawned (body-marks b) x (b .body .result) (r .spawned .result) (r .spawned .last .0)) (loaded l) (r .spawned .ensures)), unloaded l)
 
-pub +body+item-spec : {M : Type 1} → statement M
-+body+item-spec = close μ-body μ-item (λ t. body-lts.spec (body-calls t)
+pub +body+item+read-items-spec : {M : Type 1} → statement M
++body+item+read-items-spec = close μ-body μ-item μ-items (λ t. body-lts.spec (body-calls t)
     (body-at t)
     body.Post
-    body-Inv-loop
-    body-μ-loop
     (body-new-requires t)
     (body-prefix-requires t)
-    (body-kind-at-requires t)
-    (body-loop-holds t)
-    (body-item-requires t)
-    (body-kind-at-requires-2 t)
-    (body-loop-less t)
-    (body-loop-again t)
+    (body-read-items-requires t)
     (body-join-requires t)
     (body-same-length t)
     (body-same-length-2 t)
     (body-same-length-3 t)
     (body-returns t))
-    λ t. item-lts.spec (item-calls t)
+    (λ t. item-lts.spec (item-calls t)
     (item-at t)
     item.Post
     (item-weight-at-requires t)
@@ -433,4 +475,19 @@ pub +body+item-spec : {M : Type 1} → statement M
     (item-same-length-7 t)
     (item-same-length-8 t)
     (item-same-length-9 t)
-    (item-returns-4 t)
+    (item-returns-4 t))
+    λ t. items-lts.spec (items-calls t)
+    (items-at t)
+    items.Post
+    Inv-loop
+    μ-loop
+    (items-kind-at-requires t)
+    (items-loop-holds t)
+    (items-item-requires t)
+    (items-kind-at-requires-2 t)
+    (items-loop-less t)
+    (items-loop-again t)
+    (items-same-length t)
+    (items-same-length-2 t)
+    (items-same-length-3 t)
+    (items-returns t)
