@@ -9,12 +9,13 @@ use lib.ListN.{length, length-append}
 use lib.Seq.{append-snoc}
 use lib.Dec.{T, eqb}
 use Rattle.line.specs.declared.Frame.{Frame}
-use Rattle.line.specs.declared.Frame.the-variants.{Site, Call, Spawn, Sync, Return, Cost}
+use Rattle.line.specs.declared.Frame.the-variants.{Return}
 use Rattle.trace.specs.Shape.{Is, root, step, walk, openAt, has, sites}
 use Rattle.trace.specs.Rows.{made, ofRow, Sum}
 use Rattle.trace.specs.Tree.{Way, opening, Leaf, lineOf, Body, done, leaf, child, linesOf, size, AllSites, Parts, madeSum, rowSum}
 use Rattle.trace.proofs.Basics.{below}
-use Rattle.trace.proofs.Tree.{IsSite, site-or-not, opening-not-site, size-is, no-sites-lines, leaf-step, opening-step, leaf-makes, opening-makes, return-not-opening, leaf-not-opening}
+use Rattle.trace.proofs.Cases.{IsSite, site-or-not, at-site, site-step}
+use Rattle.trace.proofs.Tree.{opening-not-site, size-is, no-sites-lines, leaf-step, opening-step, leaf-makes, opening-makes, return-not-opening, leaf-not-opening}
 use Rattle.trace.proofs.Scan.{now}
 use Rattle.trace.proofs.Sites.{sites-append, sites-all, sites-none}
 use Rattle.trace.proofs.Recurrence.{Paid, paid}
@@ -85,12 +86,7 @@ inner t n o g u x h = record { around = o; post = u; ctx = x; start = λ k f l i
 -- the sites of a trace leave the root open
 pub heads-open : (h : List Frame) (n : ℕ) (o : List ℕ) → AllSites h → walk n o h (length h) ≡ o
 heads-open [] n o s = refl
-heads-open (Site i p ∷ h) n o s = heads-open h (suc n) o (s .1)
-heads-open (Call i ∷ h) n o s = absurd (s .0)
-heads-open (Spawn i ∷ h) n o s = absurd (s .0)
-heads-open (Sync ∷ h) n o s = absurd (s .0)
-heads-open (Return ∷ h) n o s = absurd (s .0)
-heads-open (Cost v ∷ h) n o s = absurd (s .0)
+heads-open (f ∷ h) n o s = ap (λ (x : List ℕ). walk (suc n) x h (length h)) (site-step f (s .0) n o) ∙ heads-open h (suc n) o (s .1)
 
 head-site : (h : List Frame) (k : ℕ) (f : Frame) → AllSites h → Is h k f → IsSite f
 head-site [] k f s i = absurd i
@@ -211,12 +207,9 @@ module _ (t : List Frame) (s : ℕ) (p : ℕ → ℕ → Type 0) (h : Body → �
 -- sites make nothing
 pub made-heads : (h u : List Frame) (n s : ℕ) → AllSites h → made n (h ++ u) s ≡ made (n + length h) u s
 made-heads [] u n s k = let e : n ≡ n + 0 = omega arith in ap (λ (m : ℕ). made m u s) e
-made-heads (Site i p ∷ h) u n s k = let e : suc n + length h ≡ n + suc (length h) = omega arith in made-heads h u (suc n) s (k .1) ∙ ap (λ (m : ℕ). made m u s) e
-made-heads (Call i ∷ h) u n s k = absurd (k .0)
-made-heads (Spawn i ∷ h) u n s k = absurd (k .0)
-made-heads (Sync ∷ h) u n s k = absurd (k .0)
-made-heads (Return ∷ h) u n s k = absurd (k .0)
-made-heads (Cost v ∷ h) u n s k = absurd (k .0)
+made-heads (f ∷ h) u n s k =
+    let e : suc n + length h ≡ n + suc (length h) = omega arith in
+    at-site (λ g. made n (g ∷ (h ++ u)) s ≡ made (suc n) (h ++ u) s) (λ i p. refl) f (k .0) ∙ made-heads h u (suc n) s (k .1) ∙ ap (λ (m : ℕ). made m u s) e
 
 -- LAW: what is said of each invocation by its body adds up over a row as it does over the tree
 pub row-sum : (D : ℕ) (t : List Frame) (x : Parts D t) (p : ℕ → ℕ → Type 0) (h : Body → ℕ) → ((F n : ℕ) (g : Body) → Inv t F n g → p F (h g)) → (s : ℕ) → Sum p (ofRow t s) (rowSum h s (x .body))

@@ -7,7 +7,6 @@ use Prim.Native.Nat.{ℕ, _+_, _*_, _/_, _%_, _≤_, _<_}
 use native.Mathlib.Omega.{arith}
 use lib.ListN.{length, getD}
 use Rattle.line.specs.declared.Frame.{Frame}
-use Rattle.line.specs.declared.Frame.the-variants.{Site, Call, Spawn, Sync, Return, Cost}
 use Rattle.trace.specs.declared.Answer.{Answer}
 use Rattle.trace.specs.Shape.{sites}
 use Rattle.trace.specs.Rows.{columns}
@@ -16,7 +15,8 @@ use Rattle.trace.specs.Promise.{Engine, tables, marks, Lent, marksRoom, 
 use Rattle.trace.specs.Places.{OnlyPlaces, RefusedWith}
 use Rattle.trace.specs.Tree.{Way, call, spawn, opening, Leaf, spend, sync, lineOf, Body, done, leaf, child, linesOf, AllSites, Parts}
 use Rattle.trace.specs.ByTree.{ProfileBy}
-use Rattle.trace.proofs.Tree.{IsSite, parts-one}
+use Rattle.trace.proofs.Cases.{IsSite, at-site}
+use Rattle.trace.proofs.Tree.{parts-one}
 use Rattle.trace.proofs.Parse.{accepted-parts}
 use Rattle.trace.proofs.Invocations.{sites-are}
 use Rattle.trace.proofs.Outcome.{profile-tree, by-tree-unique}
@@ -37,15 +37,7 @@ blanks-lines (child w s g r) = rw (blank-opening w s, blanks-append (linesOf g) 
 
 blanks-sites : (h : List Frame) → AllSites h → AllSites (blanks h)
 blanks-sites [] s = tt
-blanks-sites (f ∷ h) s = (blank-site f (s .0), blanks-sites h (s .1))
-  where
-    blank-site : (f : Frame) → IsSite f → IsSite (blank f)
-    blank-site (Site i p) k = tt
-    blank-site (Call i) k = absurd k
-    blank-site (Spawn i) k = absurd k
-    blank-site Sync k = absurd k
-    blank-site Return k = absurd k
-    blank-site (Cost v) k = absurd k
+blanks-sites (f ∷ h) s = (at-site (λ g. IsSite (blank g)) (λ i p. tt) f (s .0), blanks-sites h (s .1))
 
 -- LAW: they have as many sites, and one tree
 pub same-parts : (D E : ℕ) (t u : List Frame) (p : Parts D t) (q : Parts E u) → ButPlaces t u → (length (p .heads) ≡ length (q .heads)) × (p .body ≡ q .body)
