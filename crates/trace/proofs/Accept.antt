@@ -16,9 +16,9 @@ use Rattle.trace.specs.Shape.{root, step, sites}
 use Rattle.trace.specs.Refusals.{lineCount, openNow, empty, allSites, lastSite, misplaced, aboveM, placed, placeAgain, declared, undeclared, tooDeep, fault, accepted, refused, judged, scan, reads, verdict}
 use Rattle.trace.specs.Tree.{Way, call, spawn, opening, Leaf, spend, sync, lineOf, LeafWithin, Body, done, leaf, child, linesOf, Within, AllSites}
 use Rattle.trace.proofs.Cases.{IsSite, NotSite, other, at-site, site-step}
-use Rattle.trace.proofs.Tree.{leaf-not-site, opening-not-site, leaf-step, opening-step, leaf-makes, opening-makes}
+use Rattle.trace.proofs.Tree.{leaf-not-site, opening-not-site, no-sites-lines, leaf-step, opening-step, leaf-makes, opening-makes}
 use Rattle.trace.proofs.Scan.{InTable, Clean, Reads, reads-length, reads-from-length, Fine, Accepts, accepted-is, faultless, fault-zero, now}
-use Rattle.trace.proofs.Sites.{sites-all, declared-same, Numbered, numbered-start, upto-declared, numbered-snoc, clean-sites}
+use Rattle.trace.proofs.Sites.{sites-none, sites-append, declared-same, Numbered, numbered-start, upto-declared, numbered-snoc, clean-sites}
 use Rattle.trace.proofs.Parse.{parts}
 use Rattle.trace.proofs.Bounds.{Safe, thirteen-never, safe-snoc, safe-start}
 
@@ -32,7 +32,7 @@ pub record IsTrace (D M : ℕ) (t : List Frame) : Type 0 where
   pub body : Body
   pub lines : t ≡ heads ++ linesOf body
   pub heads-ok : HeadsOk M [] heads
-  pub within : Within (length heads) D 1 body
+  pub within : Within (sites t) D 1 body
 
 heads-pass : (D M : ℕ) (before h u : List Frame) → AllSites h → Clean D M before (h ++ u) → HeadsOk M before h
 heads-pass D M before [] u s c = tt
@@ -178,16 +178,17 @@ module _ (D M : ℕ) (most : D ≤ 64) (least : 1 ≤ D) where
   tree-passes t l x =
       let ss = heads-sites M [] (x .heads) (x .heads-ok) in
       let len : length t ≡ length (x .heads) + length (linesOf (x .body)) = ap length (x .lines) ∙ length-append (x .heads) (linesOf (x .body)) in
-      let st : State (length (x .heads)) (x .heads) (root ∷ []) = record {
+      let are : sites t ≡ sites (x .heads) = omega (arith, ap sites (x .lines), sites-append (x .heads) (linesOf (x .body)), sites-none (linesOf (x .body)) (no-sites-lines (x .body))) in
+      let st : State (sites t) (x .heads) (root ∷ []) = record {
         opened = heads-open [] (x .heads) (root ∷ []) ss refl;
         safe = safe-heads [] (x .heads) ss (safe-start D most least);
-        decl = λ i lo hi. upto-declared (x .heads) (heads-numb [] (x .heads) (x .heads-ok) numbered-start) i lo (omega (arith, sites-all (x .heads) ss));
+        decl = λ i lo hi. upto-declared (x .heads) (heads-numb [] (x .heads) (x .heads-ok) numbered-start) i lo (omega (arith, are));
       } in
-      let end = state-body (length (x .heads)) (x .body) (x .heads) root [] st (x .within) in
+      let end = state-body (sites t) (x .body) (x .heads) root [] st (x .within) in
       let e : x .heads ++ (linesOf (x .body) ++ []) ≡ t = ap (λ (z : List Frame). x .heads ++ z) (append-nil (linesOf (x .body))) ∙ sym (x .lines) in
       subst (Clean D M []) e
       (clean-heads [] (x .heads) (linesOf (x .body) ++ []) root [] (x .heads-ok) (safe-start D most least) refl (omega arith)
-      (clean-body (length (x .heads)) (x .body) (x .heads) root [] [] st (x .within) (omega arith) (ap empty (end .opened))))
+      (clean-body (sites t) (x .body) (x .heads) root [] [] st (x .within) (omega arith) (ap empty (end .opened))))
 
 -- LAW: lines pass exactly where they are sites in order and then the lines of a body within the limits
 pub fine-is-trace : (D M : ℕ) (t : List Frame) → Fine D M t → IsTrace D M t

@@ -11,14 +11,14 @@ use borrow.Author.Tests.{eqb-false, ltb-false, not-false}
 use Rattle.line.specs.declared.Place.{Place}
 use Rattle.line.specs.declared.Frame.{Frame}
 use Rattle.line.specs.declared.Frame.the-variants.{Site, Call, Spawn, Sync, Return, Cost}
-use Rattle.trace.specs.Shape.{root, step}
+use Rattle.trace.specs.Shape.{root, step, sites}
 use Rattle.trace.specs.Refusals.{openNow, empty, declared, accepted, verdict}
 use Rattle.trace.specs.Tree.{Way, call, spawn, opening, Leaf, spend, sync, lineOf, LeafWithin, Body, done, leaf, child, linesOf, Within, AllSites, Parts}
 use Rattle.trace.proofs.Basics.{no-way, neither}
 use Rattle.trace.proofs.Cases.{NotSite, NoSites, by-site}
 use Rattle.trace.proofs.Tree.{no-sites-right, leaf-not-site, opening-not-site, no-sites-lines, leaf-step, opening-step, parts-one}
 use Rattle.trace.proofs.Scan.{Clean, Fine, accepted-fine, faultless, now}
-use Rattle.trace.proofs.Sites.{sites-all, other-before, no-sites-after, declared-same, Numbered, numbered-start, declared-upto, numbered-snoc}
+use Rattle.trace.proofs.Sites.{sites-append, other-before, no-sites-after, declared-same, Numbered, numbered-start, declared-upto, numbered-snoc}
 
 -- the sites, and the rest
 pub record Split (D M : ℕ) (before u : List Frame) : Type 0 where
@@ -179,8 +179,8 @@ closed D M before (f ∷ u) o c = no-way (sym (faultless D M before f (c .0) .no
 pub parts : (D M : ℕ) (t : List Frame) → Fine D M t → Parts D t
 parts D M t f =
     let s = split D M [] t refl numbered-start (f .clean) in
-    let upto : (i : ℕ) → declared i (s .heads) ≡ true → i ≤ length (s .heads) = λ i d. omega (arith, declared-upto (s .heads) (s .numb) i d, sites-all (s .heads) (s .all-sites)) in
-    let p = parse D M (length (s .heads)) (length (s .rest)) (s .heads) (s .rest) root [] (omega arith) (s .rest-are) upto (s .opened) (s .clean) in
+    let upto : (i : ℕ) → declared i (s .heads) ≡ true → i ≤ sites t = λ i d. omega (arith, declared-upto (s .heads) (s .numb) i d, ap sites (s .lines), sites-append (s .heads) (s .rest)) in
+    let p = parse D M (sites t) (length (s .rest)) (s .heads) (s .rest) root [] (omega arith) (s .rest-are) upto (s .opened) (s .clean) in
     let c = closed D M (s .heads ++ linesOf (p .body)) (p .rest) (p .now-open) (p .clean) in
     record {
       heads = s .heads;

@@ -69,7 +69,7 @@ walk-blank n o (e ∷ t) (suc j) =
 now-blank : (t : List Frame) → openNow (blanks t) ≡ openNow t
 now-blank t = ap (openAt (blanks t)) (blanks-length t) ∙ walk-blank 0 (root ∷ []) t (length t)
 
-sites-blank : (t : List Frame) → sites (blanks t) ≡ sites t
+pub sites-blank : (t : List Frame) → sites (blanks t) ≡ sites t
 sites-blank [] = refl
 sites-blank (f ∷ t) = unseen (λ e. sites (e ∷ blanks t)) (λ s p q. refl) f ∙ ap (λ (n : ℕ). ifSite (λ s p. suc n) n f) (sites-blank t)
 
