@@ -12,7 +12,7 @@ use lib.Dec.{eqb, ltb}
 use borrow.Author.Tests.{ltb-true, eqb-true, eqb-false, eq-eqb, ne-eqb}
 use Rattle.line.specs.declared.Place.{Place}
 use Rattle.line.specs.declared.Frame.{Frame}
-use Rattle.line.specs.declared.Frame.the-variants.{Site, Call, Spawn, Sync, Return, Cost}
+use Rattle.line.specs.declared.Frame.the-variants.{Site}
 use Rattle.line.specs.declared.Read.the-variants.{Line}
 use Rattle.line.specs.declared.Sight.the-variants.{Seen}
 use Rattle.line.specs.Table.{table, fieldsOf}
@@ -22,18 +22,16 @@ use Rattle.line.specs.Seeing.{seenOf}
 use Rattle.line.proofs.RoundTrip.{read-write}
 use Rattle.trace.specs.Shape.{ifSite, has, sites}
 use Rattle.trace.specs.Refusals.{samePlace, placed, placeAgain}
-use Rattle.trace.proofs.Basics.{both, neither}
+use Rattle.trace.proofs.Basics.{clash, both, neither}
+use Rattle.trace.proofs.Cases.{by-site, other, either-way, both-ways}
 use Rattle.trace.proofs.Sites.{sites-append}
 use Rattle.admit.specs.Step.{key, tag, tagsOf, seen, kept}
 
 -- a line that is seen at a glance declares no place
 pub none-seen : (ks : List ℕ) (n : ℕ) (f : Frame) → seenOf f ≡ Seen f → (seen ks n f ≡ false) × (kept ks n f ≡ ks)
-none-seen ks n (Site s p) e = absurd (let z : _≡_ {A = ℕ} 0 1 = cc in omega arith)
-none-seen ks n (Call s) e = (refl, refl)
-none-seen ks n (Spawn s) e = (refl, refl)
-none-seen ks n Sync e = (refl, refl)
-none-seen ks n Return e = (refl, refl)
-none-seen ks n (Cost v) e = (refl, refl)
+none-seen ks n f e =
+    by-site (λ g. seenOf g ≡ Seen g → (seen ks n g ≡ false) × (kept ks n g ≡ ks)) (λ s p e. clash (cc))
+    (λ g o e. (other (λ s p. has (key p) (take n ks)) false g o, other (λ s p. set ks n (key p)) ks g o)) f e
 
 -- ── the lookup ──
 
@@ -122,12 +120,7 @@ same-key p q m n = go (eqb (p .file) (q .file)) (eqb (p .line) (q .line)) (eqb (
 -- ── the places of the site lines ──
 
 abbrev pub NarrowSite : Frame → Type 0
-NarrowSite (Site s p) = Narrow p
-NarrowSite (Call s) = Unit {0}
-NarrowSite (Spawn s) = Unit {0}
-NarrowSite Sync = Unit {0}
-NarrowSite Return = Unit {0}
-NarrowSite (Cost v) = Unit {0}
+NarrowSite f = (s : ℕ) (p : Place) → f ≡ Site s p → Narrow p
 
 abbrev pub NarrowSites : List Frame → Type 0
 NarrowSites [] = Unit {0}
@@ -139,17 +132,12 @@ narrow-snoc (e ∷ t) f h n = (h .0, narrow-snoc t f (h .1) n)
 
 -- a line that reads as a site has a narrow place
 pub read-narrow : (s : List ℕ) (n k : ℕ) (f : Frame) → readAt s n ≡ Line k f → NarrowSite f
-read-narrow s n k (Site i p) e =
-    let w = both (narrow (fieldsOf (Site i p))) (isFrame (table (fieldsOf (Site i p)))) (read-write (lineAt s n) n k (Site i p) e .1) .0 in
+read-narrow s n k f e i p q =
+    let w = both (narrow (fieldsOf (Site i p))) (isFrame (table (fieldsOf (Site i p)))) (read-write (lineAt s n) n k (Site i p) (e ∙ ap (Line k) q) .1) .0 in
     let c = both (ltb 1 256 && ltb i 65536 && ltb (p .line) 4294967296 && ltb (p .file) 65536) (ltb (p .column) 65536) w in
     let f = both (ltb 1 256 && ltb i 65536 && ltb (p .line) 4294967296) (ltb (p .file) 65536) (c .0) in
     let l = both (ltb 1 256 && ltb i 65536) (ltb (p .line) 4294967296) (f .0) in
     record { file = ltb-true (p .file) 65536 (f .1); line = ltb-true (p .line) 4294967296 (l .1); column = ltb-true (p .column) 65536 (c .1) }
-read-narrow s n k (Call i) e = tt
-read-narrow s n k (Spawn i) e = tt
-read-narrow s n k Sync e = tt
-read-narrow s n k Return e = tt
-read-narrow s n k (Cost v) e = tt
 
 -- their keys, in their order
 abbrev pub keysOf : List Frame → List ℕ
@@ -158,21 +146,18 @@ keysOf (f ∷ t) = ifSite (λ s p. key p ∷ keysOf t) (keysOf t) f
 
 pub keys-snoc : (t : List Frame) (f : Frame) → keysOf (t ++ f ∷ []) ≡ keysOf t ++ ifSite (λ s p. key p ∷ []) [] f
 keys-snoc [] f = refl
-keys-snoc (Site s p ∷ t) f = ap (λ (l : List ℕ). key p ∷ l) (keys-snoc t f)
-keys-snoc (Call s ∷ t) f = keys-snoc t f
-keys-snoc (Spawn s ∷ t) f = keys-snoc t f
-keys-snoc (Sync ∷ t) f = keys-snoc t f
-keys-snoc (Return ∷ t) f = keys-snoc t f
-keys-snoc (Cost v ∷ t) f = keys-snoc t f
+keys-snoc (e ∷ t) f =
+    both-ways (λ (x y : List ℕ). x ≡ y ++ ifSite (λ s p. key p ∷ []) [] f) e (λ s p. ap (λ (l : List ℕ). key p ∷ l) (keys-snoc t f)) (keys-snoc t f)
 
 pub has-place : (p : Place) (t : List Frame) → Narrow p → NarrowSites t → has (key p) (keysOf t) ≡ placed p t
 has-place p [] m n = refl
-has-place p (Site s q ∷ t) m n = rw (same-key p q m (n .0), has-place p t m (n .1))
-has-place p (Call s ∷ t) m n = has-place p t m (n .1)
-has-place p (Spawn s ∷ t) m n = has-place p t m (n .1)
-has-place p (Sync ∷ t) m n = has-place p t m (n .1)
-has-place p (Return ∷ t) m n = has-place p t m (n .1)
-has-place p (Cost v ∷ t) m n = has-place p t m (n .1)
+has-place p (f ∷ t) m n =
+    by-site (λ g. NarrowSite g → has (key p) (keysOf (g ∷ t)) ≡ placed p (g ∷ t)) (λ s q w. rw (same-key p q m (w s q refl), has-place p t m (n .1)))
+    (λ g o w.
+    ap (has (key p)) (other (λ s q. key q ∷ keysOf t) (keysOf t) g o)
+    ∙ has-place p t m (n .1)
+    ∙ sym (other (λ s q. samePlace p q || placed p t) (placed p t) g o))
+    f (n .0)
 
 -- ── the kept keys ──
 
@@ -180,12 +165,9 @@ has-place p (Cost v ∷ t) m n = has-place p t m (n .1)
 module _ (ks : List ℕ) (before : List Frame) (are : take (sites before) ks ≡ keysOf before) where
   -- the lookup finds refusal 10
   pub seen-is : (f : Frame) → NarrowSites before → NarrowSite f → seen ks (sites before) f ≡ placeAgain before f
-  seen-is (Site s p) n m = ap (has (key p)) are ∙ has-place p before m n
-  seen-is (Call s) n m = refl
-  seen-is (Spawn s) n m = refl
-  seen-is Sync n m = refl
-  seen-is Return n m = refl
-  seen-is (Cost v) n m = refl
+  seen-is f n m =
+      by-site (λ g. NarrowSite g → seen ks (sites before) g ≡ placeAgain before g) (λ s p w. ap (has (key p)) are ∙ has-place p before (w s p refl) n)
+      (λ g o w. other (λ s p. has (key p) (take (sites before) ks)) false g o ∙ sym (other (λ s p. placed p before) false g o)) f m
 
   -- the keys with a line's place kept are those of the places declared with it
   pub kept-is : (f : Frame) → sites before < length ks → take (sites (before ++ f ∷ [])) (kept ks (sites before) f) ≡ keysOf (before ++ f ∷ [])
@@ -194,20 +176,20 @@ module _ (ks : List ℕ) (before : List Frame) (are : take (sites before) ks ≡
       same : take (sites before + 0) ks ≡ keysOf before ++ []
       same = let z : sites before + 0 ≡ sites before = omega arith in rw z (are ∙ sym (append-nil (keysOf before)))
 
-      go : (f : Frame) → take (sites before + sites (f ∷ [])) (kept ks (sites before) f) ≡ keysOf before ++ ifSite (λ s p. key p ∷ []) [] f
-      go (Site s p) =
+      a-site : (s : ℕ) (p : Place) → take (sites before + 1) (set ks (sites before) (key p)) ≡ keysOf before ++ key p ∷ []
+      a-site s p =
           let z : sites before + 1 ≡ suc (sites before) = omega arith in
           rw z (take-suc-set ks (sites before) (key p) l ∙ ap (λ (u : List ℕ). u ++ key p ∷ []) are)
-      go (Call s) = same
-      go (Spawn s) = same
-      go Sync = same
-      go Return = same
-      go (Cost v) = same
+
+      go : (f : Frame) → take (sites before + sites (f ∷ [])) (kept ks (sites before) f) ≡ keysOf before ++ ifSite (λ s p. key p ∷ []) [] f
+      go f =
+          by-site (λ g. take (sites before + sites (g ∷ [])) (kept ks (sites before) g) ≡ keysOf before ++ ifSite (λ s p. key p ∷ []) [] g) a-site
+          (λ g o.
+          ap (λ (n : ℕ). take (sites before + n) (kept ks (sites before) g)) (other (λ s p. 1) 0 g o)
+          ∙ ap (take (sites before + 0)) (other (λ s p. set ks (sites before) (key p)) ks g o)
+          ∙ same
+          ∙ ap (λ (u : List ℕ). keysOf before ++ u) (sym (other (λ s p. key p ∷ []) [] g o)))
+          f
 
   pub kept-length : (f : Frame) → length (kept ks (sites before) f) ≡ length ks
-  kept-length (Site s p) = length-set ks (sites before) (key p)
-  kept-length (Call s) = refl
-  kept-length (Spawn s) = refl
-  kept-length Sync = refl
-  kept-length Return = refl
-  kept-length (Cost v) = refl
+  kept-length f = either-way (λ (l : List ℕ). length l ≡ length ks) f (λ s p. length-set ks (sites before) (key p)) refl

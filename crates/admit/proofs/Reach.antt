@@ -18,7 +18,7 @@ use Rattle.trace.specs.Shape.{sites}
 use Rattle.trace.specs.Refusals.{lineCount, openNow, afterRoot, fault, accepted, refused, judged, scan, readsFrom, reads}
 use Rattle.trace.specs.Refusals.{Verdict as Judgement}
 use Rattle.trace.proofs.Scan.{read-line, faultless}
-use Rattle.trace.proofs.Sites.{sites-le}
+use Rattle.trace.proofs.Sites.{sites-le, Numbered, numbered-start, numbered-snoc, within-snoc}
 use Rattle.trace.proofs.Bounds.{Safe, thirteen-never, safe-snoc, safe-start}
 use Rattle.admit.specs.declared.Verdict.the-variants.{Accepted}
 use Rattle.admit.specs.declared.Verdict.the-variants.{Refused as Denied}
@@ -27,7 +27,7 @@ use Rattle.admit.specs.declared.Tallied.{Tallied}
 use Rattle.admit.specs.Answer.{answerOf}
 use Rattle.admit.specs.Step.{tallyOf, tagsOf, refuse, next, judgedBy, keptBy, stepped, seen, kept, Limits, Within}
 use Rattle.admit.proofs.Keys.{NarrowSites, narrow-snoc, read-narrow, keysOf, seen-is, kept-is, kept-length}
-use Rattle.admit.proofs.Tallies.{Numbered, numbered-start, numbered-snoc, within-snoc, none-open, judgement, step-is}
+use Rattle.admit.proofs.Tallies.{none-open, judgement, step-is}
 
 -- what is known behind the lines before
 pub record Known (D M : ℕ) (s ks : List ℕ) (before : List Frame) : Type 0 where

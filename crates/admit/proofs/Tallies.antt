@@ -1,92 +1,21 @@
 -- A line's fault by the tally: the step on numbers gives what the refusals say of the line behind the lines before it.
 use mathlib.Core.Path.{_≡_, refl, sym, _∙_, ap}
-use mathlib.Core.Bool.{Bool, true, false, not, cond, _||_, or-false, or-assoc}
+use mathlib.Core.Bool.{Bool, true, false, not, cond, _||_}
 use mathlib.Core.List.{List, [], _∷_, _++_}
-use Prim.Native.Nat.{ℕ, suc, _+_, _-_, _≤_}
+use Prim.Native.Nat.{ℕ, suc, _+_, _-_}
 use native.Mathlib.Omega.{arith}
 use lib.ListN.{length, length-append}
 use lib.Dec.{eqb, ltb, leb}
-use borrow.Author.Tests.{eqb-true, eqb-false, ltb-false, leb-true, leb-false, ne-eqb, lt-ltb, le-ltb, le-leb, lt-leb, not-false}
+use borrow.Author.Tests.{eqb-false, leb-true, leb-false, ne-eqb, lt-ltb, le-ltb}
 use Rattle.line.specs.declared.Frame.{Frame}
 use Rattle.line.specs.declared.Frame.the-variants.{Site, Call, Spawn, Sync, Return, Cost}
-use Rattle.trace.specs.Shape.{ifSite, closed, step, sites}
-use Rattle.trace.specs.Refusals.{openNow, empty, afterRoot, lastSite, allSites, misplaced, aboveM, placed, placeAgain, declared, beyond, fault}
-use Rattle.trace.proofs.Basics.{neither}
+use Rattle.trace.specs.Shape.{closed, step, sites}
+use Rattle.trace.specs.Refusals.{openNow, empty, afterRoot, lastSite, allSites, placed, placeAgain, declared, beyond, fault}
 use Rattle.trace.proofs.Scan.{now}
-use Rattle.trace.proofs.Sites.{sites-append}
+use Rattle.trace.proofs.Sites.{sites-append, Numbered}
 use Rattle.admit.specs.declared.Tally.{Tally}
 use Rattle.admit.specs.declared.Tallied.{Tallied}
 use Rattle.admit.specs.Step.{tallyOf, refuse, next, stepped}
-
--- ── sites are numbered 1, 2, 3 and on ──
-
-pub record Numbered (before : List Frame) : Type 0 where
-  pub last : lastSite 0 before ≡ sites before
-  pub each : (s : ℕ) → 1 ≤ s → declared s before ≡ leb s (sites before)
-
-last-snoc : (b : List Frame) (n : ℕ) (f : Frame) → lastSite n (b ++ f ∷ []) ≡ ifSite (λ s p. s) (lastSite n b) f
-last-snoc [] n f = refl
-last-snoc (Site s p ∷ b) n f = last-snoc b s f
-last-snoc (Call s ∷ b) n f = last-snoc b n f
-last-snoc (Spawn s ∷ b) n f = last-snoc b n f
-last-snoc (Sync ∷ b) n f = last-snoc b n f
-last-snoc (Return ∷ b) n f = last-snoc b n f
-last-snoc (Cost v ∷ b) n f = last-snoc b n f
-
-declared-snoc : (b : List Frame) (x : ℕ) (f : Frame) → declared x (b ++ f ∷ []) ≡ (declared x b || declared x (f ∷ []))
-declared-snoc [] x f = refl
-declared-snoc (Site s p ∷ b) x f = ap (λ (y : Bool). eqb x s || y) (declared-snoc b x f) ∙ sym (or-assoc (eqb x s) (declared x b) (declared x (f ∷ [])))
-declared-snoc (Call s ∷ b) x f = declared-snoc b x f
-declared-snoc (Spawn s ∷ b) x f = declared-snoc b x f
-declared-snoc (Sync ∷ b) x f = declared-snoc b x f
-declared-snoc (Return ∷ b) x f = declared-snoc b x f
-declared-snoc (Cost v ∷ b) x f = declared-snoc b x f
-
-pub numbered-start : Numbered []
-numbered-start = record { last = refl; each = λ s l. sym (lt-leb s 0 (omega arith)) }
-
--- a line of another kind
-other : (before : List Frame) (f : Frame) → lastSite 0 (before ++ f ∷ []) ≡ lastSite 0 before → _≡_ {A = ℕ} (sites (f ∷ [])) 0 → ((x : ℕ) → declared x (f ∷ []) ≡ false) → Numbered before → Numbered (before ++ f ∷ [])
-other before f a b c h =
-    let e : sites (before ++ f ∷ []) ≡ sites before = omega (arith, sites-append before (f ∷ [])) in
-    record {
-      last = a ∙ h .last ∙ sym e;
-      each = λ s l. declared-snoc before s f ∙ ap (λ (y : Bool). declared s before || y) (c s) ∙ or-false (declared s before) ∙ h .each s l ∙ ap (leb s) (sym e);
-    }
-
--- among n, or the next one
-one-more : (x n : ℕ) → (leb x n || eqb x (suc n)) ≡ leb x (suc n)
-one-more x n = go (leb x n) (eqb x (suc n)) refl refl
-  where
-    go : (a b : Bool) → leb x n ≡ a → eqb x (suc n) ≡ b → (a || b) ≡ leb x (suc n)
-    go true b e f = sym (le-leb x (suc n) (omega (arith, leb-true x n e)))
-    go false true e f = sym (le-leb x (suc n) (omega (arith, eqb-true x (suc n) f)))
-    go false false e f = sym (lt-leb x (suc n) (omega (arith, leb-false x n e, eqb-false x (suc n) f)))
-
-pub numbered-snoc : (before : List Frame) (f : Frame) → misplaced before f ≡ false → Numbered before → Numbered (before ++ f ∷ [])
-numbered-snoc before (Site s p) m h =
-    let q = eqb-true s (suc (lastSite 0 before)) (not-false (eqb s (suc (lastSite 0 before))) (neither (not (allSites before)) (not (eqb s (suc (lastSite 0 before)))) m .1)) in
-    let k : s ≡ suc (sites before) = omega (arith, q, h .last) in
-    let e : sites (before ++ Site s p ∷ []) ≡ suc (sites before) = omega (arith, sites-append before (Site s p ∷ [])) in
-    record {
-      last = last-snoc before 0 (Site s p) ∙ k ∙ sym e;
-      each = λ x l. declared-snoc before x (Site s p) ∙ ap (λ (y : Bool). declared x before || y) (or-false (eqb x s)) ∙ ap (λ (y : Bool). y || eqb x s) (h .each x l) ∙ ap (λ (z : ℕ). leb x (sites before) || eqb x z) k ∙ one-more x (sites before) ∙ ap (leb x) (sym e);
-    }
-numbered-snoc before (Call s) m h = other before (Call s) (last-snoc before 0 (Call s)) refl (λ x. refl) h
-numbered-snoc before (Spawn s) m h = other before (Spawn s) (last-snoc before 0 (Spawn s)) refl (λ x. refl) h
-numbered-snoc before Sync m h = other before Sync (last-snoc before 0 Sync) refl (λ x. refl) h
-numbered-snoc before Return m h = other before Return (last-snoc before 0 Return) refl (λ x. refl) h
-numbered-snoc before (Cost v) m h = other before (Cost v) (last-snoc before 0 (Cost v)) refl (λ x. refl) h
-
--- the sites stay within M
-pub within-snoc : (M : ℕ) (before : List Frame) (f : Frame) → misplaced before f ≡ false → aboveM M f ≡ false → Numbered before → sites before ≤ M → sites (before ++ f ∷ []) ≤ M
-within-snoc M before (Site s p) m a h l =
-    omega (arith, ltb-false M s a, last-snoc before 0 (Site s p), numbered-snoc before (Site s p) m h .last)
-within-snoc M before (Call s) m a h l = omega (arith, sites-append before (Call s ∷ []))
-within-snoc M before (Spawn s) m a h l = omega (arith, sites-append before (Spawn s ∷ []))
-within-snoc M before Sync m a h l = omega (arith, sites-append before (Sync ∷ []))
-within-snoc M before Return m a h l = omega (arith, sites-append before (Return ∷ []))
-within-snoc M before (Cost v) m a h l = omega (arith, sites-append before (Cost v ∷ []))
 
 -- ── the tests by the tally ──
 

@@ -6,14 +6,14 @@ use Prim.Native.Nat.{ℕ, suc, _+_, _*_, _≤_, _<_}
 use native.Mathlib.Numerals.{add-one}
 use native.Mathlib.Omega.{arith}
 use lib.Dec.{eqb}
-use lib.ListN.{length, getD}
+use lib.ListN.{getD}
 use borrow.Author.Tests.{eqb-true, eqb-false}
 use Rattle.line.specs.declared.Frame.{Frame}
 use Rattle.chain.specs.Plan.{CostLine, costs}
 use Rattle.chain.specs.Over.{linesIn}
 use Rattle.trace.specs.Shape.{has}
 use Rattle.trace.specs.Rows.{columns}
-use Rattle.trace.specs.Tree.{leafWork, Body, done, leaf, child, size, Within, Parts, workOf}
+use Rattle.trace.specs.Tree.{leafWork, Body, done, leaf, child, size, Within, Parts, workOf, rootAt}
 use Rattle.trace.specs.Fold.{plan, onRow}
 use Rattle.trace.proofs.Basics.{cond-le}
 use Rattle.trace.proofs.Root.{rootChain}
@@ -85,6 +85,6 @@ module _ (m c : List ℕ) (k : ℕ) where
 
 -- LAW: where the marks of the root's lines show its chain, column 5 of a row grows by the row's part of it
 pub on-row : (D : ℕ) (t : List Frame) (p : Parts D t) (m : List ℕ) (k : ℕ)
-    → ((i : ℕ) → length (p .heads) ≤ i → i < length (p .heads) + size (p .body) → getD m i 0 ≡ cond (has i (linesIn (rootChain D t p))) 1 0)
-    → onGain m (length (p .heads)) 0 (p .body) (columns * k + 4) ≡ onRow k (rootChain D t p)
-on-row D t p m k h = on-costs m (linesIn (rootChain D t p)) k (p .body) (length (p .heads)) 0 h ∙ sym (on-span-costs D t p (linesIn (rootChain D t p)) k) ∙ on-span-tree D t p k
+    → ((i : ℕ) → rootAt p ≤ i → i < rootAt p + size (p .body) → getD m i 0 ≡ cond (has i (linesIn (rootChain D t p))) 1 0)
+    → onGain m (rootAt p) 0 (p .body) (columns * k + 4) ≡ onRow k (rootChain D t p)
+on-row D t p m k h = on-costs m (linesIn (rootChain D t p)) k (p .body) (rootAt p) 0 h ∙ sym (on-span-costs D t p (linesIn (rootChain D t p)) k) ∙ on-span-tree D t p k

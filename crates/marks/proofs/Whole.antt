@@ -19,17 +19,17 @@ use Rattle.trace.specs.Tree.{Body, linesOf, size, Within, Parts, workOf, spanOf
 use Rattle.trace.specs.Fold.{nothing, chainOf, onRow}
 use Rattle.trace.proofs.Basics.{clash}
 use Rattle.trace.proofs.Scan.{Fine, accepted-is, accepted-same}
-use Rattle.trace.proofs.Outcome.{tree-profile, work-small}
+use Rattle.trace.proofs.Outcome.{tree-profile, work-small, length-is, profile-same}
 use Rattle.admit.specs.declared.Verdict.the-variants as Verdict
 use Rattle.admit.specs.Answer.{admission}
 use Rattle.admit.proofs.Admitted.{refused-only, accepted-only}
 use Rattle.walk.specs.declared.Open.{Open}
 use Rattle.walk.specs.Stands.{Stands}
 use Rattle.walk.specs.Gain.{returned, Grown}
-use Rattle.walk.proofs.Root.{tree, first-line, last-line}
+use Rattle.walk.proofs.Root.{tree}
 use Rattle.walk.proofs.Room.{lines-in}
 use Rattle.walk.proofs.Zeros.{zeros-at}
-use Rattle.walk.proofs.Accepted.{fine, limits, rooms, rows-room, cleared, body, stands, ready, work-is, span-is, count-fits, cells, none-on, rest}
+use Rattle.walk.proofs.Accepted.{fine, limits, rooms, rows-room, cleared, body, stands, ready, work-is, span-is, count-fits, cells, none-on, rest, first, first-is}
 use Rattle.marks.specs.Shown.{Wiped}
 use Rattle.marks.specs.Reader.{BodyAsks, BodyLeft, BodyLeaves}
 use Rattle.marks.specs.Column.{onGain, ColumnAsks, ColumnLeaves}
@@ -45,13 +45,17 @@ module _ {s : List ℕ} {D M : ℕ} {x : Lent} {count lines : ℕ} (a : Admitted
   abbrev b : Body
   b = body marks s D M x t (a .is) count (a .count-is)
 
+  -- the line at which it begins
+  abbrev at : ℕ
+  at = first marks s D M x t (a .is) count (a .count-is)
+
   abbrev rows₀ : List ℕ
   rows₀ = cleared marks s D M x t (a .is) count (a .count-is)
 
   abbrev good : Fine D M t
   good = fine marks s D M x t (a .is) count (a .count-is)
 
-  here : Stands s count (linesOf b)
+  here : Stands s at (linesOf b)
   here = stands marks s D M x t (a .is) count (a .count-is)
 
   long : (scratchRoom marks D M ≤ length (x .scratch)) × (rowsRoom M ≤ length (x .rows)) × (marksRoom marks s ≤ length (x .marks))
@@ -63,8 +67,8 @@ module _ {s : List ℕ} {D M : ℕ} {x : Lent} {count lines : ℕ} (a : Admitted
   pub rows-in : columns * (count + 1) ≤ length (x .rows)
   rows-in = rows-room marks s D M x t (a .is) count (a .count-is)
 
-  lines-are : lines ≡ count + size b
-  lines-are = omega (arith, a .lines-is, last-line D M t good, a .count-is)
+  lines-are : lines ≡ at + size b
+  lines-are = omega (arith, a .lines-is, length-is D t (tree D M t good), first-is marks s D M x t (a .is) count (a .count-is))
 
   -- each line of the text has a mark
   text-in : length s ≤ 23 * length (x .marks)
@@ -73,30 +77,30 @@ module _ {s : List ℕ} {D M : ℕ} {x : Lent} {count lines : ℕ} (a : Admitted
       let w = accepted-is s D M (enough marks s D M x) t (a .is) .1 .whole-lines in
       omega arith
 
-  pub marks-in : count ≤ length (x .marks)
-  marks-in = omega (arith, text-in, lines-in s b count here)
+  pub marks-in : at ≤ length (x .marks)
+  marks-in = omega (arith, text-in, lines-in s b at here)
 
   -- the scratch, the rows, and the marks of the sites were cleared, and go by these names
   pub record Blank (t₁ m₁ r₁ : List ℕ) : Type 0 where
     pub scratch-is : t₁ ≡ replicate (length (x .scratch)) 0
-    pub sites-off : Wiped 0 count (x .marks) m₁
+    pub sites-off : Wiped 0 at (x .marks) m₁
     pub marks-same : length m₁ ≡ length (x .marks)
     pub rows-are : r₁ ≡ rows₀
 
   -- the first reading
-  pub body-asks : {t₁ m₁ r₁ : List ℕ} → Blank t₁ m₁ r₁ → ((i : ℕ) → getD (x .rows) i 0 < 2 ^ 64) → BodyAsks s count 0 (D - 1) t₁ m₁ r₁
+  pub body-asks : {t₁ m₁ r₁ : List ℕ} → Blank t₁ m₁ r₁ → ((i : ℕ) → getD (x .rows) i 0 < 2 ^ 64) → BodyAsks s at 0 (D - 1) t₁ m₁ r₁
   body-asks {t₁} {m₁} {r₁} o fits =
-      subst (λ (y : List ℕ). BodyAsks s count 0 (D - 1) t₁ m₁ y) (sym (o .rows-are))
+      subst (λ (y : List ℕ). BodyAsks s at 0 (D - 1) t₁ m₁ y) (sym (o .rows-are))
       (record {
         sites = sites t;
         ready = ready marks s D M x t (a .is) count (a .count-is) fits;
         lines = omega (arith, text-in, o .marks-same);
         zero = λ j. ap (λ (y : List ℕ). getD y j 0) (o .scratch-is) ∙ zeros-at (length (x .scratch)) j;
         room = omega (arith, long .0, bounds .0, ap length (o .scratch-is), length-replicate {A = ℕ} (length (x .scratch)) 0);
-        n = count;
+        n = at;
         k = nothing;
         weighs = refl;
-        shows = shows-begun count 0 m₁;
+        shows = shows-begun at 0 m₁;
       })
 
   -- the root was read: its numbers are c, and it left the scratch t₂ zero, the marks m₂ and the rows rows₁
@@ -108,13 +112,13 @@ module _ {s : List ℕ} {D M : ℕ} {x : Lent} {count lines : ℕ} (a : Admitted
     pub zero : t₂ ≡ replicate (length (x .scratch)) 0
     pub marks-same : length m₂ ≡ length (x .marks)
     pub rows-same : length rows₁ ≡ length (x .rows)
-    pub leaves : BodyLeaves s count 0 m₁ r₁ c m₂ rows₁
+    pub leaves : BodyLeaves s at 0 m₁ r₁ c m₂ rows₁
 
   module _ {c : Open} {t₂ m₂ rows₁ : List ℕ} (u : Read c t₂ m₂ rows₁) where
-    left : BodyLeft count 0 b (u .m₁) rows₀ c m₂ rows₁
-    left = subst (λ (y : List ℕ). BodyLeft count 0 b (u .m₁) y c m₂ rows₁) (u .blank .rows-are) (u .leaves b here)
+    left : BodyLeft at 0 b (u .m₁) rows₀ c m₂ rows₁
+    left = subst (λ (y : List ℕ). BodyLeft at 0 b (u .m₁) y c m₂ rows₁) (u .blank .rows-are) (u .leaves b here)
 
-    at-is : c .at ≡ count + size b
+    at-is : c .at ≡ at + size b
     at-is = ap (λ (y : Open). y .at) (left .done .numbers-are)
 
     pub count-asks : (columns * 0 + 2 < length rows₁) × ((getD rows₁ (columns * 0) 0 + 1 < 2 ^ 64) × ((getD rows₁ (columns * 0 + 1) 0 + c .work < 2 ^ 64) × (getD rows₁ (columns * 0 + 2) 0 + c .prefix < 2 ^ 64)))
@@ -125,14 +129,11 @@ module _ {s : List ℕ} {D M : ℕ} {x : Lent} {count lines : ℕ} (a : Admitted
       abbrev p : Parts D t
       p = tree D M t good
 
-      heads : length (p .heads) ≡ count
-      heads = first-line D M t good ∙ a .count-is
-
       within : Within count D 1 b
-      within = subst (λ (k : ℕ). Within k D 1 b) heads (p .within)
+      within = subst (λ (k : ℕ). Within k D 1 b) (a .count-is) (p .within)
 
       -- the second reading
-      pub on-asks : ColumnAsks s count lines t₂ m₂ rows₂
+      pub on-asks : ColumnAsks s at lines t₂ m₂ rows₂
       on-asks =
           record {
             body = b;
@@ -159,20 +160,20 @@ module _ {s : List ℕ} {D M : ℕ} {x : Lent} {count lines : ℕ} (a : Admitted
           }
 
       -- what it left
-      module _ (t₃ rows₃ : List ℕ) (on : ColumnLeaves s count lines t₂ m₂ rows₂ rows₃) (same : t₃ ≡ t₂) (lr₃ : length rows₃ ≡ length (x .rows)) where
+      module _ (t₃ rows₃ : List ℕ) (on : ColumnLeaves s at lines t₂ m₂ rows₂ rows₃) (same : t₃ ≡ t₂) (lr₃ : length rows₃ ≡ length (x .rows)) where
         abbrev answer : Answer
         answer = Accepted (c .work) (c .prefix) count lines
 
-        grown : (i : ℕ) → i < length (x .rows) → getD rows₃ i 0 ≡ getD rows₂ i 0 + onGain m₂ count 0 b i
+        grown : (i : ℕ) → i < length (x .rows) → getD rows₃ i 0 ≡ getD rows₂ i 0 + onGain m₂ at 0 b i
         unfolding on-asks
         grown i l = on on-asks i (omega (arith, lr₂))
 
-        shown : (i : ℕ) → count ≤ i → i < count + size b → getD m₂ i 0 ≡ cond (has i (linesIn (chainOf count 0 b))) 1 0
+        shown : (i : ℕ) → at ≤ i → i < at + size b → getD m₂ i 0 ≡ cond (has i (linesIn (chainOf at 0 b))) 1 0
         shown i l r = left .zone .marks-are i l (omega (arith, at-is))
 
         on-is : (k : ℕ) → onGain m₂ count 0 b (columns * k + 4) ≡ onRow k (chainOf count 0 b)
         on-is k =
-            subst (λ (h : ℕ). ((i : ℕ) → h ≤ i → i < h + size b → getD m₂ i 0 ≡ cond (has i (linesIn (chainOf h 0 b))) 1 0) → onGain m₂ h 0 b (columns * k + 4) ≡ onRow k (chainOf h 0 b)) heads (on-row D t p m₂ k) shown
+            subst (λ (h : ℕ). ((i : ℕ) → h ≤ i → i < h + size b → getD m₂ i 0 ≡ cond (has i (linesIn (chainOf h 0 b))) 1 0) → onGain m₂ h 0 b (columns * k + 4) ≡ onRow k (chainOf h 0 b)) (first-is marks s D M x t (a .is) count (a .count-is)) (on-row D t p m₂ k) shown
 
         cells-are : (k j : ℕ) → k ≤ count → j < columns → getD rows₃ (columns * k + j) 0 ≡ cell count b k j
         cells-are k j h l = go (decLt j 4)
@@ -187,20 +188,20 @@ module _ {s : List ℕ} {D M : ℕ} {x : Lent} {count lines : ℕ} (a : Admitted
         rest-is i h = go (decLt i (length (x .rows)))
           where
             go : Dec (i < length (x .rows)) → getD rows₃ i 0 ≡ getD (x .rows) i 0
-            go (yes q) = omega (arith, grown i q, on-out m₂ count D 1 i b count 0 within (omega arith) h, rest marks s D M x t (a .is) count (a .count-is) c rows₁ (u .rows-same) (left .done) rows₂ counts i h q)
+            go (yes q) = omega (arith, grown i q, on-out m₂ count D 1 i b at 0 within (omega arith) h, rest marks s D M x t (a .is) count (a .count-is) c rows₁ (u .rows-same) (left .done) rows₂ counts i h q)
             go (no q) = List·getD-eq-default rows₃ 0 {n = i} (omega arith) ∙ sym (List·getD-eq-default (x .rows) 0 {n = i} (omega arith))
 
-        marks-are : (k : ℕ) → k < count + size b → getD m₂ k 0 ≡ cond (has k (linesIn (chainOf count 0 b))) 1 0
-        marks-are k l = go (decLt k count)
+        marks-are : (k : ℕ) → k < at + size b → getD m₂ k 0 ≡ cond (has k (linesIn (chainOf at 0 b))) 1 0
+        marks-are k l = go (decLt k at)
           where
-            go : Dec (k < count) → getD m₂ k 0 ≡ cond (has k (linesIn (chainOf count 0 b))) 1 0
+            go : Dec (k < at) → getD m₂ k 0 ≡ cond (has k (linesIn (chainOf at 0 b))) 1 0
             go (yes q) =
                 left .kept k (λ v w. omega arith)
                 ∙ u .blank .sites-off .gone k (omega arith) q
-                ∙ ap (λ (y : Bool). cond y 1 0) (sym (outside k count (c .at) (chainOf count 0 b) (left .zone .inside) (λ v w. omega arith)))
+                ∙ ap (λ (y : Bool). cond y 1 0) (sym (outside k at (c .at) (chainOf at 0 b) (left .zone .inside) (λ v w. omega arith)))
             go (no q) = shown k (omega arith) l
 
-        by-tree : ProfileBy marks count b x answer (lent t₃ m₂ rows₃)
+        by-tree : ProfileBy marks count at b x answer (lent t₃ m₂ rows₃)
         by-tree =
             record {
               answer = ap (λ (y : ℕ). Accepted y (c .prefix) count lines) (work-is marks s D M x t (a .is) count (a .count-is) c rows₁ (u .rows-same) (left .done)) ∙ ap (λ (y : ℕ). Accepted (workOf b) y count lines) (span-is marks s D M x t (a .is) count (a .count-is) c rows₁ (u .rows-same) (left .done)) ∙ ap (Accepted (workOf b) (spanOf b) count) lines-are;
@@ -211,7 +212,7 @@ module _ {s : List ℕ} {D M : ℕ} {x : Lent} {count lines : ℕ} (a : Admitted
 
         pub promised : Promise marks s D M x answer (lent t₃ m₂ rows₃)
         promised =
-            let h = tree-profile D t p marks x answer (lent t₃ m₂ rows₃) (subst (λ (m : ℕ). ProfileBy marks m b x answer (lent t₃ m₂ rows₃)) (sym heads) by-tree) in
+            let h = tree-profile D t p marks x answer (lent t₃ m₂ rows₃) (profile-same marks x answer (lent t₃ m₂ rows₃) (a .count-is) (first-is marks s D M x t (a .is) count (a .count-is)) refl by-tree) in
             record {
               when-accepted = λ u e. subst (λ (y : List Frame). Profile marks y x answer (lent t₃ m₂ rows₃)) (accepted-same t u (sym (a .is) ∙ e)) h;
               when-refused = λ k n e. clash (let z = sym (a .is) ∙ e in cc);

@@ -19,7 +19,7 @@ use Rattle.trace.specs.Tree.{Body, size, workOf, spanOf}
 use Rattle.trace.specs.Fold.{nothing, chainOf}
 use Rattle.trace.proofs.Basics.{clash}
 use Rattle.trace.proofs.Scan.{accepted-same}
-use Rattle.trace.proofs.Outcome.{tree-profile}
+use Rattle.trace.proofs.Outcome.{tree-profile, length-is, profile-same}
 use Rattle.admit.specs.declared.Verdict.the-variants as Verdict
 use Rattle.admit.specs.Answer.{admission}
 use Rattle.admit.proofs.Admitted.{refused-only, accepted-only}
@@ -27,7 +27,7 @@ use Rattle.walk.specs.declared.Open.{Open}
 use Rattle.walk.specs.Gain.{returned, Grown}
 use Rattle.walk.specs.Reader.{alone, BodyDone}
 use Rattle.walk.proofs.Zeros.{zeros-at}
-use Rattle.walk.proofs.Root.{tree, first-line, last-line}
+use Rattle.walk.proofs.Root.{tree}
 use Rattle.walk.proofs.Accepted as root
 use Rattle.tables.specs.Blocks.{Shows}
 use Rattle.tables.specs.Reader.{BodyAsks, BodyLeaves}
@@ -58,6 +58,10 @@ module _ {s : List ℕ} {D M : ℕ} {scratch rows : List ℕ} {count lines : ℕ
   pub table-room : 4 * (M + 3) ≤ length scratch
   table-room = omega (arith, scratch-long, room-is D (M + 3) (limits .0))
 
+  -- the line at which the root's body begins
+  abbrev first : ℕ
+  first = root.first tables s D M (lent scratch rows) (a .t) (a .is) count (a .count-is)
+
   abbrev rows₁ : List ℕ
   rows₁ = replicate (columns * (count + 1)) 0 ++ drop (columns * (count + 1)) rows
 
@@ -66,10 +70,10 @@ module _ {s : List ℕ} {D M : ℕ} {scratch rows : List ℕ} {count lines : ℕ
     pub scratch-is : t₁ ≡ replicate (length scratch) 0
     pub rows-are : r₁ ≡ rows₁
 
-  pub root-asks : {t₁ r₁ : List ℕ} → Blank t₁ r₁ → ((i : ℕ) → getD rows i 0 < 2 ^ 64) → BodyAsks s count 0 (D - 1) t₁ r₁ (M + 3) (count + 1)
+  pub root-asks : {t₁ r₁ : List ℕ} → Blank t₁ r₁ → ((i : ℕ) → getD rows i 0 < 2 ^ 64) → BodyAsks s first 0 (D - 1) t₁ r₁ (M + 3) (count + 1)
   root-asks {t₁} {r₁} z fits =
-      subst (λ (x : List ℕ). BodyAsks s count 0 (D - 1) x r₁ (M + 3) (count + 1)) (sym (z .scratch-is))
-      (subst (λ (y : List ℕ). BodyAsks s count 0 (D - 1) (replicate (length scratch) 0) y (M + 3) (count + 1)) (sym (z .rows-are))
+      subst (λ (x : List ℕ). BodyAsks s first 0 (D - 1) x r₁ (M + 3) (count + 1)) (sym (z .scratch-is))
+      (subst (λ (y : List ℕ). BodyAsks s first 0 (D - 1) (replicate (length scratch) 0) y (M + 3) (count + 1)) (sym (z .rows-are))
       (record {
         m = sites (a .t);
         ready = root.ready tables s D M (lent scratch rows) (a .t) (a .is) count (a .count-is) fits;
@@ -88,17 +92,17 @@ module _ {s : List ℕ} {D M : ℕ} {scratch rows : List ℕ} {count lines : ℕ
     pub blank : Blank t₁ r₁
     pub scratch-same : length t₂ ≡ length scratch
     pub rows-same : length rows₂ ≡ length rows
-    pub leaves : BodyLeaves s count 0 t₁ r₁ (M + 3) (count + 1) c t₂ rows₂
+    pub leaves : BodyLeaves s first 0 t₁ r₁ (M + 3) (count + 1) c t₂ rows₂
 
   -- what its reading comes to
   module _ {c : Open} {t₂ rows₂ : List ℕ} (u : Read c t₂ rows₂) where
     abbrev b : Body
     b = root.body tables s D M (lent scratch rows) (a .t) (a .is) count (a .count-is)
 
-    left : BodyDone count 0 rows₁ b c rows₂ × Shows (M + 3) (count + 1) t₂ (alone (chainOf count 0 b)) []
+    left : BodyDone first 0 rows₁ b c rows₂ × Shows (M + 3) (count + 1) t₂ (alone (chainOf first 0 b)) []
     left =
         let h = u .leaves b (root.stands tables s D M (lent scratch rows) (a .t) (a .is) count (a .count-is)) (subst (λ (x : List ℕ). Shows (M + 3) (count + 1) x nothing []) (sym (u .blank .scratch-is)) (zeros-show (M + 3) (count + 1) (length scratch))) in
-        (subst (λ (y : List ℕ). BodyDone count 0 y b c rows₂) (u .blank .rows-are) (h .0), h .1)
+        (subst (λ (y : List ℕ). BodyDone first 0 y b c rows₂) (u .blank .rows-are) (h .0), h .1)
 
     pub root-counts : (columns * 0 + 2 < length rows₂) × ((getD rows₂ (columns * 0) 0 + 1 < 2 ^ 64) × ((getD rows₂ (columns * 0 + 1) 0 + c .work < 2 ^ 64) × (getD rows₂ (columns * 0 + 2) 0 + c .prefix < 2 ^ 64)))
     root-counts = root.count-fits tables s D M (lent scratch rows) (a .t) (a .is) count (a .count-is) c rows₂ (u .rows-same) (left .0)
@@ -133,9 +137,9 @@ module _ {s : List ℕ} {D M : ℕ} {scratch rows : List ℕ} {count lines : ℕ
         where
           go : (i : ℕ) → Dec (i < count + 1) → getD t₃ i 0 ≡ 0
           go i (yes q) = settled .gone i q
-          go i (no q) = settled .rest i (omega arith) ∙ own-only (M + 3) (count + 1) t₂ (chainOf count 0 b) (left .1) i (λ x y. omega arith)
+          go i (no q) = settled .rest i (omega arith) ∙ own-only (M + 3) (count + 1) t₂ (chainOf first 0 b) (left .1) i (λ x y. omega arith)
 
-      by-tree : ProfileBy tables count b (lent scratch rows) answer (lent t₃ rows₄)
+      by-tree : ProfileBy tables count first b (lent scratch rows) answer (lent t₃ rows₄)
       by-tree =
           let fine = root.fine tables s D M (lent scratch rows) (a .t) (a .is) count (a .count-is) in
           let work-is = root.work-is tables s D M (lent scratch rows) (a .t) (a .is) count (a .count-is) c rows₂ (u .rows-same) (left .0) in
@@ -144,7 +148,7 @@ module _ {s : List ℕ} {D M : ℕ} {scratch rows : List ℕ} {count lines : ℕ
             answer =
                 ap (λ (x : ℕ). Accepted x (c .prefix) count lines) work-is
                 ∙ ap (λ (x : ℕ). Accepted (workOf b) x count lines) span-is
-                ∙ ap (λ (x : ℕ). Accepted (workOf b) (spanOf b) count x) (sym (a .lines-is) ∙ last-line D M (a .t) fine ∙ ap (λ (m : ℕ). m + size b) (a .count-is));
+                ∙ ap (λ (x : ℕ). Accepted (workOf b) (spanOf b) count x) (sym (a .lines-is) ∙ length-is D (a .t) (tree D M (a .t) fine) ∙ ap (λ (m : ℕ). m + size b) (root.first-is tables s D M (lent scratch rows) (a .t) (a .is) count (a .count-is)));
             rows = record { same-length = l₄; cells = cells; rest = rest };
             scratch = scratch-zero;
             marked = refl;
@@ -154,8 +158,8 @@ module _ {s : List ℕ} {D M : ℕ} {scratch rows : List ℕ} {count lines : ℕ
       promised =
           let fine = root.fine tables s D M (lent scratch rows) (a .t) (a .is) count (a .count-is) in
           let p = tree D M (a .t) fine in
-          let m : count ≡ length (p .heads) = sym (first-line D M (a .t) fine ∙ a .count-is) in
-          let h = tree-profile D (a .t) p tables (lent scratch rows) answer (lent t₃ rows₄) (subst (λ (m : ℕ). ProfileBy tables m b (lent scratch rows) answer (lent t₃ rows₄)) m by-tree) in
+          let q = profile-same tables (lent scratch rows) answer (lent t₃ rows₄) (a .count-is) (root.first-is tables s D M (lent scratch rows) (a .t) (a .is) count (a .count-is)) refl by-tree in
+          let h = tree-profile D (a .t) p tables (lent scratch rows) answer (lent t₃ rows₄) q in
           record {
             when-accepted = λ u e. (let z : a .t ≡ u = accepted-same (a .t) u (sym (a .is) ∙ e) in subst (λ (x : List Frame). Profile tables x (lent scratch rows) answer (lent t₃ rows₄)) z h);
             when-refused = λ k n e. clash (let z = sym (a .is) ∙ e in cc);

@@ -8,17 +8,17 @@ use native.Mathlib.Omega.{arith}
 use lib.ListN.{length, length-append}
 use lib.Seq.{append-snoc}
 use lib.Dec.{eqb, ltb}
-use borrow.Author.Tests.{eqb-true, eq-eqb, ne-eqb, ltb-false, le-ltb, le-leb, not-false}
+use borrow.Author.Tests.{eq-eqb, ne-eqb, le-ltb, le-leb}
 use Rattle.line.specs.declared.Frame.{Frame}
-use Rattle.line.specs.declared.Frame.the-variants.{Site, Call, Spawn, Sync, Return, Cost}
+use Rattle.line.specs.declared.Frame.the-variants.{Return}
 use Rattle.line.specs.declared.Read.{Read}
 use Rattle.trace.specs.Shape.{root, step, sites}
-use Rattle.trace.specs.Refusals.{lineCount, openNow, empty, allSites, lastSite, misplaced, aboveM, placeAgain, declared, undeclared, tooDeep, fault, accepted, refused, judged, scan, reads, verdict}
+use Rattle.trace.specs.Refusals.{lineCount, openNow, empty, allSites, lastSite, misplaced, aboveM, placed, placeAgain, declared, undeclared, tooDeep, fault, accepted, refused, judged, scan, reads, verdict}
 use Rattle.trace.specs.Tree.{Way, call, spawn, opening, Leaf, spend, sync, lineOf, LeafWithin, Body, done, leaf, child, linesOf, Within, AllSites}
-use Rattle.trace.proofs.Basics.{neither}
-use Rattle.trace.proofs.Tree.{IsSite, NotSite, leaf-not-site, opening-not-site, no-sites-lines, leaf-step, opening-step, leaf-makes, opening-makes}
+use Rattle.trace.proofs.Cases.{IsSite, NotSite, other, at-site, site-step}
+use Rattle.trace.proofs.Tree.{leaf-not-site, opening-not-site, no-sites-lines, leaf-step, opening-step, leaf-makes, opening-makes}
 use Rattle.trace.proofs.Scan.{InTable, Clean, Reads, reads-length, reads-from-length, Fine, Accepts, accepted-is, faultless, fault-zero, now}
-use Rattle.trace.proofs.Sites.{sites-none, sites-append, sites-all, Numb, numb-start, numb-snoc, declared-same}
+use Rattle.trace.proofs.Sites.{sites-none, sites-append, declared-same, Numbered, numbered-start, upto-declared, numbered-snoc, clean-sites}
 use Rattle.trace.proofs.Parse.{parts}
 use Rattle.trace.proofs.Bounds.{Safe, thirteen-never, safe-snoc, safe-start}
 
@@ -32,7 +32,7 @@ pub record IsTrace (D M : ℕ) (t : List Frame) : Type 0 where
   pub body : Body
   pub lines : t ≡ heads ++ linesOf body
   pub heads-ok : HeadsOk M [] heads
-  pub within : Within (length heads) D 1 body
+  pub within : Within (sites t) D 1 body
 
 heads-pass : (D M : ℕ) (before h u : List Frame) → AllSites h → Clean D M before (h ++ u) → HeadsOk M before h
 heads-pass D M before [] u s c = tt
@@ -48,28 +48,10 @@ module _ (D M : ℕ) (most : D ≤ 64) (least : 1 ≤ D) where
   -- ── sites ──
 
   site-in : (f : Frame) → IsSite f → InTable f
-  site-in (Site s p) h = tt
-  site-in (Call s) h = absurd h
-  site-in (Spawn s) h = absurd h
-  site-in Sync h = absurd h
-  site-in Return h = absurd h
-  site-in (Cost v) h = absurd h
+  site-in f h = at-site InTable (λ s p. tt) f h
 
   site-opens : (f : Frame) (before : List Frame) → IsSite f → (undeclared before f ≡ false) × (tooDeep D before f ≡ false)
-  site-opens (Site s p) before h = (refl, refl)
-  site-opens (Call s) before h = absurd h
-  site-opens (Spawn s) before h = absurd h
-  site-opens Sync before h = absurd h
-  site-opens Return before h = absurd h
-  site-opens (Cost v) before h = absurd h
-
-  stays : (f : Frame) (n : ℕ) (o : List ℕ) → IsSite f → step n f o ≡ o
-  stays (Site s p) n o h = refl
-  stays (Call s) n o h = absurd h
-  stays (Spawn s) n o h = absurd h
-  stays Sync n o h = absurd h
-  stays Return n o h = absurd h
-  stays (Cost v) n o h = absurd h
+  site-opens f before h = at-site (λ g. (undeclared before g ≡ false) × (tooDeep D before g ≡ false)) (λ s p. (refl, refl)) f h
 
   safe-heads : (before h : List Frame) → AllSites h → Safe D before → Safe D (before ++ h)
   safe-heads before [] s k = subst (Safe D) (sym (append-nil before)) k
@@ -82,7 +64,7 @@ module _ (D M : ℕ) (most : D ≤ 64) (least : 1 ≤ D) where
       let x = site-opens f before (k .0) in (
         fault-zero D M before f (record { not7 = ap empty op; not8 = k .1; not9 = k .2; not10 = k .3; not11 = x .0; not12 = x .1; not13 = thirteen-never D most least before f s (site-in f (k .0)) (omega arith) }),
         site-in f (k .0),
-        clean-heads (before ++ f ∷ []) h u c o (k .4) (safe-snoc D most least before f s (site-in f (k .0)) (x .1)) (now before f ∙ stays f (length before) (openNow before) (k .0) ∙ op)
+        clean-heads (before ++ f ∷ []) h u c o (k .4) (safe-snoc D most least before f s (site-in f (k .0)) (x .1)) (now before f ∙ site-step f (k .0) (length before) (openNow before) ∙ op)
             (omega (arith, length-append before (f ∷ []))) (subst (λ (b : List Frame). Clean D M b u) (sym (append-snoc before f h)) w),
       )
 
@@ -145,31 +127,17 @@ module _ (D M : ℕ) (most : D ≤ 64) (least : 1 ≤ D) where
 
     -- a line of a body passes
     passes : (before : List Frame) (c : ℕ) (o : List ℕ) (f : Frame) → NotSite f → InTable f → undeclared before f ≡ false → tooDeep D before f ≡ false → length before < 65536 → State before (c ∷ o) → fault D M before f ≡ 0
-    passes before c o f ns i u d l s = fault-zero D M before f (record { not7 = ap empty (s .opened); not8 = other8 f ns; not9 = other9 f ns; not10 = other10 f ns; not11 = u; not12 = d; not13 = thirteen-never D most least before f (s .safe) i l })
-      where
-        other8 : (f : Frame) → NotSite f → misplaced before f ≡ false
-        other8 (Site s p) h = absurd h
-        other8 (Call s) h = refl
-        other8 (Spawn s) h = refl
-        other8 Sync h = refl
-        other8 Return h = refl
-        other8 (Cost v) h = refl
-
-        other9 : (f : Frame) → NotSite f → aboveM M f ≡ false
-        other9 (Site s p) h = absurd h
-        other9 (Call s) h = refl
-        other9 (Spawn s) h = refl
-        other9 Sync h = refl
-        other9 Return h = refl
-        other9 (Cost v) h = refl
-
-        other10 : (f : Frame) → NotSite f → placeAgain before f ≡ false
-        other10 (Site s p) h = absurd h
-        other10 (Call s) h = refl
-        other10 (Spawn s) h = refl
-        other10 Sync h = refl
-        other10 Return h = refl
-        other10 (Cost v) h = refl
+    passes before c o f ns i u d l s =
+        fault-zero D M before f
+        (record {
+          not7 = ap empty (s .opened);
+          not8 = other (λ i p. not (allSites before) || not (eqb i (suc (lastSite 0 before)))) false f ns;
+          not9 = other (λ i p. ltb M i) false f ns;
+          not10 = other (λ i p. placed p before) false f ns;
+          not11 = u;
+          not12 = d;
+          not13 = thirteen-never D most least before f (s .safe) i l;
+        })
 
     abbrev Passes : Body → Type 0
     Passes b = (before : List Frame) (c : ℕ) (o : List ℕ) (u : List Frame) → State before (c ∷ o) → Within m D (suc (length o)) b → length before + length (linesOf b) ≤ 65536 → Clean D M (before ++ linesOf b) u → Clean D M before (linesOf b ++ u)
@@ -200,34 +168,27 @@ module _ (D M : ℕ) (most : D ≤ 64) (least : 1 ≤ D) where
   heads-open : (before h : List Frame) (o : List ℕ) → AllSites h → openNow before ≡ o → openNow (before ++ h) ≡ o
   heads-open before [] o s e = ap openNow (append-nil before) ∙ e
   heads-open before (f ∷ h) o s e =
-      ap openNow (sym (append-snoc before f h)) ∙ heads-open (before ++ f ∷ []) h o (s .1) (now before f ∙ stays f (length before) (openNow before) (s .0) ∙ e)
+      ap openNow (sym (append-snoc before f h)) ∙ heads-open (before ++ f ∷ []) h o (s .1) (now before f ∙ site-step f (s .0) (length before) (openNow before) ∙ e)
 
-  heads-numb : (before h : List Frame) → HeadsOk M before h → Numb before → Numb (before ++ h)
-  heads-numb before [] k n = subst Numb (sym (append-nil before)) n
-  heads-numb before (Site s p ∷ h) k n =
-      let x = neither (not (allSites before)) (not (eqb s (suc (lastSite 0 before)))) (k .1) in
-      let e = eqb-true s (suc (lastSite 0 before)) (not-false (eqb s (suc (lastSite 0 before))) (x .1)) in
-      subst Numb (append-snoc before (Site s p) h) (heads-numb (before ++ Site s p ∷ []) h (k .4) (numb-snoc before s p n e))
-  heads-numb before (Call i ∷ h) k n = absurd (k .0)
-  heads-numb before (Spawn i ∷ h) k n = absurd (k .0)
-  heads-numb before (Sync ∷ h) k n = absurd (k .0)
-  heads-numb before (Return ∷ h) k n = absurd (k .0)
-  heads-numb before (Cost v ∷ h) k n = absurd (k .0)
+  heads-numb : (before h : List Frame) → HeadsOk M before h → Numbered before → Numbered (before ++ h)
+  heads-numb before [] k n = subst Numbered (sym (append-nil before)) n
+  heads-numb before (f ∷ h) k n = subst Numbered (append-snoc before f h) (heads-numb (before ++ f ∷ []) h (k .4) (numbered-snoc before f (k .1) n))
 
   tree-passes : (t : List Frame) → length t ≤ 65536 → IsTrace D M t → Clean D M [] t
   tree-passes t l x =
       let ss = heads-sites M [] (x .heads) (x .heads-ok) in
       let len : length t ≡ length (x .heads) + length (linesOf (x .body)) = ap length (x .lines) ∙ length-append (x .heads) (linesOf (x .body)) in
-      let st : State (length (x .heads)) (x .heads) (root ∷ []) = record {
+      let are : sites t ≡ sites (x .heads) = omega (arith, ap sites (x .lines), sites-append (x .heads) (linesOf (x .body)), sites-none (linesOf (x .body)) (no-sites-lines (x .body))) in
+      let st : State (sites t) (x .heads) (root ∷ []) = record {
         opened = heads-open [] (x .heads) (root ∷ []) ss refl;
         safe = safe-heads [] (x .heads) ss (safe-start D most least);
-        decl = heads-numb [] (x .heads) (x .heads-ok) numb-start .each;
+        decl = λ i lo hi. upto-declared (x .heads) (heads-numb [] (x .heads) (x .heads-ok) numbered-start) i lo (omega (arith, are));
       } in
-      let end = state-body (length (x .heads)) (x .body) (x .heads) root [] st (x .within) in
+      let end = state-body (sites t) (x .body) (x .heads) root [] st (x .within) in
       let e : x .heads ++ (linesOf (x .body) ++ []) ≡ t = ap (λ (z : List Frame). x .heads ++ z) (append-nil (linesOf (x .body))) ∙ sym (x .lines) in
       subst (Clean D M []) e
       (clean-heads [] (x .heads) (linesOf (x .body) ++ []) root [] (x .heads-ok) (safe-start D most least) refl (omega arith)
-      (clean-body (length (x .heads)) (x .body) (x .heads) root [] [] st (x .within) (omega arith) (ap empty (end .opened))))
+      (clean-body (sites t) (x .body) (x .heads) root [] [] st (x .within) (omega arith) (ap empty (end .opened))))
 
 -- LAW: lines pass exactly where they are sites in order and then the lines of a body within the limits
 pub fine-is-trace : (D M : ℕ) (t : List Frame) → Fine D M t → IsTrace D M t
@@ -235,32 +196,9 @@ fine-is-trace D M t f =
     let p = parts D M t f in
     record { heads = p .heads; body = p .body; lines = p .lines; heads-ok = heads-pass D M [] (p .heads) (linesOf (p .body)) (p .all-sites) (subst (Clean D M []) (p .lines) (f .clean)); within = p .within }
 
--- there are at most M sites
-heads-le : (M : ℕ) (before h : List Frame) → HeadsOk M before h → Numb before → length before ≤ M → length (before ++ h) ≤ M
-heads-le M before [] k n l = omega (arith, ap length (append-nil before))
-heads-le M before (Site s p ∷ h) k n l =
-    let x = neither (not (allSites before)) (not (eqb s (suc (lastSite 0 before)))) (k .1) in
-    let e = eqb-true s (suc (lastSite 0 before)) (not-false (eqb s (suc (lastSite 0 before))) (x .1)) in
-    let r = heads-le M (before ++ Site s p ∷ []) h (k .4) (numb-snoc before s p n e) (omega (arith, ltb-false M s (k .2), n .last, length-append before (Site s p ∷ []))) in
-    omega (arith, length-append (before ++ Site s p ∷ []) h, length-append before (Site s p ∷ []), length-append before (Site s p ∷ h))
-heads-le M before (Call s ∷ h) k n l = absurd (k .0)
-heads-le M before (Spawn s ∷ h) k n l = absurd (k .0)
-heads-le M before (Sync ∷ h) k n l = absurd (k .0)
-heads-le M before (Return ∷ h) k n l = absurd (k .0)
-heads-le M before (Cost v ∷ h) k n l = absurd (k .0)
-
 -- LAW: an accepted trace has at most M sites
 pub sites-le-M : (D M : ℕ) (t : List Frame) → Fine D M t → sites t ≤ M
-sites-le-M D M t f =
-    let x = fine-is-trace D M t f in
-    omega (
-      arith,
-      ap sites (x .lines),
-      sites-append (x .heads) (linesOf (x .body)),
-      sites-all (x .heads) (heads-sites M [] (x .heads) (x .heads-ok)),
-      sites-none (linesOf (x .body)) (no-sites-lines (x .body)),
-      heads-le M [] (x .heads) (x .heads-ok) numb-start (omega arith),
-    )
+sites-le-M D M t f = clean-sites D M [] t (f .clean) numbered-start (omega arith)
 
 pub trace-is-fine : (D M : ℕ) (t : List Frame) → 1 ≤ D → D ≤ 64 → M ≤ 255 → length t ≤ 65536 → IsTrace D M t → Fine D M t
 trace-is-fine D M t a b c d x = record { clean = tree-passes D M b a t d x; least = a; most = b; sites-most = c; lines-most = d }

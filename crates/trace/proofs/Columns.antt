@@ -10,10 +10,10 @@ use borrow.Author.Tests.{eq-eqb, ne-eqb}
 use Rattle.line.specs.declared.Frame.{Frame}
 use Rattle.line.specs.declared.Frame.the-variants.{Return}
 use Rattle.chain.specs.Plan.{CostLine, costs}
-use Rattle.trace.specs.Shape.{Is, root, step, walk, has, firstIs}
+use Rattle.trace.specs.Shape.{Is, root, step, walk, has, firstIs, sites}
 use Rattle.trace.specs.Series.{value, Span}
 use Rattle.trace.specs.Rows.{makes, made, ofRow, sumOf, costsWhere, total, inside, sum, Sum, calls, work, Spans, local, onSpan}
-use Rattle.trace.specs.Tree.{Way, opening, Leaf, spend, sync, lineOf, leafWork, Body, done, leaf, child, linesOf, size, Within, Parts, workOf, spanOf, localOf, madeSum, callsIn, workIn, spansIn, localIn}
+use Rattle.trace.specs.Tree.{Way, opening, Leaf, spend, sync, lineOf, leafWork, Body, done, leaf, child, linesOf, size, Within, Parts, workOf, spanOf, localOf, madeSum, callsIn, workIn, spansIn, localIn, rootAt}
 use Rattle.trace.specs.Fold.{costAt, plan}
 use Rattle.trace.proofs.Basics.{cond-same, cond-add}
 use Rattle.trace.proofs.Tree.{leaf-step, opening-step, opening-makes, leaf-value, opening-value}
@@ -98,16 +98,16 @@ pub first-is : (t : List Frame) (n : ℕ) (o : List ℕ) (e : Frame) (v : List F
 first-is t n o e v x = let f : n + 0 ≡ n = omega arith in subst (λ (k : ℕ). Is t k e) f (subst (λ (A : Type 0). A) (sym (at-is t n o (e ∷ v) x 0 e)) refl)
 
 -- the sites weigh nothing, and the root's body begins behind them
-pub behind-heads : (D : ℕ) (t : List Frame) (x : Parts D t) (w : ℕ → List ℕ → Bool) → costsWhere t w ≡ sumOf w (length (x .heads)) (root ∷ []) (linesOf (x .body) ++ [])
+pub behind-heads : (D : ℕ) (t : List Frame) (x : Parts D t) (w : ℕ → List ℕ → Bool) → costsWhere t w ≡ sumOf w (rootAt x) (root ∷ []) (linesOf (x .body) ++ [])
 behind-heads D t x w =
-    let e : 0 + length (x .heads) ≡ length (x .heads) = omega arith in
+    let e : 0 + rootAt x ≡ rootAt x = omega arith in
     omega (
       arith,
       ap (sumOf w 0 (root ∷ [])) (whole D t x),
       sum-append w 0 (root ∷ []) (x .heads) (linesOf (x .body) ++ []),
       heads-sum w 0 (root ∷ []) (x .heads) (x .all-sites),
-      ap (λ (k : ℕ). sumOf w k (walk 0 (root ∷ []) (x .heads) (length (x .heads))) (linesOf (x .body) ++ [])) e,
-      ap (λ (o : List ℕ). sumOf w (length (x .heads)) o (linesOf (x .body) ++ [])) (heads-open (x .heads) 0 (root ∷ []) (x .all-sites)),
+      ap (λ (k : ℕ). sumOf w k (walk 0 (root ∷ []) (x .heads) (rootAt x)) (linesOf (x .body) ++ [])) e,
+      ap (λ (o : List ℕ). sumOf w (rootAt x) o (linesOf (x .body) ++ [])) (heads-open (x .heads) 0 (root ∷ []) (x .all-sites)),
     )
 
 -- lines are picked by number, q, and for an invocation where it is the innermost
@@ -158,12 +158,12 @@ module _ (t : List Frame) (s : ℕ) (q : ℕ → Bool) (pick : ℕ → ℕ → L
         move (suc n + size g + size b) (n + suc (size g + size b)) o u (omega arith),
       )
 
-  pub column : (D : ℕ) (x : Parts D t) → sum (λ F. costsWhere t (pick F)) (ofRow t s) ≡ sumWhere picked (costs (plan (length (x .heads)) 0 (x .body)))
+  pub column : (D : ℕ) (x : Parts D t) → sum (λ F. costsWhere t (pick F)) (ofRow t s) ≡ sumWhere picked (costs (plan (rootAt x) 0 (x .body)))
   column D x =
       omega (
         arith,
-        sum-same (λ F. costsWhere t (pick F)) (λ F. sumOf (pick F) (length (x .heads)) (root ∷ []) (linesOf (x .body) ++ [])) (λ F. behind-heads D t x (pick F)) (ofRow t s),
-        picks (x .body) (length (x .heads)) D 1 (length (x .heads)) root 0 [] [] (x .within) (known-root t) (root-ctx D t x),
+        sum-same (λ F. costsWhere t (pick F)) (λ F. sumOf (pick F) (rootAt x) (root ∷ []) (linesOf (x .body) ++ [])) (λ F. behind-heads D t x (pick F)) (ofRow t s),
+        picks (x .body) (sites t) D 1 (rootAt x) root 0 [] [] (x .within) (known-root t) (root-ctx D t x),
         sum-zero (ofRow t s),
       )
 
@@ -184,7 +184,7 @@ none-from-root h m D d (child k i g r) w =
 
 module _ (D : ℕ) (t : List Frame) (p : Parts D t) where
   abbrev all : List CostLine
-  all = costs (plan (length (p .heads)) 0 (p .body))
+  all = costs (plan (rootAt p) 0 (p .body))
 
   pub local-costs : (s : ℕ) → local t s ≡ sumWhere (λ x. eqb (x .row) s && true) all
   local-costs s = column t s (λ k. true) (λ F k o. firstIs F o) (λ F k c o. sym (and-true (eqb F c))) D p
@@ -197,10 +197,10 @@ module _ (D : ℕ) (t : List Frame) (p : Parts D t) where
 
   -- LAW
   pub local-tree : (s : ℕ) → local t s ≡ localIn s (p .body)
-  local-tree zero = omega (arith, local-costs 0, plain 0, row-costs 0 (p .body) (length (p .heads)) 0, none-from-root localOf (length (p .heads)) D 1 (p .body) (p .within), ap (λ (b : Bool). cond b (localOf (p .body)) 0) (eq-eqb 0 0 refl))
-  local-tree (suc s) = omega (arith, local-costs (suc s), plain (suc s), row-costs (suc s) (p .body) (length (p .heads)) 0, ap (λ (b : Bool). cond b (localOf (p .body)) 0) (ne-eqb 0 (suc s) (λ q. omega arith)))
+  local-tree zero = omega (arith, local-costs 0, plain 0, row-costs 0 (p .body) (rootAt p) 0, none-from-root localOf (sites t) D 1 (p .body) (p .within), ap (λ (b : Bool). cond b (localOf (p .body)) 0) (eq-eqb 0 0 refl))
+  local-tree (suc s) = omega (arith, local-costs (suc s), plain (suc s), row-costs (suc s) (p .body) (rootAt p) 0, ap (λ (b : Bool). cond b (localOf (p .body)) 0) (ne-eqb 0 (suc s) (λ q. omega arith)))
 
   -- LAW: the total work is all that the root's body costs
   pub total-tree : total t ≡ workOf (p .body)
   total-tree =
-      behind-heads D t p (λ k o. true) ∙ ap (sumOf (λ k o. true) (length (p .heads)) (root ∷ [])) (append-nil (linesOf (p .body))) ∙ all-costs (p .body) (length (p .heads)) (root ∷ [])
+      behind-heads D t p (λ k o. true) ∙ ap (sumOf (λ k o. true) (rootAt p) (root ∷ [])) (append-nil (linesOf (p .body))) ∙ all-costs (p .body) (rootAt p) (root ∷ [])

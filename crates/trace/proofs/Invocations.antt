@@ -9,12 +9,13 @@ use lib.ListN.{length, length-append}
 use lib.Seq.{append-snoc}
 use lib.Dec.{T, eqb}
 use Rattle.line.specs.declared.Frame.{Frame}
-use Rattle.line.specs.declared.Frame.the-variants.{Site, Call, Spawn, Sync, Return, Cost}
+use Rattle.line.specs.declared.Frame.the-variants.{Return}
 use Rattle.trace.specs.Shape.{Is, root, step, walk, openAt, has, sites}
 use Rattle.trace.specs.Rows.{made, ofRow, Sum}
-use Rattle.trace.specs.Tree.{Way, opening, Leaf, lineOf, Body, done, leaf, child, linesOf, size, AllSites, Parts, madeSum, rowSum}
+use Rattle.trace.specs.Tree.{Way, opening, Leaf, lineOf, Body, done, leaf, child, linesOf, size, AllSites, Parts, madeSum, rowSum, rootAt}
 use Rattle.trace.proofs.Basics.{below}
-use Rattle.trace.proofs.Tree.{IsSite, site-or-not, opening-not-site, size-is, no-sites-lines, leaf-step, opening-step, leaf-makes, opening-makes, return-not-opening, leaf-not-opening}
+use Rattle.trace.proofs.Cases.{IsSite, site-or-not, at-site, site-step}
+use Rattle.trace.proofs.Tree.{opening-not-site, size-is, no-sites-lines, leaf-step, opening-step, leaf-makes, opening-makes, return-not-opening, leaf-not-opening}
 use Rattle.trace.proofs.Scan.{now}
 use Rattle.trace.proofs.Sites.{sites-append, sites-all, sites-none}
 use Rattle.trace.proofs.Recurrence.{Paid, paid}
@@ -85,12 +86,7 @@ inner t n o g u x h = record { around = o; post = u; ctx = x; start = λ k f l i
 -- the sites of a trace leave the root open
 pub heads-open : (h : List Frame) (n : ℕ) (o : List ℕ) → AllSites h → walk n o h (length h) ≡ o
 heads-open [] n o s = refl
-heads-open (Site i p ∷ h) n o s = heads-open h (suc n) o (s .1)
-heads-open (Call i ∷ h) n o s = absurd (s .0)
-heads-open (Spawn i ∷ h) n o s = absurd (s .0)
-heads-open (Sync ∷ h) n o s = absurd (s .0)
-heads-open (Return ∷ h) n o s = absurd (s .0)
-heads-open (Cost v ∷ h) n o s = absurd (s .0)
+heads-open (f ∷ h) n o s = ap (λ (x : List ℕ). walk (suc n) x h (length h)) (site-step f (s .0) n o) ∙ heads-open h (suc n) o (s .1)
 
 head-site : (h : List Frame) (k : ℕ) (f : Frame) → AllSites h → Is h k f → IsSite f
 head-site [] k f s i = absurd i
@@ -98,14 +94,15 @@ head-site (e ∷ h) zero f s i = subst IsSite i (s .0)
 head-site (e ∷ h) (suc k) f s i = head-site h k f (s .1) i
 
 module _ (D : ℕ) (t : List Frame) (p : Parts D t) where
-  pub sites-are : sites t ≡ length (p .heads)
-  sites-are =
+  -- LAW: the root's body begins behind the sites, at the line that has their number
+  pub root-behind-sites : rootAt p ≡ sites t
+  root-behind-sites =
       omega (arith, ap sites (p .lines), sites-append (p .heads) (linesOf (p .body)), sites-all (p .heads) (p .all-sites), sites-none (linesOf (p .body)) (no-sites-lines (p .body)))
 
   pub whole : t ≡ p .heads ++ (linesOf (p .body) ++ [])
   whole = p .lines ∙ ap (λ (l : List Frame). p .heads ++ l) (sym (append-nil (linesOf (p .body))))
 
-  pub root-ctx : Ctx t (length (p .heads)) (root ∷ []) (linesOf (p .body) ++ [])
+  pub root-ctx : Ctx t (rootAt p) (root ∷ []) (linesOf (p .body) ++ [])
   root-ctx =
       record {
         pre = p .heads;
@@ -113,18 +110,18 @@ module _ (D : ℕ) (t : List Frame) (p : Parts D t) where
         count = refl;
         opened = heads-open (p .heads) 0 (root ∷ []) (p .all-sites);
         low = (omega arith, tt, tt);
-        alive = alive (p .body) (length (p .heads)) root [] [] tt;
+        alive = alive (p .body) (rootAt p) root [] [] tt;
       }
 
   pub root-paid : Paid (p .body)
-  root-paid = paid (length (p .heads)) D 1 (p .body) (p .within)
+  root-paid = paid (sites t) D 1 (p .body) (p .within)
 
   -- the lines before the body are sites
-  before-body : (k : ℕ) (f : Frame) → k < length (p .heads) → Is t k f → IsSite f
+  before-body : (k : ℕ) (f : Frame) → k < rootAt p → Is t k f → IsSite f
   before-body k f l i = head-site (p .heads) k f (p .all-sites) (is-left (p .heads) (linesOf (p .body)) k f l (subst (λ (z : List Frame). Is z k f) (p .lines) i))
 
   -- LAW: the root is an invocation with the trace's body
-  pub root-inv : Inv t root (length (p .heads)) (p .body)
+  pub root-inv : Inv t root (rootAt p) (p .body)
   root-inv = record { around = []; post = []; ctx = root-ctx; start = λ k f l i m. before-body k f l i; paid = root-paid }
 
 -- ── the invocation that a line opens ──
@@ -161,12 +158,12 @@ module _ (t : List Frame) where
 
 -- LAW: every call or spawn line opens an invocation with a body
 pub made-inv : (D : ℕ) (t : List Frame) → Parts D t → (k i : ℕ) → Makes t k i → (g : Body) × Inv t (suc k) (suc k) g
-made-inv D t p k i m = elim (below (length (p .heads)) k) [
+made-inv D t p k i m = elim (below (rootAt p) k) [
   | inl l ↦ absurd (site-or-not (opening (m .0) i) (before-body D t p k (opening (m .0) i) l (m .1)) (opening-not-site (m .0) i))
-  | inr w ↦ found-at t (length (p .heads) + w .0) k (sym (w .1)) (opens t (p .body) (length (p .heads)) root [] [] (root-ctx D t p) (root-paid D t p) (w .0) i (m .0, late w))
+  | inr w ↦ found-at t (rootAt p + w .0) k (sym (w .1)) (opens t (p .body) (rootAt p) root [] [] (root-ctx D t p) (root-paid D t p) (w .0) i (m .0, late w))
 ]
   where
-    late : (w : (j : ℕ) × (k ≡ length (p .heads) + j)) → Is (linesOf (p .body)) (w .0) (opening (m .0) i)
+    late : (w : (j : ℕ) × (k ≡ rootAt p + j)) → Is (linesOf (p .body)) (w .0) (opening (m .0) i)
     late w =
         subst (λ (A : Type 0). A) (is-append (p .heads) (linesOf (p .body)) (w .0) (opening (m .0) i))
         (subst (λ (j : ℕ). Is (p .heads ++ linesOf (p .body)) j (opening (m .0) i)) (w .1) (subst (λ (z : List Frame). Is z k (opening (m .0) i)) (p .lines) (m .1)))
@@ -211,20 +208,17 @@ module _ (t : List Frame) (s : ℕ) (p : ℕ → ℕ → Type 0) (h : Body → �
 -- sites make nothing
 pub made-heads : (h u : List Frame) (n s : ℕ) → AllSites h → made n (h ++ u) s ≡ made (n + length h) u s
 made-heads [] u n s k = let e : n ≡ n + 0 = omega arith in ap (λ (m : ℕ). made m u s) e
-made-heads (Site i p ∷ h) u n s k = let e : suc n + length h ≡ n + suc (length h) = omega arith in made-heads h u (suc n) s (k .1) ∙ ap (λ (m : ℕ). made m u s) e
-made-heads (Call i ∷ h) u n s k = absurd (k .0)
-made-heads (Spawn i ∷ h) u n s k = absurd (k .0)
-made-heads (Sync ∷ h) u n s k = absurd (k .0)
-made-heads (Return ∷ h) u n s k = absurd (k .0)
-made-heads (Cost v ∷ h) u n s k = absurd (k .0)
+made-heads (f ∷ h) u n s k =
+    let e : suc n + length h ≡ n + suc (length h) = omega arith in
+    at-site (λ g. made n (g ∷ (h ++ u)) s ≡ made (suc n) (h ++ u) s) (λ i p. refl) f (k .0) ∙ made-heads h u (suc n) s (k .1) ∙ ap (λ (m : ℕ). made m u s) e
 
 -- LAW: what is said of each invocation by its body adds up over a row as it does over the tree
 pub row-sum : (D : ℕ) (t : List Frame) (x : Parts D t) (p : ℕ → ℕ → Type 0) (h : Body → ℕ) → ((F n : ℕ) (g : Body) → Inv t F n g → p F (h g)) → (s : ℕ) → Sum p (ofRow t s) (rowSum h s (x .body))
-row-sum D t x p h is zero = (h (x .body), 0, is root (length (x .heads)) (x .body) (root-inv D t x), refl, omega arith)
+row-sum D t x p h is zero = (h (x .body), 0, is root (rootAt x) (x .body) (root-inv D t x), refl, omega arith)
 row-sum D t x p h is (suc s) =
-    let e : 0 + length (x .heads) ≡ length (x .heads) = omega arith in
+    let e : 0 + rootAt x ≡ rootAt x = omega arith in
     let f : madeSum h (suc s) (x .body) + 0 ≡ madeSum h (suc s) (x .body) = omega arith in
-    let l : made 0 t (suc s) ≡ made (length (x .heads)) (linesOf (x .body) ++ []) (suc s) =
+    let l : made 0 t (suc s) ≡ made (rootAt x) (linesOf (x .body) ++ []) (suc s) =
     ap (λ (z : List Frame). made 0 z (suc s)) (whole D t x) ∙ made-heads (x .heads) (linesOf (x .body) ++ []) 0 (suc s) (x .all-sites) ∙ ap (λ (m : ℕ). made m (linesOf (x .body) ++ []) (suc s)) e in
     subst (λ (z : List ℕ). Sum p z (madeSum h (suc s) (x .body))) (sym l)
-    (subst (Sum p (made (length (x .heads)) (linesOf (x .body) ++ []) (suc s))) f (adds t (suc s) p h is (x .body) (length (x .heads)) root [] [] 0 (root-paid D t x) (root-ctx D t x) refl))
+    (subst (Sum p (made (rootAt x) (linesOf (x .body) ++ []) (suc s))) f (adds t (suc s) p h is (x .body) (rootAt x) root [] [] 0 (root-paid D t x) (root-ctx D t x) refl))

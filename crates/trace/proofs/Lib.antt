@@ -1,4 +1,5 @@
 pub mod Basics
+pub mod Cases
 pub mod Tree
 pub mod Scan
 pub mod Levels

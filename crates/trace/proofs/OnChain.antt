@@ -5,7 +5,6 @@ use mathlib.Core.Bool.{Bool, true, false, cond, _&&_, _||_, and-true, and-false}
 use mathlib.Core.List.{List, [], _∷_, _++_, List·Memᴰ, List·Memᴰ·not-nil, List·Memᴰ·cases-cons}
 use Prim.Native.Nat.{ℕ, zero, suc, _+_, _≤_}
 use native.Mathlib.Omega.{arith}
-use lib.ListN.{length}
 use lib.Dec.{eqb}
 use borrow.Author.Tests.{eq-eqb, ne-eqb}
 use Rattle.line.specs.declared.Frame.{Frame}
@@ -16,13 +15,13 @@ use Rattle.chain.proofs.Lists.{all-map, all-both, all-at, all-append, pairs-map
 use Rattle.trace.specs.Shape.{root, has, sites}
 use Rattle.trace.specs.Series.{Span, Chosen}
 use Rattle.trace.specs.Rows.{total, local, onSpan}
-use Rattle.trace.specs.Tree.{spend, sync, Body, done, leaf, child, size, Within, Parts, workOf}
+use Rattle.trace.specs.Tree.{spend, sync, Body, done, leaf, child, size, Within, Parts, workOf, rootAt}
 use Rattle.trace.specs.Fold.{block, after, plan, onRow}
 use Rattle.trace.proofs.Basics.{cond-le}
 use Rattle.trace.proofs.Apart.{all-together, plan-ordered}
 use Rattle.trace.proofs.Recurrence.{chain-chosen, weight-chain}
 use Rattle.trace.proofs.Sums.{upTo, up-add, up-same, up-one}
-use Rattle.trace.proofs.Invocations.{sites-are, root-paid}
+use Rattle.trace.proofs.Invocations.{root-paid}
 use Rattle.trace.proofs.Root.{rootChain, root-span-only, root-chosen-only}
 use Rattle.trace.proofs.Columns.{sumWhere, where-leaf, where-two, local-costs, on-span-costs, total-tree}
 
@@ -99,12 +98,12 @@ all-work (child w i g b) n r = omega (arith, where-two (λ x. true) w n r i g b,
 
 module _ (D : ℕ) (t : List Frame) (p : Parts D t) where
   abbrev all : List CostLine
-  all = costs (plan (length (p .heads)) 0 (p .body))
+  all = costs (plan (rootAt p) 0 (p .body))
 
   on-root : (w : CostLine → Bool) → sumWhere (λ x. w x && has (x .line) (linesIn (rootChain D t p))) all ≡ sumWhere w (rootChain D t p)
   on-root w =
-      let c = chain-chosen (p .body) (length (p .heads)) 0 (root-paid D t p) .chain in
-      on-list w all (rootChain D t p) (plan-ordered (p .body) (length (p .heads)) 0) (pairs-map (λ x y r. r .0) (rootChain D t p) (c .series)) (c .on)
+      let c = chain-chosen (p .body) (rootAt p) 0 (root-paid D t p) .chain in
+      on-list w all (rootChain D t p) (plan-ordered (p .body) (rootAt p) 0) (pairs-map (λ x y r. r .0) (rootChain D t p) (c .series)) (c .on)
 
   -- LAW: column 5 is the chosen chain's part in the row
   pub on-span-tree : (s : ℕ) → onSpan t (linesIn (rootChain D t p)) s ≡ onRow s (rootChain D t p)
@@ -142,16 +141,15 @@ rows-add w m (x ∷ l) h =
 module _ (D : ℕ) (t : List Frame) (p : Parts D t) where
   rows-of-all : All (Row-to (sites t)) (all D t p)
   rows-of-all =
-      let k = rows-within (length (p .heads)) D 1 (p .body) (length (p .heads)) 0 (omega arith) (p .within) in
-      subst (λ (m : ℕ). All (Row-to m) (all D t p)) (sym (sites-are D t p))
-      (all-append (Row-to (length (p .heads))) (costs (block (length (p .heads)) 0 (p .body))) (costs (after (length (p .heads)) 0 (p .body))) (k .0) (k .1))
+      let k = rows-within (sites t) D 1 (p .body) (rootAt p) 0 (omega arith) (p .within) in
+      all-append (Row-to (sites t)) (costs (block (rootAt p) 0 (p .body))) (costs (after (rootAt p) 0 (p .body))) (k .0) (k .1)
 
   -- LAW: "Column 4 adds up to the total work"
   pub locals-add-up : upTo (local t) (sites t) ≡ total t
   locals-add-up =
       up-same (local t) (λ s. sumWhere (λ x. eqb (x .row) s && true) (all D t p)) (sites t) (λ s l. local-costs D t p s)
       ∙ rows-add (λ x. true) (sites t) (all D t p) rows-of-all
-      ∙ all-work (p .body) (length (p .heads)) 0
+      ∙ all-work (p .body) (rootAt p) 0
       ∙ sym (total-tree D t p)
 
   -- LAW: "and column 5 to the total span"
@@ -162,5 +160,5 @@ module _ (D : ℕ) (t : List Frame) (p : Parts D t) where
       ∙ rows-add (λ x. has (x .line) (linesIn (rootChain D t p))) (sites t) (all D t p) rows-of-all
       ∙ on-root D t p (λ x. true)
       ∙ weight-of (rootChain D t p)
-      ∙ weight-chain (p .body) (length (p .heads)) 0
+      ∙ weight-chain (p .body) (rootAt p) 0
       ∙ sym (root-span-only D t p n k)

@@ -17,7 +17,7 @@ use Rattle.trace.specs.Shape.{has, sites}
 use Rattle.trace.specs.Rows.{columns, Spans}
 use Rattle.trace.specs.Refusals.{lineCount, Verdict, accepted, refused, verdict}
 use Rattle.trace.specs.Promise.{Engine, tables, marks, Lent, scratchRoom, marksRoom, rowsRoom, enough, acceptance, refusal, Row, Marked, Profile, Promise}
-use Rattle.trace.specs.Tree.{Body, linesOf, size, Parts, workOf, spanOf, spansIn}
+use Rattle.trace.specs.Tree.{Body, linesOf, size, Parts, workOf, spanOf, spansIn, rootAt}
 use Rattle.trace.specs.Fold.{chainOf}
 use Rattle.trace.specs.ByTree.{cell, RowsBy, ProfileBy}
 use Rattle.trace.proofs.Basics.{clash, below, both}
@@ -26,7 +26,6 @@ use Rattle.trace.proofs.Scan.{Fine, accepted-is, accepted-fine, accepte
 use Rattle.trace.proofs.Parse.{parts, accepted-parts}
 use Rattle.trace.proofs.Accept.{sites-le-M}
 use Rattle.trace.proofs.Unique.{spans-unique}
-use Rattle.trace.proofs.Invocations.{sites-are}
 use Rattle.trace.proofs.Root.{rootChain, root-span, root-chosen, root-span-only, root-chosen-only}
 use Rattle.trace.proofs.Columns.{calls-tree, work-tree, spans-tree, local-tree, total-tree}
 use Rattle.trace.proofs.OnChain.{on-span-tree}
@@ -38,20 +37,25 @@ lent-same a b x y z =
     ∙ ap (λ (s : List ℕ). record { scratch = b .scratch; rows = s; marks = a .marks }) y
     ∙ ap (λ (s : List ℕ). record { scratch = b .scratch; rows = b .rows; marks = s }) z
 
+-- the same numbers and the same body
+pub profile-same : (e : Engine) (c : Lent) (q : Answer) (y : Lent) {m n i j : ℕ} {g b : Body} → m ≡ n → i ≡ j → g ≡ b → ProfileBy e n j b c q y → ProfileBy e m i g c q y
+profile-same e c q y {m} {n} {i} {j} {g} {b} h k l x =
+    subst (λ (z : ℕ). ProfileBy e z i g c q y) (sym h) (subst (λ (z : ℕ). ProfileBy e n z g c q y) (sym k) (subst (λ (z : Body). ProfileBy e n j z c q y) (sym l) x))
+
 -- ── a profile is what the tree says ──
 
 module _ (D : ℕ) (t : List Frame) (p : Parts D t) where
+  -- the line at which the root's body begins
   abbrev m : ℕ
-  m = length (p .heads)
+  m = rootAt p
 
   pub length-is : length t ≡ m + size (p .body)
   length-is = ap length (p .lines) ∙ length-append (p .heads) (linesOf (p .body)) ∙ ap (λ (k : ℕ). m + k) (size-is (p .body))
 
-  answer-is : acceptance t (spanOf (p .body)) ≡ Accepted (workOf (p .body)) (spanOf (p .body)) m (m + size (p .body))
+  answer-is : acceptance t (spanOf (p .body)) ≡ Accepted (workOf (p .body)) (spanOf (p .body)) (sites t) (m + size (p .body))
   answer-is =
       ap (λ (w : ℕ). Accepted w (spanOf (p .body)) (sites t) (length t)) (total-tree D t p)
-      ∙ ap (λ (k : ℕ). Accepted (workOf (p .body)) (spanOf (p .body)) k (length t)) (sites-are D t p)
-      ∙ ap (Accepted (workOf (p .body)) (spanOf (p .body)) m) length-is
+      ∙ ap (Accepted (workOf (p .body)) (spanOf (p .body)) (sites t)) length-is
 
   first : (l : List ℕ) (s : ℕ) → getD l (columns * s) 0 ≡ getD l (columns * s + 0) 0
   first l s = let e : columns * s ≡ columns * s + 0 = omega arith in ap (λ (i : ℕ). getD l i 0) e
@@ -75,7 +79,7 @@ module _ (D : ℕ) (t : List Frame) (p : Parts D t) where
   row-to l s r (suc (suc (suc (suc (suc j))))) h = absurd (omega arith)
 
   -- LAW: what the tree says is a profile
-  pub tree-profile : (e : Engine) (before : Lent) (r : Answer) (after : Lent) → ProfileBy e m (p .body) before r after → Profile e t before r after
+  pub tree-profile : (e : Engine) (before : Lent) (r : Answer) (after : Lent) → ProfileBy e (sites t) m (p .body) before r after → Profile e t before r after
   tree-profile e before r after h =
       record {
         chain = linesIn (rootChain D t p);
@@ -85,23 +89,23 @@ module _ (D : ℕ) (t : List Frame) (p : Parts D t) where
         answer = h .answer ∙ sym answer-is;
         rows = record {
           same-length = h .rows .same-length;
-          rows-are = λ s l. row-from (after .rows) s (λ j k. h .rows .cells s j (omega (arith, sites-are D t p)) k);
-          rest = λ i l. h .rows .rest i (omega (arith, sites-are D t p));
+          rows-are = λ s l. row-from (after .rows) s (λ j k. h .rows .cells s j l k);
+          rest = h .rows .rest;
         };
         scratch = h .scratch;
         marked = subst (λ (n : ℕ). Marked e n (linesIn (rootChain D t p)) (before .marks) (after .marks)) (sym length-is) (h .marked);
       }
 
   -- LAW: and a profile is what the tree says
-  pub profile-tree : (e : Engine) (before : Lent) (r : Answer) (after : Lent) → Profile e t before r after → ProfileBy e m (p .body) before r after
+  pub profile-tree : (e : Engine) (before : Lent) (r : Answer) (after : Lent) → Profile e t before r after → ProfileBy e (sites t) m (p .body) before r after
   profile-tree e before r after h =
       let c = root-chosen-only D t p (h .chain) (h .chosen) in
       record {
         answer = h .answer ∙ ap (acceptance t) (root-span-only D t p (h .span) (h .is-span)) ∙ answer-is;
         rows = record {
           same-length = h .rows .same-length;
-          cells = λ s j l k. row-to (after .rows) s (subst (λ (d : List ℕ). Row t d (after .rows) s) c (h .rows .rows-are s (omega (arith, sites-are D t p)))) j k;
-          rest = λ i l. h .rows .rest i (omega (arith, sites-are D t p));
+          cells = λ s j l k. row-to (after .rows) s (subst (λ (d : List ℕ). Row t d (after .rows) s) c (h .rows .rows-are s l)) j k;
+          rest = h .rows .rest;
         };
         scratch = h .scratch;
         marked = subst (λ (n : ℕ). Marked e n (linesIn (rootChain D t p)) (before .marks) (after .marks)) length-is (subst (λ (d : List ℕ). Marked e (length t) d (before .marks) (after .marks)) c (h .marked));
@@ -121,8 +125,8 @@ module _ (D : ℕ) (t : List Frame) (p : Parts D t) where
 
 -- ── there is one ──
 
-rows-unique : (m : ℕ) (b : Body) (before a c : List ℕ) → RowsBy m b before a → RowsBy m b before c → a ≡ c
-rows-unique m b before a c h k = ext-getD 0 a c (h .same-length ∙ sym (k .same-length)) at
+rows-unique : (m first : ℕ) (b : Body) (before a c : List ℕ) → RowsBy m first b before a → RowsBy m first b before c → a ≡ c
+rows-unique m first b before a c h k = ext-getD 0 a c (h .same-length ∙ sym (k .same-length)) at
   where
     low : (i : ℕ) → i / columns ≤ m → getD a i 0 ≡ getD c i 0
     low i l =
@@ -139,11 +143,11 @@ marked-unique marks n c before a d h k =
     ext-getD 0 a d (h .same-length ∙ sym (k .same-length))
     (λ i l. elim (below n i) [ inl g ↦ h .marks-are i g ∙ sym (k .marks-are i g) | inr w ↦ h .rest i (omega (arith, w .1)) ∙ sym (k .rest i (omega (arith, w .1))) ])
 
-pub by-tree-unique : (e : Engine) (m : ℕ) (b : Body) (before : Lent) (r q : Answer) (x y : Lent) → ProfileBy e m b before r x → ProfileBy e m b before q y → (r ≡ q) × (x ≡ y)
-by-tree-unique e m b before r q x y h k = (
+pub by-tree-unique : (e : Engine) (m first : ℕ) (b : Body) (before : Lent) (r q : Answer) (x y : Lent) → ProfileBy e m first b before r x → ProfileBy e m first b before q y → (r ≡ q) × (x ≡ y)
+by-tree-unique e m first b before r q x y h k = (
   h .answer ∙ sym (k .answer),
-  lent-same x y (h .scratch ∙ sym (k .scratch)) (rows-unique m b (before .rows) (x .rows) (y .rows) (h .rows) (k .rows))
-      (marked-unique e (m + size b) (linesIn (chainOf m 0 b)) (before .marks) (x .marks) (y .marks) (h .marked) (k .marked)),
+  lent-same x y (h .scratch ∙ sym (k .scratch)) (rows-unique m first b (before .rows) (x .rows) (y .rows) (h .rows) (k .rows))
+      (marked-unique e (first + size b) (linesIn (chainOf first 0 b)) (before .marks) (x .marks) (y .marks) (h .marked) (k .marked)),
 )
 
 -- LAW: two outcomes that meet the promise for the same text, limits and room are equal
@@ -153,7 +157,7 @@ promise-unique e s D M before r q x y h k = go (verdict s D M (enough e s D M be
     go : (v : Verdict) → verdict s D M (enough e s D M before) ≡ v → (r ≡ q) × (x ≡ y)
     go (accepted t) a =
         let p = accepted-parts s D M (enough e s D M before) t a in
-        by-tree-unique e (length (p .heads)) (p .body) before r q x y (profile-tree D t p e before r x (h .when-accepted t a)) (profile-tree D t p e before q y (k .when-accepted t a))
+        by-tree-unique e (sites t) (rootAt p) (p .body) before r q x y (profile-tree D t p e before r x (h .when-accepted t a)) (profile-tree D t p e before q y (k .when-accepted t a))
     go (refused n l) a =
         let u = h .when-refused n l a in
         let v = k .when-refused n l a in
@@ -196,14 +200,14 @@ module _ (f : ℕ → ℕ) (m : ℕ) (l : List ℕ) where
   ]
 
 -- as the tree says, in the room that is there
-module _ (m : ℕ) (b : Body) (before : Lent) (rows-fit : columns * (m + 1) ≤ length (before .rows)) where
+module _ (m first : ℕ) (b : Body) (before : Lent) (rows-fit : columns * (m + 1) ≤ length (before .rows)) where
   abbrev number : ℕ → ℕ
-  number i = cell m b (i / columns) (i % columns)
+  number i = cell first b (i / columns) (i % columns)
 
   abbrev new-rows : List ℕ
   new-rows = over number (columns * (m + 1)) (before .rows)
 
-  rows-by : RowsBy m b (before .rows) new-rows
+  rows-by : RowsBy m first b (before .rows) new-rows
   rows-by =
       record {
         same-length = over-length number (columns * (m + 1)) (before .rows);
@@ -211,28 +215,28 @@ module _ (m : ℕ) (b : Body) (before : Lent) (rows-fit : columns * (m + 1) ≤ 
         rest = over-high number (columns * (m + 1)) (before .rows);
       }
     where
-      named : (s j : ℕ) → j < columns → number (columns * s + j) ≡ cell m b s j
+      named : (s j : ℕ) → j < columns → number (columns * s + j) ≡ cell first b s j
       named s j k =
           let a : (columns * s + j) / columns ≡ s = omega arith in
           let c : (columns * s + j) % columns ≡ j = omega arith in
-          ap (λ (i : ℕ). cell m b i ((columns * s + j) % columns)) a ∙ ap (cell m b s) c
+          ap (λ (i : ℕ). cell first b i ((columns * s + j) % columns)) a ∙ ap (cell first b s) c
 
-  marked-by : (e : Engine) → (e ≡ marks → m + size b ≤ length (before .marks)) → (after : List ℕ) × Marked e (m + size b) (linesIn (chainOf m 0 b)) (before .marks) after
+  marked-by : (e : Engine) → (e ≡ marks → first + size b ≤ length (before .marks)) → (after : List ℕ) × Marked e (first + size b) (linesIn (chainOf first 0 b)) (before .marks) after
   marked-by tables h = (before .marks, refl)
   marked-by marks h =
-      let f : ℕ → ℕ = λ k. cond (has k (linesIn (chainOf m 0 b))) 1 0 in (
-        over f (m + size b) (before .marks),
+      let f : ℕ → ℕ = λ k. cond (has k (linesIn (chainOf first 0 b))) 1 0 in (
+        over f (first + size b) (before .marks),
         record {
-          same-length = over-length f (m + size b) (before .marks);
-          marks-are = λ k l. over-low f (m + size b) (before .marks) k l (h refl);
-          rest = over-high f (m + size b) (before .marks);
+          same-length = over-length f (first + size b) (before .marks);
+          marks-are = λ k l. over-low f (first + size b) (before .marks) k l (h refl);
+          rest = over-high f (first + size b) (before .marks);
         },
       )
 
-  some-profile : (e : Engine) → (e ≡ marks → m + size b ≤ length (before .marks)) → (r : Answer) × (after : Lent) × ProfileBy e m b before r after
+  some-profile : (e : Engine) → (e ≡ marks → first + size b ≤ length (before .marks)) → (r : Answer) × (after : Lent) × ProfileBy e m first b before r after
   some-profile e h =
       let w = marked-by e h in (
-        Accepted (workOf b) (spanOf b) m (m + size b),
+        Accepted (workOf b) (spanOf b) m (first + size b),
         record { scratch = replicate (length (before .scratch)) 0; rows = new-rows; marks = w .0 },
         record { answer = refl; rows = rows-by; scratch = refl; marked = w .1 },
       )
@@ -251,8 +255,8 @@ promise-met e s D M before = go (verdict s D M (enough e s D M before)) refl
         let p = parts D M t f in
         let x = both (leb (scratchRoom e D M) (length (before .scratch)) && leb (rowsRoom M) (length (before .rows))) (leb (marksRoom e s) (length (before .marks))) (accepted-is s D M (enough e s D M before) t a .0) in
         let y = leb-true (rowsRoom M) (length (before .rows)) (both (leb (scratchRoom e D M) (length (before .scratch))) (leb (rowsRoom M) (length (before .rows))) (x .0) .1) in
-        let w = some-profile (length (p .heads)) (p .body) before (omega (arith, sites-le-M D M t f, sites-are D t p))
-        e (marks-fit e (length (p .heads) + size (p .body)) (sym (length-is D t p) ∙ accepted-length s D M (enough e s D M before) t a) (x .1)) in (
+        let w = some-profile (sites t) (rootAt p) (p .body) before (omega (arith, sites-le-M D M t f))
+        e (marks-fit e (rootAt p + size (p .body)) (sym (length-is D t p) ∙ accepted-length s D M (enough e s D M before) t a) (x .1)) in (
           w .0,
           w .1,
           record {

@@ -2,21 +2,23 @@
 use mathlib.Core.Path.{_≡_, refl, sym, _∙_, ap, subst}
 use mathlib.Core.Bool.{Bool, true, false, not, _||_}
 use mathlib.Core.List.{List, [], _∷_, _++_, append-assoc, append-nil}
-use Prim.Native.Nat.{ℕ, zero, suc, _+_, _≤_, _<_}
+use Prim.Native.Nat.{ℕ, zero, suc, _≤_, _<_}
 use native.Mathlib.Omega.{arith}
 use lib.ListN.{length}
 use lib.Seq.{append-snoc}
 use lib.Dec.{eqb, ltb}
-use borrow.Author.Tests.{eqb-true, eqb-false, ltb-false, not-false}
+use borrow.Author.Tests.{eqb-false, ltb-false, not-false}
+use Rattle.line.specs.declared.Place.{Place}
 use Rattle.line.specs.declared.Frame.{Frame}
 use Rattle.line.specs.declared.Frame.the-variants.{Site, Call, Spawn, Sync, Return, Cost}
-use Rattle.trace.specs.Shape.{root, step}
-use Rattle.trace.specs.Refusals.{openNow, empty, allSites, lastSite, declared, accepted, verdict}
+use Rattle.trace.specs.Shape.{root, step, sites}
+use Rattle.trace.specs.Refusals.{openNow, empty, declared, accepted, verdict}
 use Rattle.trace.specs.Tree.{Way, call, spawn, opening, Leaf, spend, sync, lineOf, LeafWithin, Body, done, leaf, child, linesOf, Within, AllSites, Parts}
 use Rattle.trace.proofs.Basics.{no-way, neither}
-use Rattle.trace.proofs.Tree.{NotSite, NoSites, no-sites-right, leaf-not-site, opening-not-site, no-sites-lines, leaf-step, opening-step, parts-one}
+use Rattle.trace.proofs.Cases.{NotSite, NoSites, by-site}
+use Rattle.trace.proofs.Tree.{no-sites-right, leaf-not-site, opening-not-site, no-sites-lines, leaf-step, opening-step, parts-one}
 use Rattle.trace.proofs.Scan.{Clean, Fine, accepted-fine, faultless, now}
-use Rattle.trace.proofs.Sites.{other-before, no-sites-after, Numb, numb-start, numb-snoc, declared-same}
+use Rattle.trace.proofs.Sites.{sites-append, other-before, no-sites-after, declared-same, Numbered, numbered-start, declared-upto, numbered-snoc}
 
 -- the sites, and the rest
 pub record Split (D M : ℕ) (before u : List Frame) : Type 0 where
@@ -27,9 +29,9 @@ pub record Split (D M : ℕ) (before u : List Frame) : Type 0 where
   pub rest-are : NoSites rest
   pub clean : Clean D M (before ++ heads) rest
   pub opened : openNow (before ++ heads) ≡ root ∷ []
-  pub numb : Numb (before ++ heads)
+  pub numb : Numbered (before ++ heads)
 
-at-rest : (D M : ℕ) (before u : List Frame) → openNow before ≡ root ∷ [] → Numb before → NoSites u → Clean D M before u → Split D M before u
+at-rest : (D M : ℕ) (before u : List Frame) → openNow before ≡ root ∷ [] → Numbered before → NoSites u → Clean D M before u → Split D M before u
 at-rest D M before u o nb n c =
     let e : before ≡ before ++ [] = sym (append-nil before) in
     record {
@@ -40,15 +42,11 @@ at-rest D M before u o nb n c =
       rest-are = n;
       clean = subst (λ (b : List Frame). Clean D M b u) e c;
       opened = subst (λ (b : List Frame). openNow b ≡ root ∷ []) e o;
-      numb = subst Numb e nb;
+      numb = subst Numbered e nb;
     }
 
-split : (D M : ℕ) (before u : List Frame) → openNow before ≡ root ∷ [] → Numb before → Clean D M before u → Split D M before u
-split D M before [] o nb c = at-rest D M before [] o nb tt c
-split D M before (Site s p ∷ u) o nb c =
-    let y = neither (not (allSites before)) (not (eqb s (suc (lastSite 0 before)))) (faultless D M before (Site s p) (c .0) .not8) in
-    let x = eqb-true s (suc (lastSite 0 before)) (not-false (eqb s (suc (lastSite 0 before))) (y .1)) in
-    let k = split D M (before ++ Site s p ∷ []) u (now before (Site s p) ∙ o) (numb-snoc before s p nb x) (c .2) in
+one-head : (D M : ℕ) (before u : List Frame) (s : ℕ) (p : Place) → Split D M (before ++ Site s p ∷ []) u → Split D M before (Site s p ∷ u)
+one-head D M before u s p k =
     let a = append-snoc before (Site s p) (k .heads) in
     record {
       heads = Site s p ∷ k .heads;
@@ -58,13 +56,16 @@ split D M before (Site s p ∷ u) o nb c =
       rest-are = k .rest-are;
       clean = subst (λ (b : List Frame). Clean D M b (k .rest)) a (k .clean);
       opened = subst (λ (b : List Frame). openNow b ≡ root ∷ []) a (k .opened);
-      numb = subst Numb a (k .numb);
+      numb = subst Numbered a (k .numb);
     }
-split D M before (Call s ∷ u) o nb c = at-rest D M before (Call s ∷ u) o nb (tt, no-sites-after D M (before ++ Call s ∷ []) u (other-before before (Call s) tt) (c .2)) c
-split D M before (Spawn s ∷ u) o nb c = at-rest D M before (Spawn s ∷ u) o nb (tt, no-sites-after D M (before ++ Spawn s ∷ []) u (other-before before (Spawn s) tt) (c .2)) c
-split D M before (Sync ∷ u) o nb c = at-rest D M before (Sync ∷ u) o nb (tt, no-sites-after D M (before ++ Sync ∷ []) u (other-before before Sync tt) (c .2)) c
-split D M before (Return ∷ u) o nb c = at-rest D M before (Return ∷ u) o nb (tt, no-sites-after D M (before ++ Return ∷ []) u (other-before before Return tt) (c .2)) c
-split D M before (Cost v ∷ u) o nb c = at-rest D M before (Cost v ∷ u) o nb (tt, no-sites-after D M (before ++ Cost v ∷ []) u (other-before before (Cost v) tt) (c .2)) c
+
+split : (D M : ℕ) (before u : List Frame) → openNow before ≡ root ∷ [] → Numbered before → Clean D M before u → Split D M before u
+split D M before [] o nb c = at-rest D M before [] o nb tt c
+split D M before (f ∷ u) o nb c =
+    by-site (λ g. Clean D M before (g ∷ u) → Numbered (before ++ g ∷ []) → Split D M before (g ∷ u))
+    (λ s p k n. one-head D M before u s p (split D M (before ++ Site s p ∷ []) u (now before (Site s p) ∙ o) n (k .2)))
+    (λ g n k m. at-rest D M before (g ∷ u) o nb (n, no-sites-after D M (before ++ g ∷ []) u (other-before before g n) (k .2)) k)
+    f c (numbered-snoc before f (faultless D M before f (c .0) .not8) nb)
 
 -- ── the rest is a body ──
 
@@ -177,8 +178,9 @@ closed D M before (f ∷ u) o c = no-way (sym (faultless D M before f (c .0) .no
 -- LAW: the lines that pass are sites and then the lines of a body
 pub parts : (D M : ℕ) (t : List Frame) → Fine D M t → Parts D t
 parts D M t f =
-    let s = split D M [] t refl numb-start (f .clean) in
-    let p = parse D M (length (s .heads)) (length (s .rest)) (s .heads) (s .rest) root [] (omega arith) (s .rest-are) (λ i d. s .numb .only i d .1) (s .opened) (s .clean) in
+    let s = split D M [] t refl numbered-start (f .clean) in
+    let upto : (i : ℕ) → declared i (s .heads) ≡ true → i ≤ sites t = λ i d. omega (arith, declared-upto (s .heads) (s .numb) i d, ap sites (s .lines), sites-append (s .heads) (s .rest)) in
+    let p = parse D M (sites t) (length (s .rest)) (s .heads) (s .rest) root [] (omega arith) (s .rest-are) upto (s .opened) (s .clean) in
     let c = closed D M (s .heads ++ linesOf (p .body)) (p .rest) (p .now-open) (p .clean) in
     record {
       heads = s .heads;

@@ -7,20 +7,19 @@ use Prim.Native.Nat.{ℕ, _+_, _*_, _/_, _%_, _≤_, _<_}
 use native.Mathlib.Omega.{arith}
 use lib.ListN.{length, getD}
 use Rattle.line.specs.declared.Frame.{Frame}
-use Rattle.line.specs.declared.Frame.the-variants.{Site, Call, Spawn, Sync, Return, Cost}
 use Rattle.trace.specs.declared.Answer.{Answer}
 use Rattle.trace.specs.Shape.{sites}
 use Rattle.trace.specs.Rows.{columns}
 use Rattle.trace.specs.Refusals.{Verdict, accepted, refused, verdict}
 use Rattle.trace.specs.Promise.{Engine, tables, marks, Lent, marksRoom, enough, refusal, Promise}
 use Rattle.trace.specs.Places.{OnlyPlaces, RefusedWith}
-use Rattle.trace.specs.Tree.{Way, call, spawn, opening, Leaf, spend, sync, lineOf, Body, done, leaf, child, linesOf, AllSites, Parts}
+use Rattle.trace.specs.Tree.{Way, call, spawn, opening, Leaf, spend, sync, lineOf, Body, done, leaf, child, linesOf, AllSites, Parts, rootAt}
 use Rattle.trace.specs.ByTree.{ProfileBy}
-use Rattle.trace.proofs.Tree.{IsSite, parts-one}
+use Rattle.trace.proofs.Cases.{IsSite, at-site}
+use Rattle.trace.proofs.Tree.{parts-one}
 use Rattle.trace.proofs.Parse.{accepted-parts}
-use Rattle.trace.proofs.Invocations.{sites-are}
-use Rattle.trace.proofs.Outcome.{profile-tree, by-tree-unique}
-use Rattle.trace.proofs.Unseen.{blank, blanks, ButPlaces, blanks-append, blanks-length, SameVerdict, verdict-same}
+use Rattle.trace.proofs.Outcome.{profile-tree, by-tree-unique, profile-same}
+use Rattle.trace.proofs.Unseen.{blank, blanks, ButPlaces, blanks-append, blanks-length, sites-blank, SameVerdict, verdict-same}
 
 blank-leaf : (l : Leaf) → blank (lineOf l) ≡ lineOf l
 blank-leaf (spend v) = refl
@@ -37,18 +36,10 @@ blanks-lines (child w s g r) = rw (blank-opening w s, blanks-append (linesOf g) 
 
 blanks-sites : (h : List Frame) → AllSites h → AllSites (blanks h)
 blanks-sites [] s = tt
-blanks-sites (f ∷ h) s = (blank-site f (s .0), blanks-sites h (s .1))
-  where
-    blank-site : (f : Frame) → IsSite f → IsSite (blank f)
-    blank-site (Site i p) k = tt
-    blank-site (Call i) k = absurd k
-    blank-site (Spawn i) k = absurd k
-    blank-site Sync k = absurd k
-    blank-site Return k = absurd k
-    blank-site (Cost v) k = absurd k
+blanks-sites (f ∷ h) s = (at-site (λ g. IsSite (blank g)) (λ i p. tt) f (s .0), blanks-sites h (s .1))
 
--- LAW: they have as many sites, and one tree
-pub same-parts : (D E : ℕ) (t u : List Frame) (p : Parts D t) (q : Parts E u) → ButPlaces t u → (length (p .heads) ≡ length (q .heads)) × (p .body ≡ q .body)
+-- LAW: they have one tree, which begins at one line
+pub same-parts : (D E : ℕ) (t u : List Frame) (p : Parts D t) (q : Parts E u) → ButPlaces t u → (rootAt p ≡ rootAt q) × (p .body ≡ q .body)
 same-parts D E t u p q e =
     let w = parts-one (blanks (p .heads)) (blanks (q .heads)) (p .body) (q .body) (blanks-sites (p .heads) (p .all-sites)) (blanks-sites (q .heads) (q .all-sites)) (sym (apart D t p) ∙ e ∙ apart E u q) in
     (sym (blanks-length (p .heads)) ∙ ap length (w .0) ∙ blanks-length (q .heads), w .1)
@@ -56,19 +47,23 @@ same-parts D E t u p q e =
     apart : (D : ℕ) (t : List Frame) (p : Parts D t) → blanks t ≡ blanks (p .heads) ++ linesOf (p .body)
     apart D t p = ap blanks (p .lines) ∙ blanks-append (p .heads) (linesOf (p .body)) ∙ ap (λ (l : List Frame). blanks (p .heads) ++ l) (blanks-lines (p .body))
 
+-- and as many sites
+sites-same : (t u : List Frame) → ButPlaces t u → sites t ≡ sites u
+sites-same t u e = sym (sites-blank t) ∙ ap sites e ∙ sites-blank u
+
 -- "The two engines agree on the answer and on the rows written; numbers that neither writes are each caller's own."
 pub record Agree (t : List Frame) (r q : Answer) (x y : Lent) : Type 0 where
   pub answers : r ≡ q
   pub rows-written : (i : ℕ) → i < columns * (sites t + 1) → getD (x .rows) i 0 ≡ getD (y .rows) i 0
 
 agree-by : (D : ℕ) (t : List Frame) (p : Parts D t) (e f : Engine) (b c : Lent) (r q : Answer) (x y : Lent)
-    → ProfileBy e (length (p .heads)) (p .body) b r x → ProfileBy f (length (p .heads)) (p .body) c q y → Agree t r q x y
+    → ProfileBy e (sites t) (rootAt p) (p .body) b r x → ProfileBy f (sites t) (rootAt p) (p .body) c q y → Agree t r q x y
 agree-by D t p e f b c r q x y h k = record { answers = h .answer ∙ sym (k .answer); rows-written = at }
   where
     at : (i : ℕ) → i < columns * (sites t + 1) → getD (x .rows) i 0 ≡ getD (y .rows) i 0
     at i l =
         let z : columns * (i / columns) + i % columns ≡ i = omega arith in
-        let a : i / columns ≤ length (p .heads) = omega (arith, sites-are D t p) in
+        let a : i / columns ≤ sites t = omega arith in
         let d : i % columns < columns = omega arith in
         subst (λ (j : ℕ). getD (x .rows) j 0 ≡ getD (y .rows) j 0) z (h .rows .cells (i / columns) (i % columns) a d ∙ sym (k .rows .cells (i / columns) (i % columns) a d))
 
@@ -80,8 +75,7 @@ module _ (s z : List ℕ) (D M E N : ℕ) (e f : Engine) (b c : Lent) (r q : Ans
       let o = accepted-parts z E N (enough f z E N c) u j in
       let w = same-parts D E t u p o d in
       agree-by D t p e f b c r q x y (profile-tree D t p e b r x (h .when-accepted t i))
-      (subst (λ (n : ℕ). ProfileBy f n (p .body) c q y) (sym (w .0))
-      (subst (λ (g : Body). ProfileBy f (length (o .heads)) g c q y) (sym (w .1)) (profile-tree E u o f c q y (k .when-accepted u j))))
+      (profile-same f c q y (sites-same t u d) (w .0) (w .1) (profile-tree E u o f c q y (k .when-accepted u j)))
 
 -- LAW: the two engines agree, with any room
 pub engines-agree : (s : List ℕ) (D M : ℕ) (e f : Engine) (b c : Lent) (r q : Answer) (x y : Lent) → Promise e s D M b r x → Promise f s D M c q y
@@ -134,9 +128,7 @@ places e s z D M before r q x y h k d a b =
         let w = same-parts D D t u p o c in
         let f = profile-tree D t p e before r x (h .when-accepted t i) in
         let g = profile-tree D u o e before q y (k .when-accepted u (lent (accepted u) j)) in
-        by-tree-unique e (length (p .heads)) (p .body) before r q x y f
-        (subst (λ (n : ℕ). ProfileBy e n (p .body) before q y) (sym (w .0))
-        (subst (λ (b : Body). ProfileBy e (length (o .heads)) b before q y) (sym (w .1)) g))
+        by-tree-unique e (sites t) (rootAt p) (p .body) before r q x y f (profile-same e before q y (sites-same t u c) (w .0) (w .1) g)
     go (accepted t) (refused n l) i j c = absurd c
     go (refused n l) (accepted u) i j c = absurd c
     go (refused n l) (refused m o) i j c =

@@ -1,144 +1,138 @@
 -- Site lines: how many there are, that they come first, and that they are numbered 1, 2, 3 and on.
-use mathlib.Core.Path.{_≡_, refl, sym, _∙_, ap}
-use mathlib.Core.Bool.{Bool, true, false, not, _||_, or-true}
-use mathlib.Core.List.{List, [], _∷_, _++_}
-use Prim.Native.Nat.{ℕ, suc, _+_, _≤_}
+use mathlib.Core.Path.{_≡_, refl, sym, _∙_, ap, subst}
+use mathlib.Core.Bool.{Bool, true, false, not, _||_, or-false, or-assoc}
+use mathlib.Core.List.{List, [], _∷_, _++_, append-nil}
+use Prim.Native.Nat.{ℕ, zero, suc, _+_, _≤_}
 use native.Mathlib.Omega.{arith}
 use lib.ListN.{length, length-append}
-use lib.Dec.{eqb}
-use borrow.Author.Tests.{eqb-true, eqb-false, ne-eqb, not-false}
+use lib.Seq.{append-snoc}
+use lib.Dec.{eqb, leb}
+use borrow.Author.Tests.{eqb-true, eqb-false, ltb-false, leb-true, leb-false, le-leb, lt-leb, ne-eqb, not-false}
 use Rattle.line.specs.declared.Place.{Place}
 use Rattle.line.specs.declared.Frame.{Frame}
-use Rattle.line.specs.declared.Frame.the-variants.{Site, Call, Spawn, Sync, Return, Cost}
-use Rattle.trace.specs.Shape.{sites}
-use Rattle.trace.specs.Refusals.{allSites, lastSite, declared}
+use Rattle.line.specs.declared.Frame.the-variants.{Site}
+use Rattle.trace.specs.Shape.{ifSite, sites}
+use Rattle.trace.specs.Refusals.{allSites, lastSite, misplaced, aboveM, declared}
 use Rattle.trace.specs.Tree.{AllSites}
 use Rattle.trace.proofs.Basics.{no-way, neither}
-use Rattle.trace.proofs.Tree.{NotSite, NoSites}
+use Rattle.trace.proofs.Cases.{NotSite, NoSites, by-site, other, at-site, either-way, both-ways}
 use Rattle.trace.proofs.Scan.{Clean, faultless}
 
 pub sites-none : (u : List Frame) → NoSites u → sites u ≡ 0
 sites-none [] h = refl
-sites-none (Site i q ∷ t) h = absurd (h .0)
-sites-none (Call i ∷ t) h = sites-none t (h .1)
-sites-none (Spawn i ∷ t) h = sites-none t (h .1)
-sites-none (Sync ∷ t) h = sites-none t (h .1)
-sites-none (Return ∷ t) h = sites-none t (h .1)
-sites-none (Cost v ∷ t) h = sites-none t (h .1)
+sites-none (f ∷ t) h = other (λ s p. suc (sites t)) (sites t) f (h .0) ∙ sites-none t (h .1)
 
 pub sites-append : (t u : List Frame) → sites (t ++ u) ≡ sites t + sites u
 sites-append [] u = omega arith
-sites-append (Site i q ∷ t) u = omega (arith, sites-append t u)
-sites-append (Call i ∷ t) u = sites-append t u
-sites-append (Spawn i ∷ t) u = sites-append t u
-sites-append (Sync ∷ t) u = sites-append t u
-sites-append (Return ∷ t) u = sites-append t u
-sites-append (Cost v ∷ t) u = sites-append t u
+sites-append (f ∷ t) u = both-ways (λ (x y : ℕ). x ≡ y + sites u) f (λ s p. omega (arith, sites-append t u)) (sites-append t u)
 
 pub sites-le : (t : List Frame) → sites t ≤ length t
 sites-le [] = omega arith
-sites-le (Site i q ∷ t) = omega (arith, sites-le t)
-sites-le (Call i ∷ t) = omega (arith, sites-le t)
-sites-le (Spawn i ∷ t) = omega (arith, sites-le t)
-sites-le (Sync ∷ t) = omega (arith, sites-le t)
-sites-le (Return ∷ t) = omega (arith, sites-le t)
-sites-le (Cost v ∷ t) = omega (arith, sites-le t)
+sites-le (f ∷ t) = either-way (λ (x : ℕ). x ≤ suc (length t)) f (λ s p. omega (arith, sites-le t)) (omega (arith, sites-le t))
 
 pub sites-all : (t : List Frame) → AllSites t → sites t ≡ length t
 sites-all [] h = refl
-sites-all (Site i q ∷ t) h = ap suc (sites-all t (h .1))
-sites-all (Call i ∷ t) h = absurd (h .0)
-sites-all (Spawn i ∷ t) h = absurd (h .0)
-sites-all (Sync ∷ t) h = absurd (h .0)
-sites-all (Return ∷ t) h = absurd (h .0)
-sites-all (Cost v ∷ t) h = absurd (h .0)
+sites-all (f ∷ t) h = at-site (λ g. sites (g ∷ t) ≡ suc (length t)) (λ s p. ap suc (sites-all t (h .1))) f (h .0)
 
 -- once another kind stood there, some line before is no site
 pub other-before : (before : List Frame) (f : Frame) → NotSite f → allSites (before ++ f ∷ []) ≡ false
 other-before before f h =
     ne-eqb (sites (before ++ f ∷ [])) (length (before ++ f ∷ [])) (λ e. omega (arith, sites-append before (f ∷ []), sites-none (f ∷ []) (h, tt), length-append before (f ∷ []), sites-le before))
 
+-- what refusal 8 leaves of a site line: only sites stand before it, and its number
+pub sites-before : (before : List Frame) (s : ℕ) (p : Place) → misplaced before (Site s p) ≡ false → allSites before ≡ true
+sites-before before s p m = not-false (allSites before) (neither (not (allSites before)) (not (eqb s (suc (lastSite 0 before)))) m .0)
+
+pub number-is : (before : List Frame) (s : ℕ) (p : Place) → misplaced before (Site s p) ≡ false → s ≡ suc (lastSite 0 before)
+number-is before s p m =
+    eqb-true s (suc (lastSite 0 before)) (not-false (eqb s (suc (lastSite 0 before))) (neither (not (allSites before)) (not (eqb s (suc (lastSite 0 before)))) m .1))
+
 pub no-sites-after : (D M : ℕ) (before u : List Frame) → allSites before ≡ false → Clean D M before u → NoSites u
 no-sites-after D M before [] h c = tt
-no-sites-after D M before (Site s p ∷ u) h c =
-    let n = neither (not (allSites before)) (not (eqb s (suc (lastSite 0 before)))) (faultless D M before (Site s p) (c .0) .not8) in
-    no-way (sym h ∙ not-false (allSites before) (n .0))
-no-sites-after D M before (Call s ∷ u) h c = (tt, no-sites-after D M (before ++ Call s ∷ []) u (other-before before (Call s) tt) (c .2))
-no-sites-after D M before (Spawn s ∷ u) h c = (tt, no-sites-after D M (before ++ Spawn s ∷ []) u (other-before before (Spawn s) tt) (c .2))
-no-sites-after D M before (Sync ∷ u) h c = (tt, no-sites-after D M (before ++ Sync ∷ []) u (other-before before Sync tt) (c .2))
-no-sites-after D M before (Return ∷ u) h c = (tt, no-sites-after D M (before ++ Return ∷ []) u (other-before before Return tt) (c .2))
-no-sites-after D M before (Cost v ∷ u) h c = (tt, no-sites-after D M (before ++ Cost v ∷ []) u (other-before before (Cost v) tt) (c .2))
-
--- sites are numbered 1, 2, 3 and on
-pub record Numb (b : List Frame) : Type 0 where
-  pub last : lastSite 0 b ≡ length b
-  pub only : (s : ℕ) → declared s b ≡ true → (1 ≤ s) × (s ≤ length b)
-  pub each : (s : ℕ) → 1 ≤ s → s ≤ length b → declared s b ≡ true
-
-pub numb-start : Numb []
-numb-start = record { last = refl; only = λ i d. no-way d; each = λ i lo hi. absurd (omega arith) }
-
-last-snoc : (b : List Frame) (n s : ℕ) (p : Place) → lastSite n (b ++ Site s p ∷ []) ≡ s
-last-snoc [] n s p = refl
-last-snoc (Site i q ∷ b) n s p = last-snoc b i s p
-last-snoc (Call i ∷ b) n s p = last-snoc b n s p
-last-snoc (Spawn i ∷ b) n s p = last-snoc b n s p
-last-snoc (Sync ∷ b) n s p = last-snoc b n s p
-last-snoc (Return ∷ b) n s p = last-snoc b n s p
-last-snoc (Cost v ∷ b) n s p = last-snoc b n s p
-
-or-assoc : (a b c : Bool) → (a || (b || c)) ≡ ((a || b) || c)
-or-assoc true b c = refl
-or-assoc false b c = refl
-
-or-no : (a : Bool) → (a || false) ≡ a
-or-no true = refl
-or-no false = refl
-
-declared-snoc : (b : List Frame) (x s : ℕ) (p : Place) → declared x (b ++ Site s p ∷ []) ≡ (declared x b || eqb x s)
-declared-snoc [] x s p = or-no (eqb x s)
-declared-snoc (Site i q ∷ b) x s p = ap (λ (y : Bool). eqb x i || y) (declared-snoc b x s p) ∙ or-assoc (eqb x i) (declared x b) (eqb x s)
-declared-snoc (Call i ∷ b) x s p = declared-snoc b x s p
-declared-snoc (Spawn i ∷ b) x s p = declared-snoc b x s p
-declared-snoc (Sync ∷ b) x s p = declared-snoc b x s p
-declared-snoc (Return ∷ b) x s p = declared-snoc b x s p
-declared-snoc (Cost v ∷ b) x s p = declared-snoc b x s p
-
-pub numb-snoc : (b : List Frame) (s : ℕ) (p : Place) → Numb b → s ≡ suc (lastSite 0 b) → Numb (b ++ Site s p ∷ [])
-numb-snoc b s p h e =
-    let l : length (b ++ Site s p ∷ []) ≡ suc (length b) = omega (arith, length-append b (Site s p ∷ [])) in
-    let k : s ≡ suc (length b) = omega (arith, h .last) in
-    record {
-      last = last-snoc b 0 s p ∙ k ∙ sym l;
-      only = λ x d. only x (declared x b) refl (sym (declared-snoc b x s p) ∙ d) l k;
-      each = λ x lo hi. declared-snoc b x s p ∙ each x lo (omega arith) k;
-    }
-  where
-    only : (x : ℕ) (y : Bool) → declared x b ≡ y → (y || eqb x s) ≡ true → length (b ++ Site s p ∷ []) ≡ suc (length b) → s ≡ suc (length b) → (1 ≤ x) × (x ≤ length (b ++ Site s p ∷ []))
-    only x true d q l k = let r = h .only x d in (r .0, omega (arith, r .1))
-    only x false d q l k = let r = eqb-true x s q in (omega arith, omega arith)
-
-    each : (x : ℕ) → 1 ≤ x → x ≤ suc (length b) → s ≡ suc (length b) → (declared x b || eqb x s) ≡ true
-    each x lo hi k = go (eqb x s) refl
-      where
-        go : (y : Bool) → eqb x s ≡ y → (declared x b || eqb x s) ≡ true
-        go true q = ap (λ (z : Bool). declared x b || z) q ∙ or-true (declared x b)
-        go false q = ap (λ (z : Bool). z || eqb x s) (h .each x lo (less (eqb-false x s q)))
-          where
-            less : (x ≡ s → ⊥) → x ≤ length b
-            less n = omega (arith, n)
+no-sites-after D M before (f ∷ u) h c =
+    by-site (λ g. Clean D M before (g ∷ u) → NoSites (g ∷ u))
+    (λ s p k. no-way (sym h ∙ sites-before before s p (faultless D M before (Site s p) (k .0) .not8)))
+    (λ g n k. (n, no-sites-after D M (before ++ g ∷ []) u (other-before before g n) (k .2))) f c
 
 pub declared-same : (s : ℕ) (b u : List Frame) → NoSites u → declared s (b ++ u) ≡ declared s b
 declared-same s [] [] h = refl
-declared-same s [] (Site i q ∷ u) h = absurd (h .0)
-declared-same s [] (Call i ∷ u) h = declared-same s [] u (h .1)
-declared-same s [] (Spawn i ∷ u) h = declared-same s [] u (h .1)
-declared-same s [] (Sync ∷ u) h = declared-same s [] u (h .1)
-declared-same s [] (Return ∷ u) h = declared-same s [] u (h .1)
-declared-same s [] (Cost v ∷ u) h = declared-same s [] u (h .1)
-declared-same s (Site i q ∷ b) u h = ap (λ (x : Bool). eqb s i || x) (declared-same s b u h)
-declared-same s (Call i ∷ b) u h = declared-same s b u h
-declared-same s (Spawn i ∷ b) u h = declared-same s b u h
-declared-same s (Sync ∷ b) u h = declared-same s b u h
-declared-same s (Return ∷ b) u h = declared-same s b u h
-declared-same s (Cost v ∷ b) u h = declared-same s b u h
+declared-same s [] (f ∷ u) h = other (λ i p. eqb s i || declared s u) (declared s u) f (h .0) ∙ declared-same s [] u (h .1)
+declared-same s (f ∷ b) u h = ap (λ (x : Bool). ifSite (λ i p. eqb s i || x) x f) (declared-same s b u h)
+
+-- ── numbered 1, 2, 3 and on, over any lines ──
+
+pub record Numbered (before : List Frame) : Type 0 where
+  pub last : lastSite 0 before ≡ sites before
+  pub each : (s : ℕ) → 1 ≤ s → declared s before ≡ leb s (sites before)
+
+pub numbered-start : Numbered []
+numbered-start = record { last = refl; each = λ s l. sym (lt-leb s 0 (omega arith)) }
+
+-- the sites of such lines are those that are declared
+pub declared-upto : (b : List Frame) → Numbered b → (s : ℕ) → declared s b ≡ true → s ≤ sites b
+declared-upto b h zero d = omega arith
+declared-upto b h (suc s) d = leb-true (suc s) (sites b) (sym (h .each (suc s) (omega arith)) ∙ d)
+
+pub upto-declared : (b : List Frame) → Numbered b → (s : ℕ) → 1 ≤ s → s ≤ sites b → declared s b ≡ true
+upto-declared b h s l m = h .each s l ∙ le-leb s (sites b) m
+
+pub last-snoc : (b : List Frame) (n : ℕ) (f : Frame) → lastSite n (b ++ f ∷ []) ≡ ifSite (λ s p. s) (lastSite n b) f
+last-snoc [] n f = refl
+last-snoc (e ∷ b) n f = both-ways (λ (x y : ℕ). x ≡ ifSite (λ s p. s) y f) e (λ s p. last-snoc b s f) (last-snoc b n f)
+
+declared-snoc : (b : List Frame) (x : ℕ) (f : Frame) → declared x (b ++ f ∷ []) ≡ (declared x b || declared x (f ∷ []))
+declared-snoc [] x f = refl
+declared-snoc (e ∷ b) x f =
+    both-ways (λ (y z : Bool). y ≡ (z || declared x (f ∷ []))) e
+    (λ s p. ap (λ (y : Bool). eqb x s || y) (declared-snoc b x f) ∙ sym (or-assoc (eqb x s) (declared x b) (declared x (f ∷ [])))) (declared-snoc b x f)
+
+-- among n, or the next one
+one-more : (x n : ℕ) → (leb x n || eqb x (suc n)) ≡ leb x (suc n)
+one-more x n = go (leb x n) (eqb x (suc n)) refl refl
+  where
+    go : (a b : Bool) → leb x n ≡ a → eqb x (suc n) ≡ b → (a || b) ≡ leb x (suc n)
+    go true b e f = sym (le-leb x (suc n) (omega (arith, leb-true x n e)))
+    go false true e f = sym (le-leb x (suc n) (omega (arith, eqb-true x (suc n) f)))
+    go false false e f = sym (lt-leb x (suc n) (omega (arith, leb-false x n e, eqb-false x (suc n) f)))
+
+-- LAW: a line that refusal 8 passes keeps the sites numbered
+pub numbered-snoc : (before : List Frame) (f : Frame) → misplaced before f ≡ false → Numbered before → Numbered (before ++ f ∷ [])
+numbered-snoc before f m h = by-site (λ g. misplaced before g ≡ false → Numbered (before ++ g ∷ [])) a-site another f m
+  where
+    a-site : (s : ℕ) (p : Place) → misplaced before (Site s p) ≡ false → Numbered (before ++ Site s p ∷ [])
+    a-site s p m =
+        let k : s ≡ suc (sites before) = omega (arith, number-is before s p m, h .last) in
+        let e : sites (before ++ Site s p ∷ []) ≡ suc (sites before) = omega (arith, sites-append before (Site s p ∷ [])) in
+        record {
+          last = last-snoc before 0 (Site s p) ∙ k ∙ sym e;
+          each = λ x l.
+              declared-snoc before x (Site s p)
+              ∙ ap (λ (y : Bool). declared x before || y) (or-false (eqb x s))
+              ∙ ap (λ (y : Bool). y || eqb x s) (h .each x l)
+              ∙ ap (λ (z : ℕ). leb x (sites before) || eqb x z) k
+              ∙ one-more x (sites before)
+              ∙ ap (leb x) (sym e);
+        }
+
+    another : (g : Frame) → NotSite g → misplaced before g ≡ false → Numbered (before ++ g ∷ [])
+    another g n m =
+        let e : sites (before ++ g ∷ []) ≡ sites before = omega (arith, sites-append before (g ∷ []), sites-none (g ∷ []) (n, tt)) in
+        record {
+          last = last-snoc before 0 g ∙ other (λ s p. s) (lastSite 0 before) g n ∙ h .last ∙ sym e;
+          each = λ s l. declared-same s before (g ∷ []) (n, tt) ∙ h .each s l ∙ ap (leb s) (sym e);
+        }
+
+-- and refusal 9 keeps them within M
+pub within-snoc : (M : ℕ) (before : List Frame) (f : Frame) → misplaced before f ≡ false → aboveM M f ≡ false → Numbered before → sites before ≤ M → sites (before ++ f ∷ []) ≤ M
+within-snoc M before f m a h l =
+    by-site (λ g. misplaced before g ≡ false → aboveM M g ≡ false → sites (before ++ g ∷ []) ≤ M)
+    (λ s p m a. omega (arith, ltb-false M s a, number-is before s p m, h .last, sites-append before (Site s p ∷ [])))
+    (λ g n m a. omega (arith, sites-append before (g ∷ []), sites-none (g ∷ []) (n, tt))) f m a
+
+-- lines that pass have their sites within M
+pub clean-sites : (D M : ℕ) (before t : List Frame) → Clean D M before t → Numbered before → sites before ≤ M → sites (before ++ t) ≤ M
+clean-sites D M before [] c h l = subst (λ (u : List Frame). sites u ≤ M) (sym (append-nil before)) l
+clean-sites D M before (f ∷ t) c h l =
+    let w = faultless D M before f (c .0) in
+    subst (λ (u : List Frame). sites u ≤ M) (append-snoc before f t)
+    (clean-sites D M (before ++ f ∷ []) t (c .2) (numbered-snoc before f (w .not8) h) (within-snoc M before f (w .not8) (w .not9) h l))

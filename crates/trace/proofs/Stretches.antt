@@ -8,13 +8,14 @@ use native.Mathlib.Omega.{arith}
 use lib.ListN.{length, length-append}
 use lib.Dec.{T}
 use Rattle.line.specs.declared.Frame.{Frame}
-use Rattle.line.specs.declared.Frame.the-variants.{Site, Call, Spawn, Sync, Return, Cost}
+use Rattle.line.specs.declared.Frame.the-variants.{Cost}
 use Rattle.trace.specs.Shape.{Is, step, walk, openAt, has}
 use Rattle.trace.specs.Series.{value, valueAt, CostIn, Span}
 use Rattle.trace.specs.Rows.{sumOf, inside}
 use Rattle.trace.specs.Tree.{opening, lineOf, Body, done, leaf, child, linesOf, AllSites, workOf, spanOf}
 use Rattle.trace.proofs.Basics.{below, cond-same}
-use Rattle.trace.proofs.Tree.{IsSite, size-is, leaf-value, opening-value}
+use Rattle.trace.proofs.Cases.{IsSite, at-site}
+use Rattle.trace.proofs.Tree.{size-is, leaf-value, opening-value}
 use Rattle.trace.proofs.Recurrence.{weight-chain}
 use Rattle.trace.proofs.Context.{walk-append}
 use Rattle.trace.proofs.Chains.{is-length, is-right, span-of}
@@ -80,12 +81,7 @@ all-costs (child w s g r) n o =
     )
 
 site-weighs : (f : Frame) → IsSite f → value f ≡ 0
-site-weighs (Site s p) h = refl
-site-weighs (Call s) h = absurd h
-site-weighs (Spawn s) h = absurd h
-site-weighs Sync h = absurd h
-site-weighs Return h = absurd h
-site-weighs (Cost v) h = absurd h
+site-weighs f h = at-site (λ g. value g ≡ 0) (λ s p. refl) f h
 
 -- site lines weigh nothing
 pub heads-sum : (p : ℕ → List ℕ → Bool) (n : ℕ) (o : List ℕ) (h : List Frame) → AllSites h → sumOf p n o h ≡ 0

@@ -1,27 +1,16 @@
 -- The lines of a tree: no sites among them, how many they are, and whose they are.
 use mathlib.Core.Path.{_≡_, refl, sym, _∙_, ap, subst}
-use mathlib.Core.Bool.{true, false}
 use mathlib.Core.List.{List, [], _∷_, _++_, append-assoc, append-nil}
-use Prim.Native.Nat.{ℕ, suc, _+_}
+use Prim.Native.Nat.{ℕ, suc}
 use native.Mathlib.Omega.{arith}
-use lib.Dec.{T}
 use lib.ListN.{length, length-append}
 use Rattle.line.specs.declared.Frame.{Frame}
 use Rattle.line.specs.declared.Frame.the-variants.{Site, Call, Spawn, Sync, Return, Cost}
-use Rattle.trace.specs.Shape.{ifSite, ifMakes, step}
+use Rattle.trace.specs.Shape.{ifMakes, step}
 use Rattle.trace.specs.Series.{value}
 use Rattle.trace.specs.Tree.{Way, call, spawn, opening, Leaf, spend, sync, lineOf, leafWork, Body, done, leaf, child, linesOf, size, AllSites}
 use Rattle.trace.proofs.Basics.{clash}
-
-abbrev pub IsSite : Frame → Type 0
-IsSite f = T (ifSite (λ s p. true) false f)
-
-abbrev pub NotSite : Frame → Type 0
-NotSite f = T (ifSite (λ s p. false) true f)
-
-abbrev pub NoSites : List Frame → Type 0
-NoSites [] = Unit {0}
-NoSites (f ∷ u) = NotSite f × NoSites u
+use Rattle.trace.proofs.Cases.{NotSite, NoSites, site-or-not}
 
 pub no-sites-append : (u v : List Frame) → NoSites u → NoSites v → NoSites (u ++ v)
 no-sites-append [] v h k = k
@@ -139,14 +128,6 @@ lines-one (child w s g r) (child x i h q) u v e =
     let m = k .0 in
     let n = l .0 in
     (cc, l .1)
-
-pub site-or-not : (f : Frame) → IsSite f → NotSite f → ⊥
-site-or-not (Site s p) h k = k
-site-or-not (Call s) h k = h
-site-or-not (Spawn s) h k = h
-site-or-not Sync h k = h
-site-or-not Return h k = h
-site-or-not (Cost v) h k = h
 
 -- sites and the lines of a body are those of one list of sites and one body
 pub parts-one : (h k : List Frame) (b c : Body) → AllSites h → AllSites k → h ++ linesOf b ≡ k ++ linesOf c → (h ≡ k) × (b ≡ c)

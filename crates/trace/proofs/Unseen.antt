@@ -7,27 +7,24 @@ use Prim.Native.Nat.{ℕ, zero, suc, _+_, _/_, _%_, _≤_, _<_}
 use native.Mathlib.Omega.{arith}
 use lib.ListN.{length}
 use lib.Dec.{eqb, ltb}
+use Rattle.line.specs.declared.Place.{Place}
 use Rattle.line.specs.declared.Frame.{Frame}
-use Rattle.line.specs.declared.Frame.the-variants.{Site, Call, Spawn, Sync, Return, Cost}
+use Rattle.line.specs.declared.Frame.the-variants.{Site}
 use Rattle.line.specs.declared.Read.{Read}
 use Rattle.line.specs.declared.Read.the-variants.{Line, Refused}
 use Rattle.line.specs.Read.{readAt}
-use Rattle.trace.specs.Shape.{ifMakes, root, step, walk, openAt, has, firstIs, sites}
+use Rattle.trace.specs.Shape.{ifSite, ifMakes, root, step, walk, openAt, has, firstIs, sites}
 use Rattle.trace.specs.Series.{value}
 use Rattle.trace.specs.Rows.{makes, made, ofRow, sumOf, costsWhere, total, sum, calls, work, local}
 use Rattle.trace.specs.Refusals.{outOfRange, broken, lineCount, tooMany, openNow, empty, afterRoot, allSites, lastSite, misplaced, aboveM, placeAgain, declared, undeclared, tooDeep, wide, wideRows, beyond, fault, Verdict, accepted, refused, judged, scan, readsFrom, reads, verdict}
 use Rattle.trace.specs.Places.{Alike, OnlyPlaces}
 use Rattle.trace.proofs.Basics.{no-way}
+use Rattle.trace.proofs.Cases.{by-site, other, both-ways, makes-same}
 use Rattle.trace.proofs.Sums.{sum-same}
 
 -- a frame without its place
 abbrev pub blank : Frame → Frame
-blank (Site s p) = Site s (record { file = 0; line = 0; column = 0 })
-blank (Call s) = Call s
-blank (Spawn s) = Spawn s
-blank Sync = Sync
-blank Return = Return
-blank (Cost v) = Cost v
+blank f = ifSite (λ s p. Site s (record { file = 0; line = 0; column = 0 })) f f
 
 abbrev pub blanks : List Frame → List Frame
 blanks [] = []
@@ -47,29 +44,18 @@ blanks-length (e ∷ u) = ap suc (blanks-length u)
 
 -- ── what a line says without its place ──
 
+-- what does not look at a site line's place
+pub unseen : {A : Type 0} (g : Frame → A) → ((s : ℕ) (p q : Place) → g (Site s p) ≡ g (Site s q)) → (f : Frame) → g (blank f) ≡ g f
+unseen g h f = by-site (λ e. g (blank e) ≡ g e) (λ s p. h s (record { file = 0; line = 0; column = 0 }) p) (λ e n. ap g (other (λ s p. Site s (record { file = 0; line = 0; column = 0 })) e e n)) f
+
 step-blank : (n : ℕ) (f : Frame) (o : List ℕ) → step n (blank f) o ≡ step n f o
-step-blank n (Site s p) o = refl
-step-blank n (Call s) o = refl
-step-blank n (Spawn s) o = refl
-step-blank n Sync o = refl
-step-blank n Return o = refl
-step-blank n (Cost v) o = refl
+step-blank n f o = unseen (λ e. step n e o) (λ s p q. refl) f
 
 value-blank : (f : Frame) → value (blank f) ≡ value f
-value-blank (Site s p) = refl
-value-blank (Call s) = refl
-value-blank (Spawn s) = refl
-value-blank Sync = refl
-value-blank Return = refl
-value-blank (Cost v) = refl
+value-blank f = unseen value (λ s p q. refl) f
 
 makes-blank : {A : Type 0} (a : ℕ → A) (b : A) (f : Frame) → ifMakes a b (blank f) ≡ ifMakes a b f
-makes-blank a b (Site s p) = refl
-makes-blank a b (Call s) = refl
-makes-blank a b (Spawn s) = refl
-makes-blank a b Sync = refl
-makes-blank a b Return = refl
-makes-blank a b (Cost v) = refl
+makes-blank a b f = unseen (ifMakes a b) (λ s p q. refl) f
 
 -- ── what all lines say without their places ──
 
@@ -83,32 +69,21 @@ walk-blank n o (e ∷ t) (suc j) =
 now-blank : (t : List Frame) → openNow (blanks t) ≡ openNow t
 now-blank t = ap (openAt (blanks t)) (blanks-length t) ∙ walk-blank 0 (root ∷ []) t (length t)
 
-sites-blank : (t : List Frame) → sites (blanks t) ≡ sites t
+pub sites-blank : (t : List Frame) → sites (blanks t) ≡ sites t
 sites-blank [] = refl
-sites-blank (Site s p ∷ t) = ap suc (sites-blank t)
-sites-blank (Call s ∷ t) = sites-blank t
-sites-blank (Spawn s ∷ t) = sites-blank t
-sites-blank (Sync ∷ t) = sites-blank t
-sites-blank (Return ∷ t) = sites-blank t
-sites-blank (Cost v ∷ t) = sites-blank t
+sites-blank (f ∷ t) = unseen (λ e. sites (e ∷ blanks t)) (λ s p q. refl) f ∙ ap (λ (n : ℕ). ifSite (λ s p. suc n) n f) (sites-blank t)
 
 last-blank : (n : ℕ) (t : List Frame) → lastSite n (blanks t) ≡ lastSite n t
 last-blank n [] = refl
-last-blank n (Site s p ∷ t) = last-blank s t
-last-blank n (Call s ∷ t) = last-blank n t
-last-blank n (Spawn s ∷ t) = last-blank n t
-last-blank n (Sync ∷ t) = last-blank n t
-last-blank n (Return ∷ t) = last-blank n t
-last-blank n (Cost v ∷ t) = last-blank n t
+last-blank n (f ∷ t) =
+    unseen (λ e. lastSite n (e ∷ blanks t)) (λ s p q. refl) f
+    ∙ both-ways (λ (x y : ℕ). x ≡ y) f (λ s p. last-blank s t) (last-blank n t)
 
 declared-blank : (s : ℕ) (t : List Frame) → declared s (blanks t) ≡ declared s t
 declared-blank s [] = refl
-declared-blank s (Site i p ∷ t) = ap (λ (b : Bool). eqb s i || b) (declared-blank s t)
-declared-blank s (Call i ∷ t) = declared-blank s t
-declared-blank s (Spawn i ∷ t) = declared-blank s t
-declared-blank s (Sync ∷ t) = declared-blank s t
-declared-blank s (Return ∷ t) = declared-blank s t
-declared-blank s (Cost v ∷ t) = declared-blank s t
+declared-blank s (f ∷ t) =
+    unseen (λ e. declared s (e ∷ blanks t)) (λ i p q. refl) f
+    ∙ ap (λ (b : Bool). ifSite (λ i p. eqb s i || b) b f) (declared-blank s t)
 
 made-blank : (n : ℕ) (t : List Frame) (s : ℕ) → made n (blanks t) s ≡ made n t s
 made-blank n [] s = refl
@@ -162,31 +137,20 @@ beyond-blank t =
     ∙ ap (λ (b : Bool). wide (total t) || b) (wide-rows t (sites t))
 
 misplaced-blank : (t : List Frame) (f : Frame) → misplaced (blanks t) (blank f) ≡ misplaced t f
-misplaced-blank t (Site s p) =
-    ap (λ (n : ℕ). not (eqb n (length (blanks t))) || not (eqb s (suc (lastSite 0 (blanks t))))) (sites-blank t)
-    ∙ ap (λ (n : ℕ). not (eqb (sites t) n) || not (eqb s (suc (lastSite 0 (blanks t))))) (blanks-length t)
-    ∙ ap (λ (n : ℕ). not (allSites t) || not (eqb s (suc n))) (last-blank 0 t)
-misplaced-blank t (Call s) = refl
-misplaced-blank t (Spawn s) = refl
-misplaced-blank t Sync = refl
-misplaced-blank t Return = refl
-misplaced-blank t (Cost v) = refl
+misplaced-blank t f =
+    unseen (misplaced (blanks t)) (λ s p q. refl) f
+    ∙ ap (λ (n : ℕ). ifSite (λ s p. not (eqb n (length (blanks t))) || not (eqb s (suc (lastSite 0 (blanks t))))) false f) (sites-blank t)
+    ∙ ap (λ (n : ℕ). ifSite (λ s p. not (eqb (sites t) n) || not (eqb s (suc (lastSite 0 (blanks t))))) false f) (blanks-length t)
+    ∙ ap (λ (n : ℕ). ifSite (λ s p. not (allSites t) || not (eqb s (suc n))) false f) (last-blank 0 t)
 
 above-blank : (M : ℕ) (f : Frame) → aboveM M (blank f) ≡ aboveM M f
-above-blank M (Site s p) = refl
-above-blank M (Call s) = refl
-above-blank M (Spawn s) = refl
-above-blank M Sync = refl
-above-blank M Return = refl
-above-blank M (Cost v) = refl
+above-blank M f = unseen (aboveM M) (λ s p q. refl) f
 
 undeclared-blank : (t : List Frame) (f : Frame) → undeclared (blanks t) (blank f) ≡ undeclared t f
-undeclared-blank t (Site s p) = refl
-undeclared-blank t (Call s) = ap (λ (b : Bool). eqb s 0 || not b) (declared-blank s t)
-undeclared-blank t (Spawn s) = ap (λ (b : Bool). eqb s 0 || not b) (declared-blank s t)
-undeclared-blank t Sync = refl
-undeclared-blank t Return = refl
-undeclared-blank t (Cost v) = refl
+undeclared-blank t f =
+    makes-blank (λ s. eqb s 0 || not (declared s (blanks t))) false f
+    ∙ makes-same (λ s. eqb s 0 || not (declared s (blanks t))) (λ s. eqb s 0 || not (declared s t)) false f
+    (λ s. ap (λ (b : Bool). eqb s 0 || not b) (declared-blank s t))
 
 deep-blank : (D : ℕ) (t : List Frame) (f : Frame) → tooDeep D (blanks t) (blank f) ≡ tooDeep D t f
 deep-blank D t f =

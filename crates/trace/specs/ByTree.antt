@@ -1,5 +1,5 @@
 -- For proofs and engines, not for the reader of document 01: what comes back of an accepted trace, by its tree.
--- m is the number of its sites, and b the body of its root.
+-- m is the number of its sites, first the line at which the body of its root begins, and b that body.
 use Prim.Native.Nat.{ℕ, zero, suc, _+_, _*_, _≤_, _<_}
 use mathlib.Core.Path.{_≡_}
 use mathlib.Core.List.{List}
@@ -14,19 +14,19 @@ use Rattle.trace.specs.Fold.{chainOf, onRow}
 
 -- column j of row s, the first column 0
 abbrev pub cell : ℕ → Body → ℕ → ℕ → ℕ
-cell m b s zero = callsIn s b
-cell m b s (suc zero) = workIn s b
-cell m b s (suc (suc zero)) = spansIn s b
-cell m b s (suc (suc (suc zero))) = localIn s b
-cell m b s (suc (suc (suc (suc j)))) = onRow s (chainOf m 0 b)
+cell first b s zero = callsIn s b
+cell first b s (suc zero) = workIn s b
+cell first b s (suc (suc zero)) = spansIn s b
+cell first b s (suc (suc (suc zero))) = localIn s b
+cell first b s (suc (suc (suc (suc j)))) = onRow s (chainOf first 0 b)
 
-pub record RowsBy (m : ℕ) (b : Body) (before after : List ℕ) : Type 0 where
+pub record RowsBy (m first : ℕ) (b : Body) (before after : List ℕ) : Type 0 where
   pub same-length : length after ≡ length before
-  pub cells : (s j : ℕ) → s ≤ m → j < columns → getD after (columns * s + j) 0 ≡ cell m b s j
+  pub cells : (s j : ℕ) → s ≤ m → j < columns → getD after (columns * s + j) 0 ≡ cell first b s j
   pub rest : (i : ℕ) → columns * (m + 1) ≤ i → getD after i 0 ≡ getD before i 0
 
-pub record ProfileBy (e : Engine) (m : ℕ) (b : Body) (before : Lent) (r : Answer) (after : Lent) : Type 0 where
-  pub answer : r ≡ Accepted (workOf b) (spanOf b) m (m + size b)
-  pub rows : RowsBy m b (before .rows) (after .rows)
+pub record ProfileBy (e : Engine) (m first : ℕ) (b : Body) (before : Lent) (r : Answer) (after : Lent) : Type 0 where
+  pub answer : r ≡ Accepted (workOf b) (spanOf b) m (first + size b)
+  pub rows : RowsBy m first b (before .rows) (after .rows)
   pub scratch : after .scratch ≡ replicate (length (before .scratch)) 0
-  pub marked : Marked e (m + size b) (linesIn (chainOf m 0 b)) (before .marks) (after .marks)
+  pub marked : Marked e (first + size b) (linesIn (chainOf first 0 b)) (before .marks) (after .marks)

@@ -7,7 +7,7 @@ use lib.Dec.{T, eqb, ltb}
 use lib.ListN.{length}
 use Rattle.line.specs.declared.Frame.{Frame}
 use Rattle.line.specs.declared.Frame.the-variants.{Call, Spawn, Sync, Return, Cost}
-use Rattle.trace.specs.Shape.{ifSite}
+use Rattle.trace.specs.Shape.{ifSite, sites}
 
 -- how an invocation is made
 pub data Way : Type 0 where
@@ -71,7 +71,11 @@ pub record Parts (D : ℕ) (t : List Frame) : Type 0 where
   pub body : Body
   pub lines : t ≡ heads ++ linesOf body
   pub all-sites : AllSites heads
-  pub within : Within (length heads) D 1 body
+  pub within : Within (sites t) D 1 body
+
+-- the line at which the root's body begins
+abbrev pub rootAt : {D : ℕ} {t : List Frame} → Parts D t → ℕ
+rootAt p = length (p .heads)
 
 -- all costs of a body, and those directly in it
 abbrev pub workOf : Body → ℕ

@@ -14,11 +14,12 @@ use Rattle.trace.specs.Shape.{sites}
 use Rattle.trace.specs.Rows.{columns}
 use Rattle.trace.specs.Refusals.{accepted, verdict}
 use Rattle.trace.specs.Promise.{Engine, Lent, enough, scratchRoom, rowsRoom, marksRoom}
-use Rattle.trace.specs.Tree.{Body, linesOf, workOf, spanOf}
+use Rattle.trace.specs.Tree.{Body, linesOf, workOf, spanOf, rootAt}
 use Rattle.trace.specs.Fold.{nothing}
 use Rattle.trace.specs.ByTree.{cell}
 use Rattle.trace.proofs.Basics.{both}
 use Rattle.trace.proofs.Scan.{Fine, accepted-is, accepted-fine}
+use Rattle.trace.proofs.Invocations.{root-behind-sites}
 use Rattle.trace.proofs.Accept.{sites-le-M}
 use Rattle.trace.proofs.Recurrence.{weight-chain}
 use Rattle.walk.specs.declared.Open.{Open}
@@ -61,12 +62,19 @@ module _ (e : Engine) (s : List ℕ) (D M : ℕ) (x : Lent) (t : List Frame) (is
   abbrev pub body : Body
   body = tree D M t fine .body
 
-  pub stands : Stands s count (linesOf body)
-  stands = subst (λ (k : ℕ). Stands s k (linesOf body)) count-is (root-stands D M t fine s (enough e s D M x) is)
+  -- the line at which it begins
+  abbrev pub first : ℕ
+  first = count
 
-  pub ready : ((i : ℕ) → getD (x .rows) i 0 < 2 ^ 64) → Ready s 0 (sites t) (D - 1) (numbers count 0 nothing) cleared
+  pub first-is : rootAt (tree D M t fine) ≡ first
+  first-is = root-behind-sites D t (tree D M t fine) ∙ count-is
+
+  pub stands : Stands s first (linesOf body)
+  stands = subst (λ (k : ℕ). Stands s k (linesOf body)) first-is (root-stands D M t fine s (enough e s D M x) is)
+
+  pub ready : ((i : ℕ) → getD (x .rows) i 0 < 2 ^ 64) → Ready s 0 (sites t) (D - 1) (numbers first 0 nothing) cleared
   ready fits =
-      subst (λ (k : ℕ). Ready s 0 (sites t) (D - 1) (numbers k 0 nothing) cleared) count-is
+      subst (λ (k : ℕ). Ready s 0 (sites t) (D - 1) (numbers k 0 nothing) cleared) first-is
       (root-ready D M t fine s (enough e s D M x) is cleared (omega (arith, cleared-long, rows-room, count-is)) zeros (λ i. small i (decLt i (columns * (count + 1)))))
     where
       small : (i : ℕ) → Dec (i < columns * (count + 1)) → getD cleared i 0 < 2 ^ 64
@@ -74,12 +82,12 @@ module _ (e : Engine) (s : List ℕ) (D M : ℕ) (x : Lent) (t : List Frame) (is
       small i (no l) = omega (arith, cleared-back (x .rows) (columns * (count + 1)) rows-room i (omega arith), fits i)
 
   -- the root's body was read: its numbers are c
-  module _ (c : Open) (rows₁ : List ℕ) (same : length rows₁ ≡ length (x .rows)) (done : BodyDone count 0 cleared body c rows₁) where
+  module _ (c : Open) (rows₁ : List ℕ) (same : length rows₁ ≡ length (x .rows)) (done : BodyDone first 0 cleared body c rows₁) where
     pub work-is : c .work ≡ workOf body
     work-is = ap (λ (y : Open). y .work) (done .numbers-are)
 
     pub span-is : c .prefix ≡ spanOf body
-    span-is = ap (λ (y : Open). y .prefix) (done .numbers-are) ∙ weight-chain body count 0
+    span-is = ap (λ (y : Open). y .prefix) (done .numbers-are) ∙ weight-chain body first 0
 
     pub count-fits : (columns * 0 + 2 < length rows₁) × ((getD rows₁ (columns * 0) 0 + 1 < 2 ^ 64) × ((getD rows₁ (columns * 0 + 1) 0 + c .work < 2 ^ 64) × (getD rows₁ (columns * 0 + 2) 0 + c .prefix < 2 ^ 64)))
     count-fits = (omega (arith, same, rows-room), (at 0 1 (omega arith) (omega arith), (at 1 (c .work) (omega arith) (omega (arith, work-is)), at 2 (c .prefix) (omega arith) (omega (arith, span-is)))))
@@ -104,7 +112,7 @@ module _ (e : Engine) (s : List ℕ) (D M : ℕ) (x : Lent) (t : List Frame) (is
       pub none-on : (k : ℕ) → k ≤ count → getD rows₂ (columns * k + 4) 0 ≡ 0
       none-on k h =
           let w = tree D M t fine .within in
-          omega (arith, itself (columns * k + 4) (omega (arith, same, rows-room)), done .rows-are (columns * k + 4) (omega (arith, cleared-long, rows-room)), zeros (columns * k + 4) (omega (arith, count-is)), whole-on (length (tree D M t fine .heads)) D 1 body w k)
+          omega (arith, itself (columns * k + 4) (omega (arith, same, rows-room)), done .rows-are (columns * k + 4) (omega (arith, cleared-long, rows-room)), zeros (columns * k + 4) (omega (arith, count-is)), whole-on (sites t) D 1 body w k)
 
       pub rest : (i : ℕ) → columns * (count + 1) ≤ i → i < length (x .rows) → getD rows₂ i 0 ≡ getD (x .rows) i 0
       rest i h l =

@@ -5,7 +5,7 @@ use mathlib.Core.List.{List, [], _∷_}
 use Prim.Native.Nat.{ℕ, suc, _+_, _*_, _-_, _/_, _%_, _^_, _≤_, _<_}
 use native.Mathlib.Decide.{decLt}
 use native.Mathlib.Omega.{arith}
-use lib.ListN.{length, getD, length-append}
+use lib.ListN.{length, getD}
 use Rattle.line.specs.declared.Frame.{Frame}
 use Rattle.line.specs.declared.Read.the-variants.{Line}
 use Rattle.line.specs.Read.{readAt}
@@ -13,13 +13,11 @@ use Rattle.trace.specs.Shape.{Is, sites}
 use Rattle.trace.specs.Rows.{columns}
 use Rattle.trace.specs.Refusals.{verdict, accepted}
 use Rattle.trace.specs.ByTree.{cell}
-use Rattle.trace.specs.Tree.{Body, linesOf, size, Parts, Within}
+use Rattle.trace.specs.Tree.{Body, linesOf, Parts, rootAt}
 use Rattle.trace.specs.Fold.{nothing}
-use Rattle.trace.proofs.Tree.{size-is, no-sites-lines}
 use Rattle.trace.proofs.Scan.{Fine, accepted-reads}
-use Rattle.trace.proofs.Sites.{sites-none, sites-append, sites-all}
 use Rattle.trace.proofs.Parse.{parts}
-use Rattle.trace.proofs.Outcome.{cell-small, work-small}
+use Rattle.trace.proofs.Outcome.{cell-small, work-small, length-is}
 use Rattle.walk.specs.Stands.{Stands}
 use Rattle.walk.specs.Numbers.{numbers}
 use Rattle.walk.specs.Gain.{made, gain, Grown}
@@ -40,56 +38,39 @@ module _ (D M : ℕ) (t : List Frame) (fine : Fine D M t) where
   abbrev body : Body
   body = tree .body
 
-  -- the root's first line has the number of the sites
-  pub first-line : length (tree .heads) ≡ sites t
-  first-line =
-      omega (
-        arith,
-        ap sites (tree .lines),
-        sites-append (tree .heads) (linesOf body),
-        sites-all (tree .heads) (tree .all-sites),
-        sites-none (linesOf body) (no-sites-lines body),
-      )
-
-  pub last-line : length t ≡ sites t + size body
-  last-line = omega (arith, ap length (tree .lines), length-append (tree .heads) (linesOf body), size-is body, first-line)
-
   -- whatever number of whatever row: it is small
   pub whole-small : (i : ℕ) → whole body i < 2 ^ 54
   whole-small i = small (i / 5) (i % 5) (omega arith) (omega arith)
     where
-      m : ℕ
-      m = length (tree .heads)
-
       small : (s j : ℕ) → i ≡ columns * s + j → j < 5 → whole body i < 2 ^ 54
       small s j e h = go (decLt j 4)
         where
           go : Dec (j < 4) → whole body i < 2 ^ 54
-          go (yes l) = omega (arith, ap (whole body) e, whole-cell m D 1 body (tree .within) m s j l, cell-small D t tree M fine s j (omega arith))
-          go (no l) = let z : i ≡ columns * s + 4 = omega arith in omega (arith, ap (whole body) z, whole-on m D 1 body (tree .within) s)
+          go (yes l) = omega (arith, ap (whole body) e, whole-cell (sites t) D 1 body (tree .within) (rootAt tree) s j l, cell-small D t tree M fine s j (omega arith))
+          go (no l) = let z : i ≡ columns * s + 4 = omega arith in omega (arith, ap (whole body) z, whole-on (sites t) D 1 body (tree .within) s)
 
   module _ (s : List ℕ) (room : Bool) (acc : verdict s D M room ≡ accepted t) where
-    pub root-stands : Stands s (sites t) (linesOf body)
+    pub root-stands : Stands s (rootAt tree) (linesOf body)
     root-stands =
         let all = stands-all s t 0 (λ i f h. let z : i ≡ 0 + i = omega arith in subst (λ (k : ℕ). readAt s k ≡ Line k f) z (accepted-reads s D M room t acc i f h)) in
         let here = stands-right s (tree .heads) (linesOf body) 0 (subst (Stands s 0) (tree .lines) all) in
-        let e : 0 + length (tree .heads) ≡ sites t = omega (arith, first-line) in
+        let e : 0 + rootAt tree ≡ rootAt tree = omega arith in
         subst (λ (k : ℕ). Stands s k (linesOf body)) e here
 
     -- what a reader asks for at the root, where the row numbers of the trace are zero
     pub root-ready : (rows : List ℕ) → columns * (sites t + 1) ≤ length rows → ((i : ℕ) → i < columns * (sites t + 1) → getD rows i 0 ≡ 0) → ((i : ℕ) → getD rows i 0 < 2 ^ 64)
-        → Ready s 0 (sites t) (D - 1) (numbers (sites t) 0 nothing) rows
+        → Ready s 0 (sites t) (D - 1) (numbers (rootAt tree) 0 nothing) rows
     root-ready rows long zeros fits =
         record {
           body = body;
           stands = root-stands;
           D = D;
           d = 1;
-          within = subst (λ (m : ℕ). Within m D 1 body) first-line (tree .within);
+          within = tree .within;
           depth = omega (arith, fine .least);
           row-in = omega arith;
           rows-long = long;
-          ends = omega (arith, last-line, fine .lines-most);
+          ends = omega (arith, length-is D t tree, fine .lines-most);
           work-fits = omega (arith, work-small D t tree M fine);
           load-fits = omega (arith, work-small D t tree M fine);
           rows-fit = λ i. fit i (decLt i (columns * (sites t + 1)));
@@ -97,7 +78,7 @@ module _ (D M : ℕ) (t : List Frame) (fine : Fine D M t) where
       where
         fit : (i : ℕ) → Dec (i < columns * (sites t + 1)) → getD rows i 0 + gain 0 body i < 2 ^ 64
         fit i (yes l) = omega (arith, zeros i l, whole-small i)
-        fit i (no l) = omega (arith, fits i, gain-out (length (tree .heads)) D 1 0 i body (tree .within) (omega arith) (omega (arith, first-line)))
+        fit i (no l) = omega (arith, fits i, gain-out (sites t) D 1 0 i body (tree .within) (omega arith) (omega arith))
 
 -- The rows at the end, but for column 5: what was zero is the tree's columns, and what stands behind the rows is as
 -- it was.
@@ -111,7 +92,7 @@ module _ (D M : ℕ) (t : List Frame) (fine : Fine D M t) (rows₀ rows₁ rows�
 
   pub cells-are : (s j : ℕ) → s ≤ sites t → j < 4 → getD rows₂ (columns * s + j) 0 ≡ cell (sites t) (x .body) s j
   cells-are s j h l =
-      omega (arith, grown (columns * s + j) (omega arith), zeros (columns * s + j) (omega arith), whole-cell (length (x .heads)) D 1 (x .body) (x .within) (sites t) s j l)
+      omega (arith, grown (columns * s + j) (omega arith), zeros (columns * s + j) (omega arith), whole-cell (sites t) D 1 (x .body) (x .within) (sites t) s j l)
 
   pub behind : (i : ℕ) → columns * (sites t + 1) ≤ i → i < length rows₀ → getD rows₂ i 0 ≡ getD rows₀ i 0
-  behind i h l = omega (arith, grown i l, whole-out (length (x .heads)) D 1 (x .body) (x .within) i (omega (arith, first-line D M t fine)))
+  behind i h l = omega (arith, grown i l, whole-out (sites t) D 1 (x .body) (x .within) i h)

@@ -6,21 +6,25 @@ use mathlib.Core.Bool.{false}
 use mathlib.Core.List.{List, [], _∷_}
 use Prim.Native.Nat.{ℕ}
 use native.Mathlib.Omega.{arith}
+use lib.ListN.{take, set}
 use lib.Seq.{length-take-le}
 use borrow.Author.Needs.{needs}
 use types.Run.{OneOf}
 use denote.Enum.Declared.{tagOf}
 use Rattle.line.proofs.Frame.{the-type}
 use Rattle.line.specs.declared.Frame.{Frame}
-use Rattle.line.specs.declared.Frame.the-variants.{Site, Call, Spawn, Sync, Return, Cost}
-use Rattle.admit.specs.Step.{seen, kept, tagsOf}
+use Rattle.trace.specs.Shape.{has}
+use Rattle.trace.proofs.Cases.{by-site, other}
+use Rattle.admit.specs.Step.{key, seen, kept, tagsOf}
 use Rattle.admit.proofs.Keys.{tags-length, tags-first, tags-kept}
 use Rattle.admit.proofs.again.Statement.{statement}
 use Rattle.admit.proofs.again.Tie as tie
 
 -- a line of another kind declares nothing
-other : (ks : List ℕ) (n : ℕ) (f : Frame) → OneOf (1 ∷ 2 ∷ 3 ∷ 4 ∷ 5 ∷ []) (tagOf the-type f) → (false ≡ seen ks n f) × (ks ≡ kept ks n f)
-other ks n (Site s p) h = absurd (never h)
+none-again : (ks : List ℕ) (n : ℕ) (f : Frame) → OneOf (1 ∷ 2 ∷ 3 ∷ 4 ∷ 5 ∷ []) (tagOf the-type f) → (false ≡ seen ks n f) × (ks ≡ kept ks n f)
+none-again ks n f h =
+    by-site (λ g. OneOf (1 ∷ 2 ∷ 3 ∷ 4 ∷ 5 ∷ []) (tagOf the-type g) → (false ≡ seen ks n g) × (ks ≡ kept ks n g)) (λ s p h. absurd (never h))
+    (λ g o h. (sym (other (λ s p. has (key p) (take n ks)) false g o), sym (other (λ s p. set ks n (key p)) ks g o))) f h
   where
     never : OneOf (1 ∷ 2 ∷ 3 ∷ 4 ∷ 5 ∷ []) 0 → ⊥
     never (inl e) = omega arith
@@ -28,11 +32,6 @@ other ks n (Site s p) h = absurd (never h)
     never (inr (inr (inl e))) = omega arith
     never (inr (inr (inr (inl e)))) = omega arith
     never (inr (inr (inr (inr e)))) = omega arith
-other ks n (Call s) h = (refl, refl)
-other ks n (Spawn s) h = (refl, refl)
-other ks n Sync h = (refl, refl)
-other ks n Return h = (refl, refl)
-other ks n (Cost v) h = (refl, refl)
 
 enum-known-frame : tie.Need-enum-known-frame
 enum-known-frame c = search needs
@@ -86,7 +85,7 @@ returns c =
 returns-2 : tie.Need-returns-2
 returns-2 c =
     let a = c .before .before .before .args in
-    let o = other (a .keys .now) (a .count) (a .frame) (c .match .keys2) in
+    let o = none-again (a .keys .now) (a .count) (a .frame) (c .match .keys2) in
     (o .0, (o .1, c .before .before .before .pre .1 ∙ ap tagsOf (o .1)))
 
 pub again-spec : {M : Type 1} → statement M
