@@ -1,4 +1,5 @@
 pub mod Basics
+pub mod Slots
 pub mod Tree
 pub mod Scan
 pub mod Levels
