@@ -62,7 +62,7 @@ static Pages pages_of(size_t bytes) {
 }
 
 /* As much rubbish as any room needs, and where it begins for a room. */
-enum { MOST_RUBBISH = 8 * 4 * NYO_MOST_DEPTH * (NYO_MOST_SITES + 3) };
+enum { MOST_RUBBISH = 8 * NYO_TABLES_SCRATCH(NYO_MOST_DEPTH, NYO_MOST_SITES) };
 static uint8_t rubbish[MOST_RUBBISH + 256];
 
 static void make_rubbish(void) {
@@ -223,8 +223,9 @@ static void print_report(const uint64_t *rows, size_t rows_len, uint64_t sites, 
     }
     char line[NYO_ROW_CHARS + 1];
     for (size_t row = 0; row <= sites; row++, rows += NYO_COLUMNS) {
-        snprintf(line, sizeof line, "%04zx%016llx%016llx%016llx%016llx%016llx\n", row, (unsigned long long)rows[0],
-                 (unsigned long long)rows[1], (unsigned long long)rows[2], (unsigned long long)rows[3], (unsigned long long)rows[4]);
+        char *to = line + sprintf(line, "%04zx", row);
+        for (size_t k = 0; k < NYO_COLUMNS; k++) to += sprintf(to, "%016llx", (unsigned long long)rows[k]);
+        *to = '\n';
         MUST(!memcmp(out.at + row * NYO_ROW_CHARS, line, NYO_ROW_CHARS));
     }
     MUST(numbers(&written)[0] == NYO_REPORT_CHARS(sites) && kept_from(&written, 8) && kept_from(&out, NYO_REPORT_CHARS(sites)));
@@ -239,7 +240,7 @@ static int all_zero(const Room *r) {
 /* Columns 4 and 5 add up to the total work and the total span. */
 static void columns_add_up(const uint64_t *rows, const uint64_t *answer) {
     uint64_t local = 0, on_span = 0;
-    for (size_t row = 0; row <= answer[2]; row++) local += rows[5 * row + 3], on_span += rows[5 * row + 4];
+    for (size_t row = 0; row <= answer[2]; row++, rows += NYO_COLUMNS) local += rows[NYO_LOCAL], on_span += rows[NYO_ON_SPAN];
     MUST(local == answer[0] && on_span == answer[1] && answer[1] <= answer[0]);
 }
 

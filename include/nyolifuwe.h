@@ -41,15 +41,18 @@ extern "C" {
 #define NYO_MOST_SITES 255
 #define NYO_MOST_LINES 65536
 
-/* Characters of a trace line, of a report line and of a printed refusal. */
+/* Characters of a trace line, of a report line (4 digits, 16 for each number, a line feed) and of a printed refusal. */
 #define NYO_LINE_CHARS 23
-#define NYO_ROW_CHARS 85
+#define NYO_ROW_CHARS (4 + 16 * NYO_COLUMNS + 1)
 #define NYO_REFUSAL_CHARS 13
 
 /* Numbers of a frame, of a row and of an answer. */
 #define NYO_FRAME 5
 #define NYO_COLUMNS 5
 #define NYO_ANSWER 4
+
+/* Which number of its row a column is. */
+enum { NYO_CALLS, NYO_WORK, NYO_SPAN, NYO_LOCAL, NYO_ON_SPAN };
 
 /* The room that each function needs, in elements. */
 #define NYO_TABLES_SCRATCH(depth, sites) (4 * (size_t)(depth) * ((size_t)(sites) + 3))

@@ -113,8 +113,12 @@ def events(words):
     return "".join(lines)
 
 
-def row(number, calls, work, span, local, on_span):
-    return f"{number:04x}{calls:016x}{work:016x}{span:016x}{local:016x}{on_span:016x}\n"
+# a row's numbers, in this order
+CALLS, WORK, SPAN, LOCAL, ON_SPAN = range(COLUMNS := 5)
+
+
+def row(number, *numbers):
+    return f"{number:04x}" + "".join(f"{n:016x}" for n in numbers) + "\n"
 
 
 def refusal(number, line):
@@ -163,9 +167,9 @@ def columns(report):
     """The five numbers of each row; nothing where the text is no report."""
     rows = []
     for line in str(report).splitlines():
-        if not re.fullmatch("[0-9a-f]{84}", line):
+        if not re.fullmatch(f"[0-9a-f]{{{4 + 16 * COLUMNS}}}", line):
             return []
-        rows.append([int(line[4 + 16 * k : 20 + 16 * k], 16) for k in range(5)])
+        rows.append([int(line[4 + 16 * k : 20 + 16 * k], 16) for k in range(COLUMNS)])
     return rows
 
 
@@ -174,7 +178,7 @@ def the_rules_traces():
     for letter, (words, work, span, on_span) in TWELVE.items():
         trace = PLACES + events(words) + RETURN
         rows = columns(printed(trace.encode()))
-        totals, column_5 = [numbers[1:3] for numbers in rows[:1]], [numbers[4] for numbers in rows]
+        totals, column_5 = [[numbers[WORK], numbers[SPAN]] for numbers in rows[:1]], [numbers[ON_SPAN] for numbers in rows]
         expect(letter, (totals, column_5), ([[work, span]], on_span))
         if letter == "I":
             expect("I's lines", trace, CASE_I)

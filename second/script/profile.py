@@ -13,6 +13,7 @@ import sys
 SITE, CALL, SPAWN, SYNC, RETURN, COST = 1, 2, 3, 4, 5, 6
 CHARS = 23
 MOST_LINES = 65_536
+NOTHING = {"calls": 0, "work": 0, "span": 0, "local": 0, "on span": 0}
 LINE = re.compile(rb"([0-9a-f]{2})([0-9a-f]{4})([0-9a-f]{8})([0-9a-f]{4})([0-9a-f]{4})\n")
 
 
@@ -82,7 +83,7 @@ class Profile:
         self.lines = 0
         self.work = 0
         self.places = {}
-        self.rows = {0: {"calls": 1, "work": 0, "span": 0, "local": 0, "on span": 0}}
+        self.rows = {0: {**NOTHING, "calls": 1}}
         self.open = [Invocation(0, False, 0)]
 
     def line(self, chars):
@@ -127,7 +128,7 @@ class Profile:
         if place in self.places:
             self.refuse(10)
         self.places[place] = site
-        self.rows[site] = {"calls": 0, "work": 0, "span": 0, "local": 0, "on span": 0}
+        self.rows[site] = dict(NOTHING)
 
     def enter(self, site, spawned):
         if not 1 <= site <= len(self.places):

@@ -2,6 +2,7 @@
 
 use crate::line::{self, Kind, Line, Place, CHARS};
 use crate::refusal::{Ground, Refusal};
+use crate::rows::COLUMNS;
 use crate::shape::{Invocation, Shape, Start};
 use std::collections::HashSet;
 
@@ -41,7 +42,7 @@ impl Limits {
 
     /// "Both need 5·(M+1) row numbers."
     pub fn rows(self) -> usize {
-        (5 * (self.sites + 1)) as usize
+        COLUMNS * (self.sites as usize + 1)
     }
 
     /// What the table engine needs.

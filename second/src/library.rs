@@ -7,7 +7,7 @@
 use crate::chain::{self, Chains};
 use crate::check::{self, Lent, Limits};
 use crate::graph;
-use crate::line::{self, CHARS};
+use crate::line::{self, CHARS, WIDTHS};
 use crate::refusal::{Ground, Refusal};
 use crate::report;
 use crate::rows::{profile, Profile};
@@ -96,7 +96,7 @@ impl Library for Second {
     }
 
     fn read_line(&self, line: &[u8], frame: &mut [u64]) -> u64 {
-        if line.len() == CHARS && frame.len() < 5 {
+        if line.len() == CHARS && frame.len() < WIDTHS.len() {
             return code(Err(Ground::Room.at(0)));
         }
         at_0(line::read(line).map(|line| put(frame, &line.fields())))

@@ -10,7 +10,7 @@ pub const CHARS: usize = 23;
 pub const WIDTHS: [usize; 5] = [2, 4, 8, 4, 4];
 
 /// Kind, site, value, file and column as plain numbers, whether or not they keep to the table.
-pub type Fields = [u64; 5];
+pub type Fields = [u64; WIDTHS.len()];
 
 /// What a line says happened.
 #[derive(Clone, Copy, Debug, PartialEq, Eq)]
@@ -126,7 +126,7 @@ pub fn chars(fields: &Fields) -> Vec<u8> {
 /// The five numbers that 23 characters show, if each of them is right.
 fn fields_of(chars: &[u8]) -> Option<Fields> {
     let (feed, mut digits) = chars.split_last()?;
-    let mut fields = [0; 5];
+    let mut fields = [0; WIDTHS.len()];
     for (field, width) in fields.iter_mut().zip(WIDTHS) {
         let (own, rest) = digits.split_at(width);
         *field = own.iter().try_fold(0, |number, &c| Some(16 * number + digit(c)?))?;

@@ -9,7 +9,7 @@
 use crate::check::{before_lines, Lent, Limits};
 use crate::line::CHARS;
 use crate::refusal::{Ground, Refusal};
-use crate::rows::{Profile, Row};
+use crate::rows::{Profile, Row, CALLS, COLUMNS, LOCAL, ON_SPAN, SPAN, WORK};
 
 /// The profile of a trace, or its refusal.
 pub fn profile(trace: &[u8], limits: Limits, lent: &Lent) -> Result<Profile, Refusal> {
@@ -138,6 +138,13 @@ struct Engine {
     span: u64,
 }
 
+/// A row in which nothing but calls is counted.
+fn row(calls: u64) -> Row {
+    let mut row = [0; COLUMNS];
+    row[CALLS] = calls;
+    row
+}
+
 impl Engine {
     fn new(limits: Limits, lines: usize) -> Engine {
         Engine {
@@ -145,7 +152,7 @@ impl Engine {
             places: Vec::new(),
             open: vec![Open::new(0, 0, 0)],
             steps: Vec::with_capacity(lines),
-            rows: vec![[1, 0, 0, 0, 0]],
+            rows: vec![row(1)],
             work: 0,
             span: 0,
         }
@@ -162,7 +169,7 @@ impl Engine {
                 step.cost = fields.value;
                 own.along += u64::from(fields.value);
                 self.work += u64::from(fields.value);
-                self.rows[usize::from(own.row)][3] += u64::from(fields.value);
+                self.rows[usize::from(own.row)][LOCAL] += u64::from(fields.value);
             }
             SYNC => own.end_block(line, &mut self.steps),
             CALL => self.enter(fields.site, 0)?,
@@ -187,7 +194,7 @@ impl Engine {
             return Err(Ground::Place);
         }
         self.places.push(fields.place());
-        self.rows.push([0; 5]);
+        self.rows.push(row(0));
         Ok(())
     }
 
@@ -199,7 +206,7 @@ impl Engine {
         if self.open.len() as u64 >= self.limits.depth {
             return Err(Ground::Depth);
         }
-        self.rows[usize::from(site)][0] += 1;
+        self.rows[usize::from(site)][CALLS] += 1;
         self.open.push(Open::new(site as u8, spawn, self.work));
         Ok(())
     }
@@ -209,8 +216,8 @@ impl Engine {
         let Some(mut own) = self.open.pop() else { return };
         own.end_block(line, &mut self.steps);
         let row = &mut self.rows[usize::from(own.row)];
-        row[1] += self.work - own.work_before;
-        row[2] += own.done;
+        row[WORK] += self.work - own.work_before;
+        row[SPAN] += own.done;
         match self.open.last_mut() {
             None => self.span = own.done,
             Some(around) if own.spawn == 0 => around.along += own.done,
@@ -231,7 +238,7 @@ impl Engine {
         while let Some(step) = self.steps.get(line) {
             if step.cost > 0 {
                 marks[line] = 1;
-                self.rows[usize::from(step.row)][4] += u64::from(step.cost);
+                self.rows[usize::from(step.row)][ON_SPAN] += u64::from(step.cost);
             }
             line = step.next as usize;
         }

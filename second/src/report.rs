@@ -1,9 +1,10 @@
 //! The text of a report and of a refusal.
 
 use crate::refusal::Ground;
+use crate::rows::COLUMNS;
 
 /// The characters of a report line: row (4 digits), five numbers (16 digits each), a line feed.
-pub const ROW_CHARS: usize = 85;
+pub const ROW_CHARS: usize = 4 + 16 * COLUMNS + 1;
 
 /// The characters of a printed refusal: `ff`, number (2 digits), line (8 digits), a line feed.
 pub const REFUSAL_CHARS: usize = 13;
@@ -15,10 +16,10 @@ pub fn report(numbers: &[u64], count: u64, room: usize) -> Result<String, Ground
         return Err(Ground::Limits);
     }
     let rows = count as usize + 1;
-    if numbers.len() < 5 * rows || room < ROW_CHARS * rows {
+    if numbers.len() < COLUMNS * rows || room < ROW_CHARS * rows {
         return Err(Ground::Room);
     }
-    Ok(numbers.chunks(5).take(rows).enumerate().map(|(row, numbers)| line(row, numbers)).collect())
+    Ok(numbers.chunks(COLUMNS).take(rows).enumerate().map(|(row, numbers)| line(row, numbers)).collect())
 }
 
 /// "`ff`, number (2 digits), line (8 digits), line feed, also in hexadecimal", into `room` characters.

@@ -4,7 +4,17 @@ use crate::chain::Chains;
 use crate::shape::Shape;
 
 /// "Five numbers a row, in this order": calls, work, span, local, on span.
-pub type Row = [u64; 5];
+pub type Row = [u64; COLUMNS];
+
+/// How many they are.
+pub const COLUMNS: usize = 5;
+
+/// Which number of its row each is.
+pub const CALLS: usize = 0;
+pub const WORK: usize = 1;
+pub const SPAN: usize = 2;
+pub const LOCAL: usize = 3;
+pub const ON_SPAN: usize = 4;
 
 /// All that is said of an accepted trace.
 #[derive(Clone, Debug, PartialEq, Eq)]
@@ -32,18 +42,18 @@ fn marks(shape: &Shape, chosen: &[usize]) -> Vec<u8> {
 }
 
 fn rows(shape: &Shape, spans: &[u64], marks: &[u8]) -> Vec<Row> {
-    let mut rows = vec![[0; 5]; shape.sites + 1];
+    let mut rows = vec![[0; COLUMNS]; shape.sites + 1];
     for (invocation, span) in shape.invocations.iter().zip(spans) {
-        let [calls, work, sum, ..] = &mut rows[invocation.row];
-        *calls += 1;
-        *work += shape.work(invocation.range());
-        *sum += span;
+        let row = &mut rows[invocation.row];
+        row[CALLS] += 1;
+        row[WORK] += shape.work(invocation.range());
+        row[SPAN] += span;
     }
     for (line, owner) in shape.directly_in.iter().enumerate() {
         let Some(owner) = *owner else { continue };
-        let [.., local, on_span] = &mut rows[shape.invocations[owner].row];
-        *local += shape.lines[line].cost();
-        *on_span += u64::from(marks[line]) * shape.lines[line].cost();
+        let row = &mut rows[shape.invocations[owner].row];
+        row[LOCAL] += shape.lines[line].cost();
+        row[ON_SPAN] += u64::from(marks[line]) * shape.lines[line].cost();
     }
     rows
 }

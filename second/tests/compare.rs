@@ -8,6 +8,7 @@ use second::compare::{compare, generate, Difference};
 use second::graph;
 use second::library::{Library, Second};
 use second::line::{Kind, CHARS};
+use second::rows::COLUMNS;
 use second::shape::{Invocation, Shape, Start};
 use second::trace::events;
 use std::cmp::Ordering;
@@ -223,7 +224,7 @@ fn a_scratch_number_left_over() {
 fn a_row_cleared_that_no_site_has() {
     let after = |code: u64, _: &mut [u64], rows: &mut [u64], answer: &mut [u64]| {
         if code == 0 {
-            rows[5 * (answer[2] as usize + 1)..].fill(0);
+            rows[COLUMNS * (answer[2] as usize + 1)..].fill(0);
         }
     };
     let told = first_difference(&Wrong { after, ..Wrong::default() }).to_string();

@@ -5,7 +5,7 @@ use second::check::{self, Limits};
 use second::compare::rng::Rng;
 use second::compare::shapes;
 use second::graph::{self, Graph};
-use second::rows::profile;
+use second::rows::{profile, LOCAL, ON_SPAN};
 use second::shape::Shape;
 use std::cmp::Reverse;
 use std::ops::Range;
@@ -107,7 +107,7 @@ fn column_4_adds_up_to_the_total_work_and_column_5_to_the_total_span() {
     for shape in some(5, 1000, usize::MAX) {
         let profile = profile(&shape, &graph::search(&shape));
         let column = |n: usize| profile.rows.iter().map(|row| row[n]).sum::<u64>();
-        assert_eq!([column(3), column(4)], profile.answer[..2]);
+        assert_eq!([column(LOCAL), column(ON_SPAN)], profile.answer[..2]);
         assert_eq!(profile.rows[0][..3], [1, profile.answer[0], profile.answer[1]]);
     }
 }

@@ -1,6 +1,7 @@
 //! The examples print what their page says, and the page says what was worked out by hand.
 
 use second::program::{printed, MOST_BYTES};
+use second::rows::Row;
 use std::fs;
 use std::path::PathBuf;
 use std::process::Command;
@@ -19,9 +20,9 @@ fn example(name: &str) -> String {
 }
 
 /// The five numbers of each row of a report.
-fn rows(report: &str) -> Vec<[u64; 5]> {
+fn rows(report: &str) -> Vec<Row> {
     let number = |line: &str, n: usize| u64::from_str_radix(&line[4 + 16 * n..20 + 16 * n], 16).expect("16 digits");
-    report.lines().map(|line| [0, 1, 2, 3, 4].map(|n| number(line, n))).collect()
+    report.lines().map(|line| std::array::from_fn(|n| number(line, n))).collect()
 }
 
 #[test]

@@ -5,7 +5,7 @@ use second::compare::fixed::{further, TWELVE, TWELVE_LIMITS};
 use second::library::Second;
 use second::refusal::{Ground, Refusal};
 use second::report;
-use second::rows::Profile;
+use second::rows::{Profile, ON_SPAN};
 use second::trace::Trace;
 use second::{chain, graph};
 
@@ -30,7 +30,7 @@ fn the_twelve() {
         let profile = profile(&case.trace(), TWELVE_LIMITS).expect(case.name);
         let lines = case.trace().lines() as u64;
         assert_eq!(profile.answer, [case.work, case.span, 2, lines], "{}", case.name);
-        let on_span: Vec<u64> = profile.rows.iter().map(|row| row[4]).collect();
+        let on_span: Vec<u64> = profile.rows.iter().map(|row| row[ON_SPAN]).collect();
         assert_eq!(on_span, case.on_span, "{}", case.name);
     }
 }

@@ -12,7 +12,7 @@ use Rattle.chain.specs.Over.{Each, EachTwo}
 use Rattle.trace.specs.declared.Answer.{Answer}
 use Rattle.trace.specs.Shape.{root, has, sites}
 use Rattle.trace.specs.Series.{valueAt, Series, CostIn, Chain, weight, Span, Chosen}
-use Rattle.trace.specs.Rows.{columns}
+use Rattle.trace.specs.Column.{Column, slot}
 use Rattle.trace.specs.Promise.{Engine, Lent, acceptance, Marks, Profile}
 use Rattle.trace.proofs.Chains.{is-length}
 use Rattle.trace.proofs.Unique.{span-unique, chosen-unique}
@@ -85,7 +85,7 @@ module _ (t : List Frame) (r q : Answer) (rows rows′ c d : List ℕ) (h : Show
   one-answer = h .in-total ∙ ap (λ (l : List ℕ). acceptance t (weight t l)) one-chain ∙ sym (k .in-total)
 
   -- LAW
-  pub one-column : (s : ℕ) → s ≤ sites t → getD rows (columns * s + 4) 0 ≡ getD rows′ (columns * s + 4) 0
+  pub one-column : (s : ℕ) → s ≤ sites t → getD rows (slot s Column.onSpan) 0 ≡ getD rows′ (slot s Column.onSpan) 0
   one-column s l = sym (h .row-by-row s l) ∙ ap (costsInRow t s) one-chain ∙ k .row-by-row s l
 
 -- LAW: marks that are 0 or 1 and show the same lines are equal

@@ -11,7 +11,8 @@ use Rattle.chain.specs.Over.{Before}
 use Rattle.trace.specs.declared.Answer.{Answer}
 use Rattle.trace.specs.Shape.{root, openAt, has, sites}
 use Rattle.trace.specs.Series.{valueAt, Chain, weight}
-use Rattle.trace.specs.Rows.{columns, ofRow, sum}
+use Rattle.trace.specs.Rows.{ofRow, sum}
+use Rattle.trace.specs.Column.{Column, slot}
 use Rattle.trace.specs.Promise.{acceptance}
 
 -- of count lines from line k on those that p picks, ascending
@@ -41,7 +42,7 @@ pub record Shown (t : List Frame) (r : Answer) (rows c : List ℕ) : Type 0 wher
   -- "The marks show one chain"
   pub chain : Chain t root c
   -- "whose costs add up, row by row, to the on-span column"
-  pub row-by-row : (s : ℕ) → s ≤ sites t → costsInRow t s c ≡ getD rows (columns * s + 4) 0
+  pub row-by-row : (s : ℕ) → s ≤ sites t → costsInRow t s c ≡ getD rows (slot s Column.onSpan) 0
   -- "and in total to the span"
   pub in-total : r ≡ acceptance t (weight t c)
   -- "no chain is heavier"

@@ -9,13 +9,13 @@ use lib.ListN.{length, getD, set, length-set}
 use lib.Seq.{getD-set-same, getD-set-other, set-getD, set-set}
 use borrow.Author.Tests.{eq-eqb, ne-eqb}
 use Rattle.line.specs.At.{kindAt, siteAt}
-use Rattle.trace.specs.Rows.{columns}
+use Rattle.trace.specs.Column.{Column, slot}
 use Rattle.trace.specs.Tree.{spend, Body, done, leaf, child, linesOf, size}
 use Rattle.trace.proofs.Basics.{cond-same}
 use Rattle.trace.proofs.Tree.{size-is}
 use Rattle.walk.specs.Weight.{weightAt}
 use Rattle.walk.specs.Stands.{Stands, Says, kindOf}
-use Rattle.walk.specs.Gain.{one, Grown}
+use Rattle.walk.specs.Gain.{ColumnFits, one, Grown}
 use Rattle.walk.proofs.Items.{size-some, stands-left, stands-right}
 use Rattle.walk.proofs.Lines.{is-more, is-done, is-sync}
 use Rattle.walk.proofs.Says.{kind-says, site-says, weight-says}
@@ -179,7 +179,7 @@ module _ {s : List ℕ} {n : ℕ} {a : Present} {t m rows : List ℕ} (p : LineA
   sync-leaves k4 q =
       let e = is-sync s n kind says (q .body) (q .lent .stand .0) k4 in
       subst (Leaves (q .z) (q .row) (q .around) a t rows) (sym (e .1))
-      (q .lent .held, λ i h. omega (arith, cond-same (eqb (columns * q .row + 4) i), ap (λ (x : ℕ). one (columns * q .row + 4) x i) (cond-same (eqb (getD m n 0) 1))))
+      (q .lent .held, λ i h. omega (arith, cond-same (eqb (slot (q .row) Column.onSpan) i), ap (λ (x : ℕ). one (slot (q .row) Column.onSpan) x i) (cond-same (eqb (getD m n 0) 1))))
 
   -- a return
   pub return-leaves : kind ≡ 5 → (r : Present) (t′ : List ℕ) → Returned t a r t′ → LineLeaves s n a t m rows r t′ rows
@@ -196,19 +196,19 @@ module _ {s : List ℕ} {n : ℕ} {a : Present} {t m rows : List ℕ} (p : LineA
     spend-is : (b : Body) → Stands s n (linesOf b) → (r : Body) × (b ≡ leaf (spend v) r)
     spend-is = cost-is s n kind says v (weight-says s n n v refl refl) k6
 
-    pub add-asks : (n < length m) × (columns * a .row + 4 < length rows) × (getD rows (columns * a .row + 4) 0 + marked (getD m n 0) v < 2 ^ 64)
+    pub add-asks : (n < length m) × ColumnFits rows (a .row) Column.onSpan (marked (getD m n 0) v)
     add-asks =
         let l = p .lent in
         let e = spend-is (p .body) (l .stand .0) in
         let f = l .fits (p .row) (l .within .0) in
         rw (l .held .0)
-        (mark-in p, omega (arith, l .within .0, l .rows-long), omega (arith, f, ap (λ (x : Body). onGain m n (p .row) x (columns * p .row + 4)) (e .1), one-same (columns * p .row + 4) (marked (getD m n 0) v)))
+        (mark-in p, (omega (arith, l .within .0, l .rows-long), omega (arith, f, ap (λ (x : Body). onGain m n (p .row) x (slot (p .row) Column.onSpan)) (e .1), one-same (slot (p .row) Column.onSpan) (marked (getD m n 0) v))))
 
-    pub cost-leaves : (rows′ : List ℕ) → Grown rows (one (columns * a .row + 4) (marked (getD m n 0) v)) rows′ → LineLeaves s n a t m rows a t rows′
+    pub cost-leaves : (rows′ : List ℕ) → Grown rows (one (slot (a .row) Column.onSpan) (marked (getD m n 0) v)) rows′ → LineLeaves s n a t m rows a t rows′
     cost-leaves rows′ grown q =
         let l = q .lent in
         let e = spend-is (q .body) (l .stand .0) in
-        subst (Leaves (q .z) (q .row) (q .around) a t rows′) (sym (e .1)) (l .held, subst (λ (x : ℕ). Grown rows (one (columns * x + 4) (marked (getD m n 0) v)) rows′) (l .held .0) grown)
+        subst (Leaves (q .z) (q .row) (q .around) a t rows′) (sym (e .1)) (l .held, subst (λ (x : ℕ). Grown rows (one (slot x Column.onSpan) (marked (getD m n 0) v)) rows′) (l .held .0) grown)
 
   -- a call or a spawn of site
   module _ (site : ℕ) (sited : site ≡ siteAt s n) (k6 : kind ≡ 6 → ⊥) (k5 : kind ≡ 5 → ⊥) (k4 : kind ≡ 4 → ⊥) where
@@ -271,7 +271,7 @@ module _ {s : List ℕ} {from lines : ℕ} {z m rows₀ : List ℕ} {n : ℕ} {a
                   held = held-next z (behind (y .row) b k) a r t′ (d .0);
                   rows-long = omega (arith, l .rows-long, len);
                   lines = l .lines;
-                  fits = λ j h. omega (arith, l .fits j h, on-behind m n (y .row) b k (columns * j + 4), d .1 (columns * j + 4) (omega (arith, l .rows-long)));
+                  fits = λ j h. omega (arith, l .fits j h, on-behind m n (y .row) b k (slot j Column.onSpan), d .1 (slot j Column.onSpan) (omega (arith, l .rows-long)));
                 };
             same-rows = λ i h. omega (arith, w i h, on-behind m n (y .row) b k i, d .1 i (omega (arith, x .rows-long)));
           }

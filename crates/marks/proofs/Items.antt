@@ -7,7 +7,7 @@ use lib.ListN.{length, getD}
 use lib.Dec.{eqb}
 use Rattle.line.specs.At.{kindAt, siteAt}
 use Rattle.chain.specs.Plan.{weight}
-use Rattle.trace.specs.Rows.{columns}
+use Rattle.trace.specs.Column.{Column, slot}
 use Rattle.trace.specs.Tree.{call, spawn, spend, sync, Body, leaf, child as nested, linesOf, workOf}
 use Rattle.trace.specs.Fold.{Chains, nothing, joined, called, spawned, chainOf}
 use Rattle.trace.proofs.Basics.{cond-same}
@@ -15,14 +15,14 @@ use Rattle.walk.specs.declared.Open.{Open}
 use Rattle.walk.specs.Weight.{weightAt}
 use Rattle.walk.specs.Stands.{Stands, Says, kindOf, siteOf}
 use Rattle.walk.specs.Numbers.{numbers}
-use Rattle.walk.specs.Gain.{one, returned, Grown}
+use Rattle.walk.specs.Gain.{ColumnFits, ReturnFits, one, returned, Grown}
 use Rattle.walk.specs.Item.{itemChains}
 use Rattle.walk.specs.Reader.{ItemDone}
 use Rattle.walk.proofs.Items.{size-some, chain-le}
 use Rattle.walk.proofs.Lines.{is-sync}
 use Rattle.walk.proofs.Says.{kind-says, site-says, weight-says}
 use Rattle.walk.proofs.Room.{lines-in}
-use Rattle.walk.proofs.Child.{cost-is, call-is, spawn-is, Child, child-is, cost-fits, child-work, deeper as child-deeper, child-ready, count-room as child-room, count-fits as child-fits, ChildDone, child-done}
+use Rattle.walk.proofs.Child.{cost-is, call-is, spawn-is, Child, child-is, cost-fits, child-work, deeper as child-deeper, child-ready, count-fits as child-fits, ChildDone, child-done}
 use Rattle.marks.specs.declared.Zones.{Zones}
 use Rattle.marks.specs.Shown.{Zone, Shows, Kept}
 use Rattle.marks.specs.Park.{Zero}
@@ -69,7 +69,7 @@ module _ {s : List ℕ} {deep : ℕ} {z : Zones} {t m rows : List ℕ} (l : Lent
       let d = j n k e sh in
       let o : z .own .work ≡ z .own .work + 0 = omega arith in
       subst (λ (x : Body). ItemLeft n x k z m rows r m′ rows) (sym (q .1))
-      (left-is n (z .own .at + 1) (z .own .work) (leaf sync (q .0)) k z m rows r m′ rows d (record { numbers-are = d .numbers-are ∙ ap (λ (x : ℕ). numbers (z .own .at + 1) x (joined k)) o; rows-are = λ i l. omega (arith, cond-same (eqb (columns * z .row + 3) i)) }))
+      (left-is n (z .own .at + 1) (z .own .work) (leaf sync (q .0)) k z m rows r m′ rows d (record { numbers-are = d .numbers-are ∙ ap (λ (x : ℕ). numbers (z .own .at + 1) x (joined k)) o; rows-are = λ i l. omega (arith, cond-same (eqb (slot (z .row) Column.local) i)) }))
 
 -- the item is a cost of v
 pub record Costs (s : List ℕ) (deep : ℕ) (z : Zones) (t m rows : List ℕ) (kind v : ℕ) : Type 0 where
@@ -81,19 +81,19 @@ module _ {s : List ℕ} {deep : ℕ} {z : Zones} {t m rows : List ℕ} {kind v :
   spend-is : (b : Body) → Stands s (z .own .at) (linesOf b) → (r : Body) × (b ≡ leaf (spend v) r)
   spend-is = cost-is s (z .own .at) kind (kind-says s (z .own .at) (z .own .at) kind refl (h .asks .kind-is)) v (weight-says s (z .own .at) (z .own .at) v refl (h .weight-is)) (h .cost)
 
-  fit : ((columns * z .row + 3 < length rows) × (getD rows (columns * z .row + 3) 0 + v < 2 ^ 64)) × ((z .own .work + v < 2 ^ 64) × (z .own .prefix + (z .own .longest + z .own .since) + v < 2 ^ 64))
+  fit : ColumnFits rows (z .row) Column.local v × ((z .own .work + v < 2 ^ 64) × (z .own .prefix + (z .own .longest + z .own .since) + v < 2 ^ 64))
   fit =
       let y = h .asks .lent .ready in
       let q = spend-is (y .body) (y .stands) in
       cost-fits s (z .row) (h .asks .lent .sites) deep (z .own) rows y v (q .0) (q .1)
 
-  pub rows-asks : (columns * z .row + 3 < length rows) × (getD rows (columns * z .row + 3) 0 + v < 2 ^ 64)
+  pub rows-asks : ColumnFits rows (z .row) Column.local v
   rows-asks = fit .0
 
   pub spend-asks : Fits m z v × (z .own .work + v < 2 ^ 64)
   spend-asks = (step-asks (h .asks .lent) v m refl (fit .1 .1), fit .1 .0)
 
-  pub cost-leaves : (r : Zones) (m′ rows′ : List ℕ) → Grown rows (one (columns * z .row + 3) v) rows′ → Spent v m z r m′ → ItemLeaves s z m rows r m′ rows′
+  pub cost-leaves : (r : Zones) (m′ rows′ : List ℕ) → Grown rows (one (slot (z .row) Column.local) v) rows′ → Spent v m z r m′ → ItemLeaves s z m rows r m′ rows′
   cost-leaves r m′ rows′ grown sp b n k more st e sh =
       let q = spend-is b st in
       let d = sp n k e sh in
@@ -150,8 +150,8 @@ module _ {s : List ℕ} {deep : ℕ} {z : Zones} {t m rows : List ℕ} {kind sit
     left : BodyLeft (z .own .at + 1) site (child .g) m rows c m₁ rows₁
     left = u .leaves (child .g) (child .stands)
 
-    pub count-asks : (columns * site + 2 < length rows₁) × ((getD rows₁ (columns * site) 0 + 1 < 2 ^ 64) × ((getD rows₁ (columns * site + 1) 0 + c .work < 2 ^ 64) × (getD rows₁ (columns * site + 2) 0 + c .prefix < 2 ^ 64)))
-    count-asks = (child-room s (z .row) (l .sites) deep (z .own) rows (l .ready) site child c rows₁ (u .rows-long) (left .done), child-fits s (z .row) (l .sites) deep (z .own) rows (l .ready) site child c rows₁ (u .rows-long) (left .done))
+    pub count-asks : ReturnFits rows₁ site (c .work) (c .prefix)
+    count-asks = child-fits s (z .row) (l .sites) deep (z .own) rows (l .ready) site child c rows₁ (u .rows-long) (left .done)
 
     both : (z .own .work + workOf (child .g) < 2 ^ 64) × (z .own .prefix + (z .own .longest + z .own .since) + workOf (child .g) < 2 ^ 64)
     both = child-work s (z .row) (l .sites) deep (z .own) rows (l .ready) site child

@@ -12,12 +12,14 @@ use Rattle.trace.specs.declared.Answer.{Answer}
 use Rattle.trace.specs.declared.Answer.the-variants.{Accepted, Refused}
 use Rattle.trace.specs.Shape.{has, sites}
 use Rattle.trace.specs.Rows.{columns}
+use Rattle.trace.specs.Column.{Column, slot}
 use Rattle.trace.specs.Refusals.{refused, verdict}
 use Rattle.trace.specs.Promise.{marks, Lent, enough, scratchRoom, rowsRoom, marksRoom, Profile, Promise}
 use Rattle.trace.specs.ByTree.{cell, ProfileBy}
 use Rattle.trace.specs.Tree.{Body, linesOf, size, Within, Parts, workOf, spanOf}
 use Rattle.trace.specs.Fold.{nothing, chainOf, onRow}
 use Rattle.trace.proofs.Basics.{clash}
+use Rattle.trace.proofs.Slots.{slot-in, is-column}
 use Rattle.trace.proofs.Scan.{Fine, accepted-is, accepted-same}
 use Rattle.trace.proofs.Outcome.{tree-profile, work-small, length-is, profile-same}
 use Rattle.admit.specs.declared.Verdict.the-variants as Verdict
@@ -25,7 +27,7 @@ use Rattle.admit.specs.Answer.{admission}
 use Rattle.admit.proofs.Admitted.{refused-only, accepted-only}
 use Rattle.walk.specs.declared.Open.{Open}
 use Rattle.walk.specs.Stands.{Stands}
-use Rattle.walk.specs.Gain.{returned, Grown}
+use Rattle.walk.specs.Gain.{ReturnFits, returned, Grown}
 use Rattle.walk.proofs.Root.{tree}
 use Rattle.walk.proofs.Room.{lines-in}
 use Rattle.walk.proofs.Zeros.{zeros-at}
@@ -121,7 +123,7 @@ module _ {s : List ℕ} {D M : ℕ} {x : Lent} {count lines : ℕ} (a : Admitted
     at-is : c .at ≡ at + size b
     at-is = ap (λ (y : Open). y .at) (left .done .numbers-are)
 
-    pub count-asks : (columns * 0 + 2 < length rows₁) × ((getD rows₁ (columns * 0) 0 + 1 < 2 ^ 64) × ((getD rows₁ (columns * 0 + 1) 0 + c .work < 2 ^ 64) × (getD rows₁ (columns * 0 + 2) 0 + c .prefix < 2 ^ 64)))
+    pub count-asks : ReturnFits rows₁ 0 (c .work) (c .prefix)
     count-asks = count-fits marks s D M x t (a .is) count (a .count-is) c rows₁ (u .rows-same) (left .done)
 
     -- the root was counted
@@ -153,7 +155,7 @@ module _ {s : List ℕ} {D M : ℕ} {x : Lent} {count lines : ℕ} (a : Admitted
                       omega (
                         arith,
                         none-on marks s D M x t (a .is) count (a .count-is) c rows₁ (u .rows-same) (left .done) rows₂ counts j l,
-                        on-le m₂ (columns * j + 4) b count 0,
+                        on-le m₂ (slot j Column.onSpan) b count 0,
                         work-small D t p M good,
                       );
                 };
@@ -171,18 +173,20 @@ module _ {s : List ℕ} {D M : ℕ} {x : Lent} {count lines : ℕ} (a : Admitted
         shown : (i : ℕ) → at ≤ i → i < at + size b → getD m₂ i 0 ≡ cond (has i (linesIn (chainOf at 0 b))) 1 0
         shown i l r = left .zone .marks-are i l (omega (arith, at-is))
 
-        on-is : (k : ℕ) → onGain m₂ count 0 b (columns * k + 4) ≡ onRow k (chainOf count 0 b)
+        on-is : (k : ℕ) → onGain m₂ count 0 b (slot k Column.onSpan) ≡ onRow k (chainOf count 0 b)
         on-is k =
-            subst (λ (h : ℕ). ((i : ℕ) → h ≤ i → i < h + size b → getD m₂ i 0 ≡ cond (has i (linesIn (chainOf h 0 b))) 1 0) → onGain m₂ h 0 b (columns * k + 4) ≡ onRow k (chainOf h 0 b)) (first-is marks s D M x t (a .is) count (a .count-is)) (on-row D t p m₂ k) shown
+            subst (λ (h : ℕ). ((i : ℕ) → h ≤ i → i < h + size b → getD m₂ i 0 ≡ cond (has i (linesIn (chainOf h 0 b))) 1 0) → onGain m₂ h 0 b (slot k Column.onSpan) ≡ onRow k (chainOf h 0 b)) (first-is marks s D M x t (a .is) count (a .count-is)) (on-row D t p m₂ k) shown
 
-        cells-are : (k j : ℕ) → k ≤ count → j < columns → getD rows₃ (columns * k + j) 0 ≡ cell count b k j
-        cells-are k j h l = go (decLt j 4)
+        cells-are : (k : ℕ) (j : Column) → k ≤ count → getD rows₃ (slot k j) 0 ≡ cell count b k j
+        cells-are k j h = go (is-column j Column.onSpan)
           where
-            go : Dec (j < 4) → getD rows₃ (columns * k + j) 0 ≡ cell count b k j
-            go (yes q) = omega (arith, grown (columns * k + j) (omega (arith, rows-in)), on-cross m₂ j k q b count 0, cells marks s D M x t (a .is) count (a .count-is) c rows₁ (u .rows-same) (left .done) rows₂ counts k j h q)
-            go (no q) =
-                let e : j ≡ 4 = omega arith in
-                rw e (omega (arith, grown (columns * k + 4) (omega (arith, rows-in)), none-on marks s D M x t (a .is) count (a .count-is) c rows₁ (u .rows-same) (left .done) rows₂ counts k h, on-is k))
+            in-rows : slot k j < length (x .rows)
+            in-rows = omega (arith, slot-in count k j h, rows-in)
+
+            go : Dec (j ≡ Column.onSpan) → getD rows₃ (slot k j) 0 ≡ cell count b k j
+            go (no q) = omega (arith, grown (slot k j) in-rows, on-cross m₂ j k q b count 0, cells marks s D M x t (a .is) count (a .count-is) c rows₁ (u .rows-same) (left .done) rows₂ counts k j h q)
+            go (yes e) =
+                rw e (omega (arith, grown (slot k Column.onSpan) (omega (arith, rows-in)), none-on marks s D M x t (a .is) count (a .count-is) c rows₁ (u .rows-same) (left .done) rows₂ counts k h, on-is k))
 
         rest-is : (i : ℕ) → columns * (count + 1) ≤ i → getD rows₃ i 0 ≡ getD (x .rows) i 0
         rest-is i h = go (decLt i (length (x .rows)))

@@ -8,6 +8,7 @@ use lib.Dec.{eqb}
 use lib.ListN.{length, getD, set}
 use Rattle.line.specs.Read.{width}
 use Rattle.trace.specs.Rows.{columns}
+use Rattle.trace.specs.Column.{Column, slot}
 use Rattle.trace.specs.Tree.{leafWork, Body, done, leaf, child, linesOf, size, Within}
 use Rattle.walk.specs.Stands.{Stands}
 use Rattle.walk.specs.Gain.{one, Grown}
@@ -21,7 +22,7 @@ marked x v = cond (eqb x 1) v 0
 -- by how much row number i grows over the body of an invocation of row s whose first line is n: each marked cost in its own row
 abbrev pub onGain : List ℕ → ℕ → ℕ → Body → ℕ → ℕ
 onGain m n s done i = 0
-onGain m n s (leaf l r) i = one (columns * s + 4) (marked (getD m n 0) (leafWork l)) i + onGain m (n + 1) s r i
+onGain m n s (leaf l r) i = one (slot s Column.onSpan) (marked (getD m n 0) (leafWork l)) i + onGain m (n + 1) s r i
 onGain m n s (child w j g r) i = onGain m (n + 1) j g i + onGain m (n + (1 + size g)) s r i
 
 -- an open invocation: its row, and what is left of its body
@@ -62,7 +63,7 @@ behind s (child w j g r) k = left j g ∷ (left s r ∷ k)
 -- by how much row number i grows over this line
 abbrev pub onLine : List ℕ → ℕ → ℕ → Body → ℕ → ℕ
 onLine m n s done i = 0
-onLine m n s (leaf l r) i = one (columns * s + 4) (marked (getD m n 0) (leafWork l)) i
+onLine m n s (leaf l r) i = one (slot s Column.onSpan) (marked (getD m n 0) (leafWork l)) i
 onLine m n s (child w j g r) i = 0
 
 -- the scratch z with the rows of open invocations at its front, the outermost's first
@@ -105,7 +106,7 @@ pub record OnLent (s : List ℕ) (n : ℕ) (k : List Left) (z : List ℕ) (a : P
   pub held : Held z k a t
   pub rows-long : columns * (sites + 1) ≤ length rows
   pub lines : length s ≤ width * length m
-  pub fits : (j : ℕ) → j ≤ sites → getD rows (columns * j + 4) 0 + onLeft m n k (columns * j + 4) < 2 ^ 64
+  pub fits : (j : ℕ) → j ≤ sites → getD rows (slot j Column.onSpan) 0 + onLeft m n k (slot j Column.onSpan) < 2 ^ 64
 
 -- a line: at least one invocation is open
 pub record LineAsks (s : List ℕ) (n : ℕ) (a : Present) (t m rows : List ℕ) : Type 0 where

@@ -3,10 +3,10 @@
 ghost use mathlib.Core.Path.{_≡_};
 ghost use Prim.Native.Nat.{_+_, _*_, _^_, _≤_, _<_};
 ghost use lib.ListN.{length, getD, set, replicate};
-ghost use Rattle.trace.specs.Rows.{columns};
+ghost use Rattle.trace.specs.Column.{Column, slot};
 ghost use Rattle.trace.specs.Promise.{Engine, Promise};
 ghost use Rattle.walk.specs.Weight.{weightAt};
-ghost use Rattle.walk.specs.Gain.{one, Grown};
+ghost use Rattle.walk.specs.Gain.{ColumnFits, one, Grown};
 ghost use Rattle.marks.specs.Shown.{allPrefix, Wiped};
 ghost use Rattle.marks.specs.Steps.{Fits, Spent, Joined, Called, Spawned};
 ghost use Rattle.marks.specs.Park.{park, parked, blank};
@@ -270,11 +270,15 @@ fn item(
 
 // Column 5 of a row: the cost of a line, where the line is marked.
 fn add_marked(trace: &[u8], at: usize, row: usize, marks: &[u8], rows: &mut [u64])
-    requires { ⌜ (at < length (now marks)) × (columns * row + 4 < length (now rows)) × (getD (now rows) (columns * row + 4) 0 + marked (getD (now marks) at 0) (weightAt (now trace) at) < 2 ^ 64) ⌝ }
-    ensures { λ _. ⌜ Grown (now (rows .entry)) (one (columns * row + 4) (marked (getD (now (marks .entry)) at 0) (weightAt (now (trace .entry)) at))) (now (rows .exit)) ⌝ }
+    requires { ⌜ (at < length (now marks)) × ColumnFits (now rows) row Column.onSpan (marked (getD (now marks) at 0) (weightAt (now trace) at)) ⌝ }
+    ensures { λ _. ⌜ Grown (now (rows .entry)) (one (slot row Column.onSpan) (marked (getD (now (marks .entry)) at 0) (weightAt (now (trace .entry)) at))) (now (rows .exit)) ⌝ }
 {
     if marks[at] == 1 {
-        walk::add(rows, trace::COLUMNS * row + 4, walk::weight_at(trace, at));
+        walk::add(
+            rows,
+            trace::COLUMNS * row + trace::ON_SPAN,
+            walk::weight_at(trace, at),
+        );
     }
 }
 

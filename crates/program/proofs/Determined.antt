@@ -1,41 +1,39 @@
 -- The promise of the report program determines its outcome, and no text is longer than its room. Assumes nothing.
-use Prim.Native.Nat.{ℕ, zero, suc, _+_, _*_, _≤_, _<_}
+use Prim.Native.Nat.{ℕ, _+_, _*_, _≤_}
 use mathlib.Core.Bool.{Bool, true, false, cond}
 use mathlib.Core.List.{List, _++_}
 use mathlib.Core.Path.{_≡_, refl, ap, _∙_, sym, subst}
 use native.Mathlib.Omega.{arith}
 use lib.Dec.{ltb}
 use lib.ListN.{length, drop, getD, length-append}
-use lib.Seq.{ext-getD, getD-take, getD-drop}
+use lib.Seq.{ext-getD}
 use Rattle.line.specs.declared.Frame.{Frame}
 use Rattle.trace.specs.Shape.{sites}
 use Rattle.trace.specs.Rows.{columns}
+use Rattle.trace.specs.Column.{Column, slot}
 use Rattle.trace.specs.Refusals.{Verdict, accepted, refused, verdict}
 use Rattle.trace.specs.Promise.{Row}
+use Rattle.trace.proofs.Slots.{by-nth}
 use Rattle.trace.proofs.Unique.{chosen-unique, spans-unique}
 use Rattle.admit.proofs.Admitted.{accepted-sites}
 use Rattle.report.specs.Rows.{numbersOf, width}
-use Rattle.report.proofs.Lines.{row-length, lines-length, lines-same}
+use Rattle.report.proofs.Lines.{row-length, column-at, lines-length, lines-same}
 use Rattle.program.specs.Print.{ruling, Reported, Prints, Printed}
 
 -- a trace's row has one list of numbers
 module _ (t : List Frame) (c x y : List ℕ) (s : ℕ) (p : Row t c x s) (q : Row t c y s) where
-  cell-same : (k : ℕ) → k < columns → getD x (columns * s + k) 0 ≡ getD y (columns * s + k) 0
-  cell-same zero l = let e : columns * s + 0 ≡ columns * s = omega arith in rw e (p .calls-is ∙ sym (q .calls-is))
-  cell-same (suc zero) l = p .work-is ∙ sym (q .work-is)
-  cell-same (suc (suc zero)) l = spans-unique t s _ _ (p .span-is) (q .span-is)
-  cell-same (suc (suc (suc zero))) l = p .local-is ∙ sym (q .local-is)
-  cell-same (suc (suc (suc (suc zero)))) l = p .on-span-is ∙ sym (q .on-span-is)
-  cell-same (suc (suc (suc (suc (suc k))))) l = absurd (omega arith)
+  cell-same : (k : Column) → getD x (slot s k) 0 ≡ getD y (slot s k) 0
+  cell-same Column.calls = p .calls-is ∙ sym (q .calls-is)
+  cell-same Column.work = p .work-is ∙ sym (q .work-is)
+  cell-same Column.span = spans-unique t s _ _ (p .span-is) (q .span-is)
+  cell-same Column.local = p .local-is ∙ sym (q .local-is)
+  cell-same Column.onSpan = p .on-span-is ∙ sym (q .on-span-is)
 
   row-same : columns * (s + 1) ≤ length x → columns * (s + 1) ≤ length y → numbersOf x s ≡ numbersOf y s
   row-same l m =
       let a = row-length x s l in
       ext-getD 0 (numbersOf x s) (numbersOf y s) (a ∙ sym (row-length y s m))
-      (λ k h. (let h′ : k < columns = omega arith in number x k h′ ∙ cell-same k h′ ∙ sym (number y k h′)))
-    where
-      number : (z : List ℕ) (k : ℕ) → k < columns → getD (numbersOf z s) k 0 ≡ getD z (columns * s + k) 0
-      number z k h = getD-take columns (drop (columns * s) z) k 0 h ∙ getD-drop (columns * s) z k 0
+      (λ j h. by-nth (λ i. getD (numbersOf x s) i 0 ≡ getD (numbersOf y s) i 0) (λ k. column-at x s k ∙ cell-same k ∙ sym (column-at y s k)) j (omega arith))
 
 -- LAW: a trace has one report
 pub reported-unique : (t : List Frame) (a b : List ℕ) → Reported t a → Reported t b → a ≡ b

@@ -8,10 +8,12 @@ use native.Mathlib.Numerals.{add-one}
 use native.Mathlib.Omega.{arith}
 use borrow.Rule.Slice.PartMut.{putMid, midOf, mid-len}
 use lib.ListN.{length, take, drop, getD, length-append, length-drop, List·getD-append}
-use lib.Seq.{length-take-le, take-suc, getD-at}
+use lib.Seq.{length-take-le, take-suc, getD-at, getD-take, getD-drop}
 use Rattle.digits.specs.Digits.{digits}
 use Rattle.digits.proofs.Writing.{digits-length}
 use Rattle.trace.specs.Rows.{columns}
+use Rattle.trace.specs.Column.{Column, nth, slot}
+use Rattle.trace.proofs.Slots.{nth-in}
 use Rattle.report.specs.Rows.{numbersOf, lineOf, rowLine, width}
 use Rattle.report.specs.Report.{first, linesOf}
 use Rattle.report.proofs.Pieces.{flatMap-last, Even, pieces-length, piece-at, next-piece}
@@ -29,6 +31,10 @@ number-at numbers t k h = piece-at (digits 16) 16 numbers t k (numbers-even numb
 -- a row in reach has all its numbers
 pub row-length : (rows : List ℕ) (r : ℕ) → columns * (r + 1) ≤ length rows → length (numbersOf rows r) ≡ columns
 row-length rows r h = length-take-le columns (drop (columns * r) rows) (simp length-drop (omega arith))
+
+-- and number k of it is column k of the row
+pub column-at : (rows : List ℕ) (r : ℕ) (k : Column) → getD (numbersOf rows r) (nth k) 0 ≡ getD rows (slot r k) 0
+column-at rows r k = getD-take columns (drop (columns * r) rows) (nth k) 0 (nth-in k) ∙ getD-drop (columns * r) rows (nth k) 0
 
 -- "85 characters"
 pub line-length : (r : ℕ) (numbers : List ℕ) → length numbers ≡ columns → length (lineOf r numbers) ≡ width

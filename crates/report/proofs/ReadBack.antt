@@ -1,19 +1,21 @@
 -- What a reader may rely on. Of a report: how long it is, which line is which row's, which digits are which number's,
 -- and that reports with the same text have the same rows. Of a refusal: its number and its line. Assumes nothing.
-use Prim.Native.Nat.{ℕ, _+_, _*_, _/_, _%_, _^_, _≤_, _<_}
+use Prim.Native.Nat.{ℕ, _+_, _*_, _^_, _≤_, _<_}
 use mathlib.Core.List.{List, [], _∷_, _++_, append-nil, flatMap}
 use mathlib.Core.Path.{_≡_, ap, _∙_, sym}
 use native.Mathlib.Omega.{arith}
 use lib.ListN.{length, take, drop, getD}
-use lib.Seq.{take-at, drop-at, drop-drop, getD-take, getD-drop, ext-getD, length-take-le}
+use lib.Seq.{take-at, drop-at, drop-drop, getD-take, ext-getD, length-take-le}
 use Rattle.digits.specs.Digits.{digits, number}
 use Rattle.digits.proofs.Laws.{digits-number}
 use Rattle.digits.proofs.Writing.{digits-length}
 use Rattle.trace.specs.Rows.{columns}
+use Rattle.trace.specs.Column.{Column, nth, slot}
+use Rattle.trace.proofs.Slots.{nth-in, by-slots}
 use Rattle.report.specs.Rows.{numbersOf, lineOf, rowLine, width}
 use Rattle.report.specs.Report.{text}
 use Rattle.report.specs.Refusal.{refusalText}
-use Rattle.report.proofs.Lines.{number-at, row-length, line-length, lines-length, line-at}
+use Rattle.report.proofs.Lines.{number-at, row-length, column-at, line-length, lines-length, line-at}
 
 -- line r of a text; and what stands in a line, its row and its number k
 abbrev pub lineAt : List ℕ → ℕ → List ℕ
@@ -57,14 +59,13 @@ module _ (rows : List ℕ) (count : ℕ) (given : Rows rows count) where
   pub line-long : (r : ℕ) → r ≤ count → length (rowLine rows r) ≡ width
   line-long r h = line-length r (numbersOf rows r) (row-length rows r (omega (arith, given .enough)))
 
-  -- number k of line r is number k of row r
-  pub read-back : (r k : ℕ) → r ≤ count → k < columns → numberIn (lineAt (text rows count) r) k ≡ getD rows (columns * r + k) 0
-  read-back r k hr hk =
-      let e : getD (numbersOf rows r) k 0 ≡ getD rows (columns * r + k) 0 = getD-take columns (drop (columns * r) rows) k 0 hk ∙ getD-drop (columns * r) rows k 0 in
+  -- column k of line r is column k of row r
+  pub read-back : (r : ℕ) (k : Column) → r ≤ count → numberIn (lineAt (text rows count) r) (nth k) ≡ getD rows (slot r k) 0
+  read-back r k h =
       let l : length (numbersOf rows r) ≡ columns = row-length rows r (omega (arith, given .enough)) in
-      ap (λ (s : List ℕ). numberIn s k) (line-is r hr)
-      ∙ number-in r (numbersOf rows r) k (rw l hk) (rw e (given .small (columns * r + k)))
-      ∙ e
+      ap (λ (s : List ℕ). numberIn s (nth k)) (line-is r h)
+      ∙ number-in r (numbersOf rows r) (nth k) (rw l (nth-in k)) (rw (column-at rows r k) (given .small (slot r k)))
+      ∙ column-at rows r k
 
 module _ (rows others : List ℕ) (count sites : ℕ) (a : Rows rows count) (b : Rows others sites) (e : text rows count ≡ text others sites) where
   -- reports with the same text have as many sites
@@ -72,15 +73,9 @@ module _ (rows others : List ℕ) (count sites : ℕ) (a : Rows rows count) (b :
   same-count = omega (arith, text-length rows count a, text-length others sites b, ap length e)
 
   same-number : (i : ℕ) → i < columns * (count + 1) → getD rows i 0 ≡ getD others i 0
-  same-number i h =
-      let r = i / columns in
-      let k = i % columns in
-      let s : i ≡ columns * r + k = omega arith in
-      ap (λ (j : ℕ). getD rows j 0) s
-      ∙ sym (read-back rows count a r k (omega arith) (omega arith))
-      ∙ ap (λ (t : List ℕ). numberIn (lineAt t r) k) e
-      ∙ read-back others sites b r k (omega (arith, same-count)) (omega arith)
-      ∙ ap (λ (j : ℕ). getD others j 0) (sym s)
+  same-number =
+      by-slots count (λ i. getD rows i 0 ≡ getD others i 0)
+      (λ r k h. sym (read-back rows count a r k h) ∙ ap (λ (t : List ℕ). numberIn (lineAt t r) (nth k)) e ∙ read-back others sites b r k (omega (arith, same-count)))
 
   -- and the same rows
   pub same-rows : take (columns * (count + 1)) rows ≡ take (columns * (sites + 1)) others

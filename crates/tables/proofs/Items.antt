@@ -8,7 +8,7 @@ use lib.ListN.{length, take, drop, getD}
 use lib.Dec.{eqb}
 use borrow.Rule.Slice.PartMut.{putMid}
 use Rattle.line.specs.At.{kindAt, siteAt}
-use Rattle.trace.specs.Rows.{columns}
+use Rattle.trace.specs.Column.{Column, slot}
 use Rattle.trace.specs.Tree.{spend, Body, leaf, linesOf}
 use Rattle.trace.specs.Fold.{Chains, nothing, joined, called, spawned, chainOf}
 use Rattle.trace.proofs.Basics.{cond-same}
@@ -16,14 +16,14 @@ use Rattle.walk.specs.declared.Open.{Open}
 use Rattle.walk.specs.Weight.{weightAt}
 use Rattle.walk.specs.Stands.{Stands, Says, kindOf, siteOf}
 use Rattle.walk.specs.Numbers.{numbers}
-use Rattle.walk.specs.Gain.{one, returned, Grown}
+use Rattle.walk.specs.Gain.{ColumnFits, ReturnFits, one, returned, Grown}
 use Rattle.walk.specs.Item.{itemChains}
 use Rattle.walk.specs.Reader.{ItemDone, alone, BodyDone}
 use Rattle.walk.proofs.Items.{size-some, chain-le}
 use Rattle.walk.proofs.Says.{kind-says, site-says, weight-says}
 use Rattle.walk.proofs.Lines.{is-sync}
 use Rattle.walk.proofs.Reader.{load-is}
-use Rattle.walk.proofs.Child.{cost-is, call-is, spawn-is, Child, child-is, cost-fits, child-work, child-ready, count-room, count-fits, ChildDone, child-done}
+use Rattle.walk.proofs.Child.{cost-is, call-is, spawn-is, Child, child-is, cost-fits, child-work, child-ready, count-fits, ChildDone, child-done}
 use Rattle.walk.proofs.Child.{deeper as child-deeper}
 use Rattle.tables.specs.Blocks.{Shows, partAt, Holds, Asks, Spent, Joined, Called, Spawned}
 use Rattle.tables.specs.Reader.{Lent, ItemAsks, ItemLeaves, BodyAsks, BodyLeaves}
@@ -63,7 +63,7 @@ module _ {s : List ℕ} {row deep : ℕ} {f : Open} {t rows : List ℕ} {n w : �
       let d = j k e sh in
       let z : f .work ≡ f .work + 0 = omega arith in
       subst (λ (x : Body). ItemDone row f rows x k r rows × Holds n w t′ (itemChains (f .at) row x k) []) (sym (q .1))
-      (record { numbers-are = d .0 ∙ ap (λ (x : ℕ). numbers (f .at + 1) x (joined k)) z; rows-are = λ i l. omega (arith, cond-same (eqb (columns * row + 3) i)) }, d .1)
+      (record { numbers-are = d .0 ∙ ap (λ (x : ℕ). numbers (f .at + 1) x (joined k)) z; rows-are = λ i l. omega (arith, cond-same (eqb (slot row Column.local) i)) }, d .1)
 
 -- the item is a cost of v
 pub record Costs (s : List ℕ) (kind row deep : ℕ) (f : Open) (t rows : List ℕ) (n w v : ℕ) : Type 0 where
@@ -77,20 +77,20 @@ module _ {s : List ℕ} {kind row deep : ℕ} {f : Open} {t rows : List ℕ} {n 
   spend-is = cost-is s (f .at) kind (kind-says s (f .at) (f .at) kind refl (h .asks .kind-is)) v (weight-says s (f .at) (f .at) v refl (h .weight-is)) (h .cost)
 
   -- it fits the rows, the work and the chains
-  fit : ((columns * row + 3 < length rows) × (getD rows (columns * row + 3) 0 + v < 2 ^ 64)) × ((f .work + v < 2 ^ 64) × (f .prefix + (f .longest + f .since) + v < 2 ^ 64))
+  fit : ColumnFits rows row Column.local v × ((f .work + v < 2 ^ 64) × (f .prefix + (f .longest + f .since) + v < 2 ^ 64))
   fit =
       let l = h .asks .lent in
       let q = spend-is (l .ready .body) (l .ready .stands) in
       cost-fits s row (l .m) deep f rows (l .ready) v (q .0) (q .1)
 
-  pub rows-asks : (columns * row + 3 < length rows) × (getD rows (columns * row + 3) 0 + v < 2 ^ 64)
+  pub rows-asks : ColumnFits rows row Column.local v
   rows-asks = fit .0
 
   pub spend-asks : Asks n w t f 0 × ((row < w) × ((f .at + 1 < 2 ^ 64) × ((f .work + v < 2 ^ 64) × (f .prefix + (f .longest + f .since) + v < 2 ^ 64))))
   spend-asks = let l = h .asks .lent in (own-asks l, (omega (arith, l .ready .row-in, l .wide), (line-fits l, fit .1)))
 
   -- what is left of it
-  pub cost-leaves : (r : Open) (t′ rows′ : List ℕ) → Grown rows (one (columns * row + 3) v) rows′ → Spent n w row v t f r t′ → ItemLeaves s row f t rows n w r t′ rows′
+  pub cost-leaves : (r : Open) (t′ rows′ : List ℕ) → Grown rows (one (slot row Column.local) v) rows′ → Spent n w row v t f r t′ → ItemLeaves s row f t rows n w r t′ rows′
   cost-leaves r t′ rows′ grown sp b k m st e sh =
       let q = spend-is b st in
       let d = sp k e sh in
@@ -168,8 +168,8 @@ module _ {s : List ℕ} {kind row deep : ℕ} {f : Open} {t rows : List ℕ} {n 
     left = u .leaves (child .g) (child .stands) (lent-none (l .k) (l .weighs) (l .holds))
 
     -- it can be counted
-    pub count-asks : (columns * site + 2 < length rows₁) × ((getD rows₁ (columns * site) 0 + 1 < 2 ^ 64) × ((getD rows₁ (columns * site + 1) 0 + c .work < 2 ^ 64) × (getD rows₁ (columns * site + 2) 0 + c .prefix < 2 ^ 64)))
-    count-asks = (count-room s row (l .m) deep f rows (l .ready) site child c rows₁ (u .rows-long) (left .0), count-fits s row (l .m) deep f rows (l .ready) site child c rows₁ (u .rows-long) (left .0))
+    pub count-asks : ReturnFits rows₁ site (c .work) (c .prefix)
+    count-asks = count-fits s row (l .m) deep f rows (l .ready) site child c rows₁ (u .rows-long) (left .0)
 
     -- and its chain taken
     pub child-asks : Asks n w back f (c .prefix) × ((site < w) × ((5 * n ≤ length back) × (f .work + c .work < 2 ^ 64)))

@@ -7,26 +7,27 @@ use native.Mathlib.Omega.{arith}
 use lib.ListN.{length, getD, set}
 use lib.Seq.{getD-set-same, getD-set-other}
 use Rattle.trace.specs.Rows.{columns}
+use Rattle.trace.specs.Column.{Column, slot}
 use Rattle.tables.specs.Root.{Settled}
 
 pub settled-none : (t rows : List ℕ) → Settled 0 t rows t rows
 settled-none t rows = record { on-span = λ s h. absurd (omega arith); others = λ i h. refl; gone = λ s h. absurd (omega arith); rest = λ i h. refl }
 
 module _ (i w : ℕ) (t₀ rows₀ t rows : List ℕ) (lt : i < w) (room : w ≤ length t) (long : columns * w ≤ length rows) (h : Settled i t₀ rows₀ t rows) where
-  pub settled-more : Settled (i + 1) t₀ rows₀ (set t i 0) (set rows (columns * i + 4) (getD t i 0))
+  pub settled-more : Settled (i + 1) t₀ rows₀ (set t i 0) (set rows (slot i Column.onSpan) (getD t i 0))
   settled-more =
       record {
         on-span = λ s l. moved s l (decLt s i);
-        others = λ j k. getD-set-other rows (columns * i + 4) j (getD t i 0) 0 (λ e. k i (omega arith) e) ∙ h .others j (λ s l e. k s (omega arith) e);
+        others = λ j k. getD-set-other rows (slot i Column.onSpan) j (getD t i 0) 0 (λ e. k i (omega arith) e) ∙ h .others j (λ s l e. k s (omega arith) e);
         gone = λ s l. cleared s l (decLt s i);
         rest = λ j l. getD-set-other t i j 0 0 (λ e. omega arith) ∙ h .rest j (omega arith);
       }
     where
-      moved : (s : ℕ) → s < i + 1 → Dec (s < i) → getD (set rows (columns * i + 4) (getD t i 0)) (columns * s + 4) 0 ≡ getD t₀ s 0
-      moved s l (yes d) = getD-set-other rows (columns * i + 4) (columns * s + 4) (getD t i 0) 0 (λ e. omega arith) ∙ h .on-span s d
+      moved : (s : ℕ) → s < i + 1 → Dec (s < i) → getD (set rows (slot i Column.onSpan) (getD t i 0)) (slot s Column.onSpan) 0 ≡ getD t₀ s 0
+      moved s l (yes d) = getD-set-other rows (slot i Column.onSpan) (slot s Column.onSpan) (getD t i 0) 0 (λ e. omega arith) ∙ h .on-span s d
       moved s l (no d) =
           let e : s ≡ i = omega arith in
-          rw e (getD-set-same rows (columns * i + 4) (getD t i 0) 0 (omega arith) ∙ h .rest i (omega arith))
+          rw e (getD-set-same rows (slot i Column.onSpan) (getD t i 0) 0 (omega arith) ∙ h .rest i (omega arith))
 
       cleared : (s : ℕ) → s < i + 1 → Dec (s < i) → getD (set t i 0) s 0 ≡ 0
       cleared s l (yes d) = getD-set-other t i s 0 0 (λ e. omega arith) ∙ h .gone s d

@@ -12,19 +12,21 @@ use Rattle.trace.specs.declared.Answer.{Answer}
 use Rattle.trace.specs.declared.Answer.the-variants.{Accepted, Refused}
 use Rattle.trace.specs.Shape.{sites}
 use Rattle.trace.specs.Rows.{columns}
+use Rattle.trace.specs.Column.{Column, slot}
 use Rattle.trace.specs.Refusals.{refused, verdict}
 use Rattle.trace.specs.Promise.{tables, enough, Profile, Promise}
 use Rattle.trace.specs.ByTree.{cell, ProfileBy}
 use Rattle.trace.specs.Tree.{Body, size, workOf, spanOf}
 use Rattle.trace.specs.Fold.{nothing, chainOf}
 use Rattle.trace.proofs.Basics.{clash}
+use Rattle.trace.proofs.Slots.{slot-apart, is-column}
 use Rattle.trace.proofs.Scan.{accepted-same}
 use Rattle.trace.proofs.Outcome.{tree-profile, length-is, profile-same}
 use Rattle.admit.specs.declared.Verdict.the-variants as Verdict
 use Rattle.admit.specs.Answer.{admission}
 use Rattle.admit.proofs.Admitted.{refused-only, accepted-only}
 use Rattle.walk.specs.declared.Open.{Open}
-use Rattle.walk.specs.Gain.{returned, Grown}
+use Rattle.walk.specs.Gain.{ReturnFits, returned, Grown}
 use Rattle.walk.specs.Reader.{alone, BodyDone}
 use Rattle.walk.proofs.Zeros.{zeros-at}
 use Rattle.walk.proofs.Root.{tree}
@@ -104,7 +106,7 @@ module _ {s : List ℕ} {D M : ℕ} {scratch rows : List ℕ} {count lines : ℕ
         let h = u .leaves b (root.stands tables s D M (lent scratch rows) (a .t) (a .is) count (a .count-is)) (subst (λ (x : List ℕ). Shows (M + 3) (count + 1) x nothing []) (sym (u .blank .scratch-is)) (zeros-show (M + 3) (count + 1) (length scratch))) in
         (subst (λ (y : List ℕ). BodyDone first 0 y b c rows₂) (u .blank .rows-are) (h .0), h .1)
 
-    pub root-counts : (columns * 0 + 2 < length rows₂) × ((getD rows₂ (columns * 0) 0 + 1 < 2 ^ 64) × ((getD rows₂ (columns * 0 + 1) 0 + c .work < 2 ^ 64) × (getD rows₂ (columns * 0 + 2) 0 + c .prefix < 2 ^ 64)))
+    pub root-counts : ReturnFits rows₂ 0 (c .work) (c .prefix)
     root-counts = root.count-fits tables s D M (lent scratch rows) (a .t) (a .is) count (a .count-is) c rows₂ (u .rows-same) (left .0)
 
     -- the root itself, and its table
@@ -112,15 +114,14 @@ module _ {s : List ℕ} {D M : ℕ} {scratch rows : List ℕ} {count lines : ℕ
       abbrev answer : Answer
       answer = Accepted (c .work) (c .prefix) count lines
 
-      cells : (k j : ℕ) → k ≤ count → j < columns → getD rows₄ (columns * k + j) 0 ≡ cell count b k j
-      cells k j h l = go (decLt j 4)
+      cells : (k : ℕ) (j : Column) → k ≤ count → getD rows₄ (slot k j) 0 ≡ cell count b k j
+      cells k j h = go (is-column j Column.onSpan)
         where
-          go : Dec (j < 4) → getD rows₄ (columns * k + j) 0 ≡ cell count b k j
-          go (yes q) =
-              settled .others (columns * k + j) (λ x y e. omega arith)
-              ∙ root.cells tables s D M (lent scratch rows) (a .t) (a .is) count (a .count-is) c rows₂ (u .rows-same) (left .0) rows₃ counts k j h q
+          go : Dec (j ≡ Column.onSpan) → getD rows₄ (slot k j) 0 ≡ cell count b k j
           go (no q) =
-              let e : j ≡ 4 = omega arith in
+              settled .others (slot k j) (λ x y e. q (slot-apart k x j Column.onSpan e .1))
+              ∙ root.cells tables s D M (lent scratch rows) (a .t) (a .is) count (a .count-is) c rows₂ (u .rows-same) (left .0) rows₃ counts k j h q
+          go (yes e) =
               let z : k ≡ 0 + k = omega arith in
               rw e (settled .on-span k (omega arith) ∙ ap (λ (x : ℕ). getD t₂ x 0) z ∙ left .1 .P k (omega arith))
 

@@ -1,12 +1,12 @@
 -- What the table engine is lent, as its promise says it; and for proofs, not for the reader of document 01, the root:
 -- what the engine learns from acceptance, and its table moved to column 5 of the rows.
-use Prim.Native.Nat.{ℕ, _+_, _*_, _≤_, _<_}
+use Prim.Native.Nat.{ℕ, _≤_, _<_}
 use mathlib.Core.Path.{_≡_}
 use mathlib.Core.List.{List, []}
 use lib.ListN.{length, getD}
 use Rattle.line.specs.declared.Frame.{Frame}
 use Rattle.trace.specs.Shape.{sites}
-use Rattle.trace.specs.Rows.{columns}
+use Rattle.trace.specs.Column.{Column, slot}
 use Rattle.trace.specs.Refusals.{verdict, accepted}
 use Rattle.trace.specs.Promise.{tables, Lent, enough}
 
@@ -23,7 +23,7 @@ pub record Admitted (s : List ℕ) (D M : ℕ) (scratch rows : List ℕ) (count 
 
 -- the first w numbers of t were moved to column 5
 pub record Settled (w : ℕ) (t rows t′ rows′ : List ℕ) : Type 0 where
-  pub on-span : (s : ℕ) → s < w → getD rows′ (columns * s + 4) 0 ≡ getD t s 0
-  pub others : (i : ℕ) → ((s : ℕ) → s < w → i ≡ columns * s + 4 → ⊥) → getD rows′ i 0 ≡ getD rows i 0
+  pub on-span : (s : ℕ) → s < w → getD rows′ (slot s Column.onSpan) 0 ≡ getD t s 0
+  pub others : (i : ℕ) → ((s : ℕ) → s < w → i ≡ slot s Column.onSpan → ⊥) → getD rows′ i 0 ≡ getD rows i 0
   pub gone : (s : ℕ) → s < w → getD t′ s 0 ≡ 0
   pub rest : (i : ℕ) → w ≤ i → getD t′ i 0 ≡ getD t i 0

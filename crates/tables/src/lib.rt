@@ -240,7 +240,7 @@ fn settle(t: &mut [u64], rows: &mut [u64], w: usize)
 {
     let mut i = 0;
     while i < w {
-        rows[trace::COLUMNS * i + 4] = t[i];
+        rows[trace::COLUMNS * i + trace::ON_SPAN] = t[i];
         t[i] = 0;
         i += 1;
     }

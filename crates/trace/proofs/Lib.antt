@@ -1,5 +1,6 @@
 pub mod Basics
 pub mod Cases
+pub mod Slots
 pub mod Tree
 pub mod Scan
 pub mod Levels

@@ -3,7 +3,7 @@ use mathlib.Core.Path.{_≡_, refl, sym, _∙_, ap, subst}
 use mathlib.Core.Logic.{inl, inr}
 use mathlib.Core.Bool.{Bool, true, cond, _&&_}
 use mathlib.Core.List.{List, [], _∷_}
-use Prim.Native.Nat.{ℕ, zero, suc, _+_, _*_, _/_, _%_, _≤_, _<_}
+use Prim.Native.Nat.{ℕ, zero, suc, _+_, _*_, _≤_, _<_}
 use native.Mathlib.Omega.{arith}
 use lib.ListN.{length, getD, replicate, length-append, List·getD-eq-default}
 use lib.Dec.{ltb, leb}
@@ -15,12 +15,14 @@ use Rattle.trace.specs.declared.Answer.{Answer}
 use Rattle.trace.specs.declared.Answer.the-variants.{Accepted}
 use Rattle.trace.specs.Shape.{has, sites}
 use Rattle.trace.specs.Rows.{columns, Spans}
+use Rattle.trace.specs.Column.{Column, slot}
 use Rattle.trace.specs.Refusals.{lineCount, Verdict, accepted, refused, verdict}
 use Rattle.trace.specs.Promise.{Engine, tables, marks, Lent, scratchRoom, marksRoom, rowsRoom, enough, acceptance, refusal, Row, Marked, Profile, Promise}
 use Rattle.trace.specs.Tree.{Body, linesOf, size, Parts, workOf, spanOf, spansIn, rootAt}
 use Rattle.trace.specs.Fold.{chainOf}
 use Rattle.trace.specs.ByTree.{cell, RowsBy, ProfileBy}
 use Rattle.trace.proofs.Basics.{clash, below, both}
+use Rattle.trace.proofs.Slots.{rowOf, columnOf, row-slot, column-slot, slot-in, by-slots}
 use Rattle.trace.proofs.Tree.{size-is}
 use Rattle.trace.proofs.Scan.{Fine, accepted-is, accepted-fine, accepted-length}
 use Rattle.trace.proofs.Parse.{parts, accepted-parts}
@@ -57,26 +59,22 @@ module _ (D : ℕ) (t : List Frame) (p : Parts D t) where
       ap (λ (w : ℕ). Accepted w (spanOf (p .body)) (sites t) (length t)) (total-tree D t p)
       ∙ ap (Accepted (workOf (p .body)) (spanOf (p .body)) (sites t)) length-is
 
-  first : (l : List ℕ) (s : ℕ) → getD l (columns * s) 0 ≡ getD l (columns * s + 0) 0
-  first l s = let e : columns * s ≡ columns * s + 0 = omega arith in ap (λ (i : ℕ). getD l i 0) e
-
-  row-from : (l : List ℕ) (s : ℕ) → ((j : ℕ) → j < columns → getD l (columns * s + j) 0 ≡ cell m (p .body) s j) → Row t (linesIn (rootChain D t p)) l s
+  row-from : (l : List ℕ) (s : ℕ) → ((k : Column) → getD l (slot s k) 0 ≡ cell m (p .body) s k) → Row t (linesIn (rootChain D t p)) l s
   row-from l s h =
       record {
-        calls-is = first l s ∙ h 0 (omega arith) ∙ sym (calls-tree D t p s);
-        work-is = h 1 (omega arith) ∙ sym (work-tree D t p s);
-        span-is = subst (Spans t s) (sym (h 2 (omega arith))) (spans-tree D t p s);
-        local-is = h 3 (omega arith) ∙ sym (local-tree D t p s);
-        on-span-is = h 4 (omega arith) ∙ sym (on-span-tree D t p s);
+        calls-is = h Column.calls ∙ sym (calls-tree D t p s);
+        work-is = h Column.work ∙ sym (work-tree D t p s);
+        span-is = subst (Spans t s) (sym (h Column.span)) (spans-tree D t p s);
+        local-is = h Column.local ∙ sym (local-tree D t p s);
+        on-span-is = h Column.onSpan ∙ sym (on-span-tree D t p s);
       }
 
-  row-to : (l : List ℕ) (s : ℕ) → Row t (linesIn (rootChain D t p)) l s → (j : ℕ) → j < columns → getD l (columns * s + j) 0 ≡ cell m (p .body) s j
-  row-to l s r zero h = sym (first l s) ∙ r .calls-is ∙ calls-tree D t p s
-  row-to l s r (suc zero) h = r .work-is ∙ work-tree D t p s
-  row-to l s r (suc (suc zero)) h = spans-unique t s _ _ (r .span-is) (spans-tree D t p s)
-  row-to l s r (suc (suc (suc zero))) h = r .local-is ∙ local-tree D t p s
-  row-to l s r (suc (suc (suc (suc zero)))) h = r .on-span-is ∙ on-span-tree D t p s
-  row-to l s r (suc (suc (suc (suc (suc j))))) h = absurd (omega arith)
+  row-to : (l : List ℕ) (s : ℕ) → Row t (linesIn (rootChain D t p)) l s → (k : Column) → getD l (slot s k) 0 ≡ cell m (p .body) s k
+  row-to l s r Column.calls = r .calls-is ∙ calls-tree D t p s
+  row-to l s r Column.work = r .work-is ∙ work-tree D t p s
+  row-to l s r Column.span = spans-unique t s _ _ (r .span-is) (spans-tree D t p s)
+  row-to l s r Column.local = r .local-is ∙ local-tree D t p s
+  row-to l s r Column.onSpan = r .on-span-is ∙ on-span-tree D t p s
 
   -- LAW: what the tree says is a profile
   pub tree-profile : (e : Engine) (before : Lent) (r : Answer) (after : Lent) → ProfileBy e (sites t) m (p .body) before r after → Profile e t before r after
@@ -89,7 +87,7 @@ module _ (D : ℕ) (t : List Frame) (p : Parts D t) where
         answer = h .answer ∙ sym answer-is;
         rows = record {
           same-length = h .rows .same-length;
-          rows-are = λ s l. row-from (after .rows) s (λ j k. h .rows .cells s j l k);
+          rows-are = λ s l. row-from (after .rows) s (λ k. h .rows .cells s k l);
           rest = h .rows .rest;
         };
         scratch = h .scratch;
@@ -104,7 +102,7 @@ module _ (D : ℕ) (t : List Frame) (p : Parts D t) where
         answer = h .answer ∙ ap (acceptance t) (root-span-only D t p (h .span) (h .is-span)) ∙ answer-is;
         rows = record {
           same-length = h .rows .same-length;
-          cells = λ s j l k. row-to (after .rows) s (subst (λ (d : List ℕ). Row t d (after .rows) s) c (h .rows .rows-are s l)) j k;
+          cells = λ s k l. row-to (after .rows) s (subst (λ (d : List ℕ). Row t d (after .rows) s) c (h .rows .rows-are s l)) k;
           rest = h .rows .rest;
         };
         scratch = h .scratch;
@@ -112,13 +110,12 @@ module _ (D : ℕ) (t : List Frame) (p : Parts D t) where
       }
 
   -- LAW: within the limits each number of the tree is below 2 ^ 54
-  pub cell-small : (M : ℕ) → Fine D M t → (s j : ℕ) → j < columns → Small (cell m (p .body) s j)
-  cell-small M f s zero l = subst Small (calls-tree D t p s) (fine-small D M t f .calls-are s)
-  cell-small M f s (suc zero) l = subst Small (work-tree D t p s) (fine-small D M t f .work-is s)
-  cell-small M f s (suc (suc zero)) l = fine-small D M t f .spans-are s (spansIn s (p .body)) (spans-tree D t p s)
-  cell-small M f s (suc (suc (suc zero))) l = subst Small (local-tree D t p s) (fine-small D M t f .local-is s)
-  cell-small M f s (suc (suc (suc (suc zero)))) l = subst Small (on-span-tree D t p s) (fine-small D M t f .on-span-is (linesIn (rootChain D t p)) s)
-  cell-small M f s (suc (suc (suc (suc (suc j))))) l = absurd (omega arith)
+  pub cell-small : (M : ℕ) → Fine D M t → (s : ℕ) (k : Column) → Small (cell m (p .body) s k)
+  cell-small M f s Column.calls = subst Small (calls-tree D t p s) (fine-small D M t f .calls-are s)
+  cell-small M f s Column.work = subst Small (work-tree D t p s) (fine-small D M t f .work-is s)
+  cell-small M f s Column.span = fine-small D M t f .spans-are s (spansIn s (p .body)) (spans-tree D t p s)
+  cell-small M f s Column.local = subst Small (local-tree D t p s) (fine-small D M t f .local-is s)
+  cell-small M f s Column.onSpan = subst Small (on-span-tree D t p s) (fine-small D M t f .on-span-is (linesIn (rootChain D t p)) s)
 
   pub work-small : (M : ℕ) → Fine D M t → Small (workOf (p .body))
   work-small M f = subst Small (total-tree D t p) (fine-small D M t f .total-is)
@@ -128,14 +125,11 @@ module _ (D : ℕ) (t : List Frame) (p : Parts D t) where
 rows-unique : (m first : ℕ) (b : Body) (before a c : List ℕ) → RowsBy m first b before a → RowsBy m first b before c → a ≡ c
 rows-unique m first b before a c h k = ext-getD 0 a c (h .same-length ∙ sym (k .same-length)) at
   where
-    low : (i : ℕ) → i / columns ≤ m → getD a i 0 ≡ getD c i 0
-    low i l =
-        let e : columns * (i / columns) + i % columns ≡ i = omega arith in
-        let n : i % columns < columns = omega arith in
-        subst (λ (j : ℕ). getD a j 0 ≡ getD c j 0) e (h .cells (i / columns) (i % columns) l n ∙ sym (k .cells (i / columns) (i % columns) l n))
-
     at : (i : ℕ) → i < length a → getD a i 0 ≡ getD c i 0
-    at i l = elim (below (columns * (m + 1)) i) [ inl g ↦ low i (omega arith) | inr w ↦ h .rest i (omega (arith, w .1)) ∙ sym (k .rest i (omega (arith, w .1))) ]
+    at i l = elim (below (columns * (m + 1)) i) [
+      | inl g ↦ by-slots m (λ i. getD a i 0 ≡ getD c i 0) (λ s q n. h .cells s q n ∙ sym (k .cells s q n)) i g
+      | inr w ↦ h .rest i (omega (arith, w .1)) ∙ sym (k .rest i (omega (arith, w .1)))
+    ]
 
 marked-unique : (e : Engine) (n : ℕ) (c before a d : List ℕ) → Marked e n c before a → Marked e n c before d → a ≡ d
 marked-unique tables n c before a d h k = h ∙ sym k
@@ -202,7 +196,7 @@ module _ (f : ℕ → ℕ) (m : ℕ) (l : List ℕ) where
 -- as the tree says, in the room that is there
 module _ (m first : ℕ) (b : Body) (before : Lent) (rows-fit : columns * (m + 1) ≤ length (before .rows)) where
   abbrev number : ℕ → ℕ
-  number i = cell first b (i / columns) (i % columns)
+  number i = cell first b (rowOf i) (columnOf i)
 
   abbrev new-rows : List ℕ
   new-rows = over number (columns * (m + 1)) (before .rows)
@@ -211,15 +205,12 @@ module _ (m first : ℕ) (b : Body) (before : Lent) (rows-fit : columns * (m + 1
   rows-by =
       record {
         same-length = over-length number (columns * (m + 1)) (before .rows);
-        cells = λ s j l k. over-low number (columns * (m + 1)) (before .rows) (columns * s + j) (omega arith) rows-fit ∙ named s j k;
+        cells = λ s k l.
+            over-low number (columns * (m + 1)) (before .rows) (slot s k) (slot-in m s k l) rows-fit
+            ∙ ap (λ (r : ℕ). cell first b r (columnOf (slot s k))) (row-slot s k)
+            ∙ ap (cell first b s) (column-slot s k);
         rest = over-high number (columns * (m + 1)) (before .rows);
       }
-    where
-      named : (s j : ℕ) → j < columns → number (columns * s + j) ≡ cell first b s j
-      named s j k =
-          let a : (columns * s + j) / columns ≡ s = omega arith in
-          let c : (columns * s + j) % columns ≡ j = omega arith in
-          ap (λ (i : ℕ). cell first b i ((columns * s + j) % columns)) a ∙ ap (cell first b s) c
 
   marked-by : (e : Engine) → (e ≡ marks → first + size b ≤ length (before .marks)) → (after : List ℕ) × Marked e (first + size b) (linesIn (chainOf first 0 b)) (before .marks) after
   marked-by tables h = (before .marks, refl)

@@ -3,7 +3,7 @@
 use mathlib.Core.Path.{_≡_, refl, sym, _∙_, ap, subst}
 use mathlib.Core.Bool.{Bool}
 use mathlib.Core.List.{List, [], _∷_, _++_}
-use Prim.Native.Nat.{ℕ, _+_, _*_, _/_, _%_, _≤_, _<_}
+use Prim.Native.Nat.{ℕ, _+_, _*_, _/_, _<_}
 use native.Mathlib.Omega.{arith}
 use lib.ListN.{length, getD}
 use Rattle.line.specs.declared.Frame.{Frame}
@@ -16,6 +16,7 @@ use Rattle.trace.specs.Places.{OnlyPlaces, RefusedWith}
 use Rattle.trace.specs.Tree.{Way, call, spawn, opening, Leaf, spend, sync, lineOf, Body, done, leaf, child, linesOf, AllSites, Parts, rootAt}
 use Rattle.trace.specs.ByTree.{ProfileBy}
 use Rattle.trace.proofs.Cases.{IsSite, at-site}
+use Rattle.trace.proofs.Slots.{by-slots}
 use Rattle.trace.proofs.Tree.{parts-one}
 use Rattle.trace.proofs.Parse.{accepted-parts}
 use Rattle.trace.proofs.Outcome.{profile-tree, by-tree-unique, profile-same}
@@ -58,14 +59,11 @@ pub record Agree (t : List Frame) (r q : Answer) (x y : Lent) : Type 0 where
 
 agree-by : (D : ℕ) (t : List Frame) (p : Parts D t) (e f : Engine) (b c : Lent) (r q : Answer) (x y : Lent)
     → ProfileBy e (sites t) (rootAt p) (p .body) b r x → ProfileBy f (sites t) (rootAt p) (p .body) c q y → Agree t r q x y
-agree-by D t p e f b c r q x y h k = record { answers = h .answer ∙ sym (k .answer); rows-written = at }
-  where
-    at : (i : ℕ) → i < columns * (sites t + 1) → getD (x .rows) i 0 ≡ getD (y .rows) i 0
-    at i l =
-        let z : columns * (i / columns) + i % columns ≡ i = omega arith in
-        let a : i / columns ≤ sites t = omega arith in
-        let d : i % columns < columns = omega arith in
-        subst (λ (j : ℕ). getD (x .rows) j 0 ≡ getD (y .rows) j 0) z (h .rows .cells (i / columns) (i % columns) a d ∙ sym (k .rows .cells (i / columns) (i % columns) a d))
+agree-by D t p e f b c r q x y h k =
+    record {
+      answers = h .answer ∙ sym (k .answer);
+      rows-written = by-slots (sites t) (λ j. getD (x .rows) j 0 ≡ getD (y .rows) j 0) (λ s a n. h .rows .cells s a n ∙ sym (k .rows .cells s a n));
+    }
 
 module _ (s z : List ℕ) (D M E N : ℕ) (e f : Engine) (b c : Lent) (r q : Answer) (x y : Lent) (h : Promise e s D M b r x) (k : Promise f z E N c q y) where
   -- LAW: "two traces that differ only in places, both accepted, get the same answer", and rows, from either engine

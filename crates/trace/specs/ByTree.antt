@@ -1,6 +1,6 @@
 -- For proofs and engines, not for the reader of document 01: what comes back of an accepted trace, by its tree.
 -- m is the number of its sites, first the line at which the body of its root begins, and b that body.
-use Prim.Native.Nat.{ℕ, zero, suc, _+_, _*_, _≤_, _<_}
+use Prim.Native.Nat.{ℕ, _+_, _*_, _≤_}
 use mathlib.Core.Path.{_≡_}
 use mathlib.Core.List.{List}
 use lib.ListN.{length, getD, replicate}
@@ -8,21 +8,22 @@ use Rattle.chain.specs.Over.{linesIn}
 use Rattle.trace.specs.declared.Answer.{Answer}
 use Rattle.trace.specs.declared.Answer.the-variants.{Accepted}
 use Rattle.trace.specs.Rows.{columns}
+use Rattle.trace.specs.Column.{Column, slot}
 use Rattle.trace.specs.Promise.{Engine, Lent, Marked}
 use Rattle.trace.specs.Tree.{Body, size, workOf, spanOf, callsIn, workIn, spansIn, localIn}
 use Rattle.trace.specs.Fold.{chainOf, onRow}
 
--- column j of row s, the first column 0
-abbrev pub cell : ℕ → Body → ℕ → ℕ → ℕ
-cell first b s zero = callsIn s b
-cell first b s (suc zero) = workIn s b
-cell first b s (suc (suc zero)) = spansIn s b
-cell first b s (suc (suc (suc zero))) = localIn s b
-cell first b s (suc (suc (suc (suc j)))) = onRow s (chainOf first 0 b)
+-- each column of row s
+abbrev pub cell : ℕ → Body → ℕ → Column → ℕ
+cell first b s Column.calls = callsIn s b
+cell first b s Column.work = workIn s b
+cell first b s Column.span = spansIn s b
+cell first b s Column.local = localIn s b
+cell first b s Column.onSpan = onRow s (chainOf first 0 b)
 
 pub record RowsBy (m first : ℕ) (b : Body) (before after : List ℕ) : Type 0 where
   pub same-length : length after ≡ length before
-  pub cells : (s j : ℕ) → s ≤ m → j < columns → getD after (columns * s + j) 0 ≡ cell first b s j
+  pub cells : (s : ℕ) (k : Column) → s ≤ m → getD after (slot s k) 0 ≡ cell first b s k
   pub rest : (i : ℕ) → columns * (m + 1) ≤ i → getD after i 0 ≡ getD before i 0
 
 pub record ProfileBy (e : Engine) (m first : ℕ) (b : Body) (before : Lent) (r : Answer) (after : Lent) : Type 0 where

@@ -1,6 +1,7 @@
 pub mod Shape
 pub mod Series
 pub mod Rows
+pub mod Column
 pub mod Refusals
 pub mod Promise
 pub mod Places

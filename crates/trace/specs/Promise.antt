@@ -11,6 +11,7 @@ use Rattle.trace.specs.declared.Answer.the-variants.{Accepted, Refused}
 use Rattle.trace.specs.Shape.{root, has, sites}
 use Rattle.trace.specs.Series.{Span, Chosen}
 use Rattle.trace.specs.Rows.{columns, total, calls, work, Spans, local, onSpan}
+use Rattle.trace.specs.Column.{Column, slot}
 use Rattle.trace.specs.Refusals.{lineCount, accepted, refused, verdict}
 
 pub data Engine : Type 0 where
@@ -50,11 +51,11 @@ refusal number line = Refused number line
 
 -- row s of the rows; c is the chosen chain
 pub record Row (t : List Frame) (c : List ℕ) (rows : List ℕ) (s : ℕ) : Type 0 where
-  pub calls-is : getD rows (columns * s) 0 ≡ calls t s
-  pub work-is : getD rows (columns * s + 1) 0 ≡ work t s
-  pub span-is : Spans t s (getD rows (columns * s + 2) 0)
-  pub local-is : getD rows (columns * s + 3) 0 ≡ local t s
-  pub on-span-is : getD rows (columns * s + 4) 0 ≡ onSpan t c s
+  pub calls-is : getD rows (slot s Column.calls) 0 ≡ calls t s
+  pub work-is : getD rows (slot s Column.work) 0 ≡ work t s
+  pub span-is : Spans t s (getD rows (slot s Column.span) 0)
+  pub local-is : getD rows (slot s Column.local) 0 ≡ local t s
+  pub on-span-is : getD rows (slot s Column.onSpan) 0 ≡ onSpan t c s
 
 -- "Row numbers 0 to 5·(sites+1)-1 hold the rows and the rest are unchanged."
 pub record Rows (t : List Frame) (c before after : List ℕ) : Type 0 where

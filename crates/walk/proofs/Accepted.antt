@@ -12,12 +12,14 @@ use borrow.Author.Tests.{leb-true}
 use Rattle.line.specs.declared.Frame.{Frame}
 use Rattle.trace.specs.Shape.{sites}
 use Rattle.trace.specs.Rows.{columns}
+use Rattle.trace.specs.Column.{Column, slot}
 use Rattle.trace.specs.Refusals.{accepted, verdict}
 use Rattle.trace.specs.Promise.{Engine, Lent, enough, scratchRoom, rowsRoom, marksRoom}
 use Rattle.trace.specs.Tree.{Body, linesOf, workOf, spanOf, rootAt}
 use Rattle.trace.specs.Fold.{nothing}
 use Rattle.trace.specs.ByTree.{cell}
 use Rattle.trace.proofs.Basics.{both}
+use Rattle.trace.proofs.Slots.{slot-in}
 use Rattle.trace.proofs.Scan.{Fine, accepted-is, accepted-fine}
 use Rattle.trace.proofs.Invocations.{root-behind-sites}
 use Rattle.trace.proofs.Accept.{sites-le-M}
@@ -25,7 +27,7 @@ use Rattle.trace.proofs.Recurrence.{weight-chain}
 use Rattle.walk.specs.declared.Open.{Open}
 use Rattle.walk.specs.Stands.{Stands}
 use Rattle.walk.specs.Numbers.{numbers}
-use Rattle.walk.specs.Gain.{returned, made, Grown}
+use Rattle.walk.specs.Gain.{ColumnFits, ReturnFits, returned, made, Grown}
 use Rattle.walk.specs.Reader.{Ready, BodyDone}
 use Rattle.walk.proofs.Columns.{whole-on}
 use Rattle.walk.proofs.Root.{tree, whole-small, root-stands, root-ready, cells-are, behind}
@@ -89,11 +91,13 @@ module _ (e : Engine) (s : List ℕ) (D M : ℕ) (x : Lent) (t : List Frame) (is
     pub span-is : c .prefix ≡ spanOf body
     span-is = ap (λ (y : Open). y .prefix) (done .numbers-are) ∙ weight-chain body first 0
 
-    pub count-fits : (columns * 0 + 2 < length rows₁) × ((getD rows₁ (columns * 0) 0 + 1 < 2 ^ 64) × ((getD rows₁ (columns * 0 + 1) 0 + c .work < 2 ^ 64) × (getD rows₁ (columns * 0 + 2) 0 + c .prefix < 2 ^ 64)))
-    count-fits = (omega (arith, same, rows-room), (at 0 1 (omega arith) (omega arith), (at 1 (c .work) (omega arith) (omega (arith, work-is)), at 2 (c .prefix) (omega arith) (omega (arith, span-is)))))
+    pub count-fits : ReturnFits rows₁ 0 (c .work) (c .prefix)
+    count-fits = (fits Column.calls 1 (omega arith), (fits Column.work (c .work) (omega (arith, work-is)), fits Column.span (c .prefix) (omega (arith, span-is))))
       where
-        at : (i v : ℕ) → i < 3 → v ≤ made 0 body i → getD rows₁ i 0 + v < 2 ^ 64
-        at i v l h = omega (arith, done .rows-are i (omega (arith, cleared-long, rows-room)), zeros i (omega arith), whole-small D M t fine i)
+        fits : (k : Column) (v : ℕ) → v ≤ made 0 body (slot 0 k) → ColumnFits rows₁ 0 k v
+        fits k v h =
+            let i = slot-in count 0 k (omega arith) in
+            (omega (arith, same, rows-room), omega (arith, done .rows-are (slot 0 k) (omega (arith, cleared-long, rows-room)), zeros (slot 0 k) (omega (arith, count-is)), whole-small D M t fine (slot 0 k)))
 
     -- and the root was counted
     module _ (rows₂ : List ℕ) (counts : Grown rows₁ (returned 0 (c .work) (c .prefix)) rows₂) where
@@ -103,16 +107,16 @@ module _ (e : Engine) (s : List ℕ) (D M : ℕ) (x : Lent) (t : List Frame) (is
       long : columns * (sites t + 1) ≤ length cleared
       long = omega (arith, cleared-long, rows-room, count-is)
 
-      pub cells : (k j : ℕ) → k ≤ count → j < 4 → getD rows₂ (columns * k + j) 0 ≡ cell count body k j
+      pub cells : (k : ℕ) (j : Column) → k ≤ count → (j ≡ Column.onSpan → ⊥) → getD rows₂ (slot k j) 0 ≡ cell count body k j
       cells k j h l =
           cells-are D M t fine cleared rows₁ rows₂ long (omega (arith, same, cleared-long)) zeros (done .rows-are) itself k j (omega (arith, count-is)) l
           ∙ ap (λ (m : ℕ). cell m body k j) count-is
 
       -- column 5 is still zero
-      pub none-on : (k : ℕ) → k ≤ count → getD rows₂ (columns * k + 4) 0 ≡ 0
+      pub none-on : (k : ℕ) → k ≤ count → getD rows₂ (slot k Column.onSpan) 0 ≡ 0
       none-on k h =
           let w = tree D M t fine .within in
-          omega (arith, itself (columns * k + 4) (omega (arith, same, rows-room)), done .rows-are (columns * k + 4) (omega (arith, cleared-long, rows-room)), zeros (columns * k + 4) (omega (arith, count-is)), whole-on (sites t) D 1 body w k)
+          omega (arith, itself (slot k Column.onSpan) (omega (arith, same, rows-room)), done .rows-are (slot k Column.onSpan) (omega (arith, cleared-long, rows-room)), zeros (slot k Column.onSpan) (omega (arith, count-is)), whole-on (sites t) D 1 body w k)
 
       pub rest : (i : ℕ) → columns * (count + 1) ≤ i → i < length (x .rows) → getD rows₂ i 0 ≡ getD (x .rows) i 0
       rest i h l =

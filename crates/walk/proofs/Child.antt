@@ -9,14 +9,15 @@ use lib.ListN.{length, getD}
 use borrow.Author.Tests.{eqb-true, eqb-false}
 use Rattle.line.specs.declared.Frame.the-variants.{Call, Spawn, Cost}
 use Rattle.chain.specs.Plan.{weight}
-use Rattle.trace.specs.Rows.{columns}
+use Rattle.trace.specs.Column.{Column, slot}
 use Rattle.trace.specs.Tree.{Way, call, spawn, spend, Body, leaf, child, linesOf, size, Within, workOf, spanOf}
 use Rattle.trace.specs.Fold.{Chains, nothing, chainOf}
+use Rattle.trace.proofs.Slots.{slot-in}
 use Rattle.trace.proofs.Recurrence.{weight-chain}
 use Rattle.walk.specs.declared.Open.{Open}
 use Rattle.walk.specs.Stands.{Stands, Says, kindOf, siteOf, valueOf}
 use Rattle.walk.specs.Numbers.{numbers}
-use Rattle.walk.specs.Gain.{one, returned, made, gain, Grown}
+use Rattle.walk.specs.Gain.{ColumnFits, ReturnFits, one, returned, made, gain, Grown}
 use Rattle.walk.specs.Item.{More}
 use Rattle.walk.specs.Reader.{Ready, BodyDone}
 use Rattle.walk.proofs.Items.{stands-left}
@@ -70,9 +71,9 @@ within-child s n site m D d b c w = let h = subst (Within m D d) (c .is) w in (h
 module _ (s : List ℕ) (row m deep : ℕ) (f : Open) (rows : List ℕ) (y : Ready s row m deep f rows) where
   -- a cost of v fits the rows, the work and the chains
   pub cost-fits : (v : ℕ) (r : Body) → y .body ≡ leaf (spend v) r
-      → ((columns * row + 3 < length rows) × (getD rows (columns * row + 3) 0 + v < 2 ^ 64)) × ((f .work + v < 2 ^ 64) × (f .prefix + (f .longest + f .since) + v < 2 ^ 64))
+      → ColumnFits rows row Column.local v × ((f .work + v < 2 ^ 64) × (f .prefix + (f .longest + f .since) + v < 2 ^ 64))
   cost-fits v r e = (
-    (omega (arith, y .row-in, y .rows-long), omega (arith, y .rows-fit (columns * row + 3), ap (λ (x : Body). gain row x (columns * row + 3)) e, one-same (columns * row + 3) v)),
+    (omega (arith, y .row-in, y .rows-long), omega (arith, y .rows-fit (slot row Column.local), ap (λ (x : Body). gain row x (slot row Column.local)) e, one-same (slot row Column.local) v)),
     (omega (arith, y .work-fits, ap workOf e), omega (arith, y .load-fits, ap workOf e)),
   )
 
@@ -121,20 +122,19 @@ module _ (s : List ℕ) (row m deep : ℕ) (f : Open) (rows : List ℕ) (y : Rea
       pub span-is : r .prefix ≡ spanOf inner
       span-is = ap (λ (x : Open). x .prefix) (done .numbers-are) ∙ weight-chain inner (f .at + 1) site
 
-      in-rows : columns * site + 4 < length rows
-      in-rows = omega (arith, y .rows-long, in-it .0)
-
-      pub count-room : columns * site + 2 < length rows₁
-      count-room = omega (arith, in-rows, len)
-
-      pub count-fits : (getD rows₁ (columns * site) 0 + 1 < 2 ^ 64) × ((getD rows₁ (columns * site + 1) 0 + r .work < 2 ^ 64) × (getD rows₁ (columns * site + 2) 0 + r .prefix < 2 ^ 64))
+      pub count-fits : ReturnFits rows₁ site (r .work) (r .prefix)
       count-fits = (
-        omega (arith, done .rows-are (columns * site) (omega (arith, in-rows)), child-gains (columns * site), one-same (columns * site) 1),
+        fits Column.calls 1 (omega (arith, one-same (slot site Column.calls) 1)),
         (
-          omega (arith, done .rows-are (columns * site + 1) (omega (arith, in-rows)), child-gains (columns * site + 1), one-same (columns * site + 1) (workOf inner), work-is),
-          omega (arith, done .rows-are (columns * site + 2) (omega (arith, in-rows)), child-gains (columns * site + 2), one-same (columns * site + 2) (spanOf inner), span-is),
+          fits Column.work (r .work) (omega (arith, one-same (slot site Column.work) (workOf inner), work-is)),
+          fits Column.span (r .prefix) (omega (arith, one-same (slot site Column.span) (spanOf inner), span-is)),
         ),
       )
+        where
+          fits : (k : Column) (v : ℕ) → v ≤ made site inner (slot site k) → ColumnFits rows₁ site k v
+          fits k v h =
+              let i = slot-in m site k (in-it .0) in
+              (omega (arith, len, y .rows-long), omega (arith, done .rows-are (slot site k) (omega (arith, y .rows-long)), child-gains (slot site k)))
 
 -- the numbers and the rows behind a child that was counted, whatever body it is
 pub record ChildDone (f : Open) (site : ℕ) (rows : List ℕ) (g : Body) (r : Open) (rows₂ : List ℕ) : Type 0 where
@@ -154,6 +154,6 @@ child-done f site rows rows₁ rows₂ g r len done counts =
       at-is = a;
       work-is = v;
       chain = sym p;
-      rows-are = λ i l. omega (arith, counts i (omega (arith, len)), ap (λ (x : ℕ). one (columns * site + 1) x i) v, ap (λ (x : ℕ). one (columns * site + 2) x i) u, done .rows-are i l);
+      rows-are = λ i l. omega (arith, counts i (omega (arith, len)), ap (λ (x : ℕ). one (slot site Column.work) x i) v, ap (λ (x : ℕ). one (slot site Column.span) x i) u, done .rows-are i l);
       numbers-are = λ k. ap (λ (j : ℕ). numbers j (f .work + r .work) k) a ∙ ap (λ (j : ℕ). numbers (f .at + (1 + size g)) (f .work + j) k) v;
     }

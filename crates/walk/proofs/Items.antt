@@ -12,7 +12,6 @@ use Rattle.line.specs.declared.Frame.{Frame}
 use Rattle.chain.specs.Plan.{CostLine, weight, choose}
 use Rattle.chain.proofs.Lists.{weight-append}
 use Rattle.chain.proofs.Choose.{choose-cases}
-use Rattle.trace.specs.Rows.{columns}
 use Rattle.trace.specs.Tree.{Way, call, spawn, Leaf, spend, sync, leafWork, Body, done, leaf, child, linesOf, size, Within, workOf}
 use Rattle.trace.specs.Fold.{costAt, Chains, nothing, joined, spawned, leafChains, ended, childChains, run, chainOf}
 use Rattle.trace.proofs.Tree.{size-is}

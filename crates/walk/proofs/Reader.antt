@@ -6,7 +6,6 @@ use native.Mathlib.Decide.{decLt}
 use native.Mathlib.Omega.{arith}
 use lib.ListN.{length, getD, List·getD-eq-default}
 use Rattle.chain.specs.Plan.{weight}
-use Rattle.trace.specs.Rows.{columns}
 use Rattle.trace.specs.Tree.{Body, done, linesOf, size, Within, workOf}
 use Rattle.trace.specs.Fold.{Chains, nothing, joined, run}
 use Rattle.walk.specs.declared.Open.{Open}

@@ -2,7 +2,7 @@
 use mathlib.Core.Path.{_≡_, refl, ap, subst}
 use mathlib.Core.Bool.{Bool}
 use mathlib.Core.List.{List, [], _∷_}
-use Prim.Native.Nat.{ℕ, suc, _+_, _*_, _-_, _/_, _%_, _^_, _≤_, _<_}
+use Prim.Native.Nat.{ℕ, suc, _+_, _*_, _-_, _^_, _≤_, _<_}
 use native.Mathlib.Decide.{decLt}
 use native.Mathlib.Omega.{arith}
 use lib.ListN.{length, getD}
@@ -11,10 +11,12 @@ use Rattle.line.specs.declared.Read.the-variants.{Line}
 use Rattle.line.specs.Read.{readAt}
 use Rattle.trace.specs.Shape.{Is, sites}
 use Rattle.trace.specs.Rows.{columns}
+use Rattle.trace.specs.Column.{Column, slot}
 use Rattle.trace.specs.Refusals.{verdict, accepted}
 use Rattle.trace.specs.ByTree.{cell}
 use Rattle.trace.specs.Tree.{Body, linesOf, Parts, rootAt}
 use Rattle.trace.specs.Fold.{nothing}
+use Rattle.trace.proofs.Slots.{rowOf, columnOf, slot-of, slot-in, is-column}
 use Rattle.trace.proofs.Scan.{Fine, accepted-reads}
 use Rattle.trace.proofs.Parse.{parts}
 use Rattle.trace.proofs.Outcome.{cell-small, work-small, length-is}
@@ -40,14 +42,11 @@ module _ (D M : ℕ) (t : List Frame) (fine : Fine D M t) where
 
   -- whatever number of whatever row: it is small
   pub whole-small : (i : ℕ) → whole body i < 2 ^ 54
-  whole-small i = small (i / 5) (i % 5) (omega arith) (omega arith)
+  whole-small i = subst (λ (j : ℕ). whole body j < 2 ^ 54) (slot-of i) (small (rowOf i) (columnOf i) (is-column (columnOf i) Column.onSpan))
     where
-      small : (s j : ℕ) → i ≡ columns * s + j → j < 5 → whole body i < 2 ^ 54
-      small s j e h = go (decLt j 4)
-        where
-          go : Dec (j < 4) → whole body i < 2 ^ 54
-          go (yes l) = omega (arith, ap (whole body) e, whole-cell (sites t) D 1 body (tree .within) (rootAt tree) s j l, cell-small D t tree M fine s j (omega arith))
-          go (no l) = let z : i ≡ columns * s + 4 = omega arith in omega (arith, ap (whole body) z, whole-on (sites t) D 1 body (tree .within) s)
+      small : (s : ℕ) (k : Column) → Dec (k ≡ Column.onSpan) → whole body (slot s k) < 2 ^ 54
+      small s k (yes e) = omega (arith, ap (λ (l : Column). whole body (slot s l)) e, whole-on (sites t) D 1 body (tree .within) s)
+      small s k (no h) = omega (arith, whole-cell (sites t) D 1 body (tree .within) (rootAt tree) s k h, cell-small D t tree M fine s k)
 
   module _ (s : List ℕ) (room : Bool) (acc : verdict s D M room ≡ accepted t) where
     pub root-stands : Stands s (rootAt tree) (linesOf body)
@@ -78,7 +77,7 @@ module _ (D M : ℕ) (t : List Frame) (fine : Fine D M t) where
       where
         fit : (i : ℕ) → Dec (i < columns * (sites t + 1)) → getD rows i 0 + gain 0 body i < 2 ^ 64
         fit i (yes l) = omega (arith, zeros i l, whole-small i)
-        fit i (no l) = omega (arith, fits i, gain-out (sites t) D 1 0 i body (tree .within) (omega arith) (omega arith))
+        fit i (no l) = omega (arith, fits i, gain-out (sites t) i (omega arith) D 1 0 body (tree .within) (omega arith))
 
 -- The rows at the end, but for column 5: what was zero is the tree's columns, and what stands behind the rows is as
 -- it was.
@@ -90,9 +89,10 @@ module _ (D M : ℕ) (t : List Frame) (fine : Fine D M t) (rows₀ rows₁ rows�
   grown : (i : ℕ) → i < length rows₀ → getD rows₂ i 0 ≡ getD rows₀ i 0 + whole (x .body) i
   grown i l = omega (arith, inside i l, itself i (omega (arith, same)))
 
-  pub cells-are : (s j : ℕ) → s ≤ sites t → j < 4 → getD rows₂ (columns * s + j) 0 ≡ cell (sites t) (x .body) s j
-  cells-are s j h l =
-      omega (arith, grown (columns * s + j) (omega arith), zeros (columns * s + j) (omega arith), whole-cell (sites t) D 1 (x .body) (x .within) (sites t) s j l)
+  pub cells-are : (s : ℕ) (k : Column) → s ≤ sites t → (k ≡ Column.onSpan → ⊥) → getD rows₂ (slot s k) 0 ≡ cell (sites t) (x .body) s k
+  cells-are s k h l =
+      let i = slot-in (sites t) s k h in
+      omega (arith, grown (slot s k) (omega arith), zeros (slot s k) i, whole-cell (sites t) D 1 (x .body) (x .within) (sites t) s k l)
 
   pub behind : (i : ℕ) → columns * (sites t + 1) ≤ i → i < length rows₀ → getD rows₂ i 0 ≡ getD rows₀ i 0
   behind i h l = omega (arith, grown i l, whole-out (sites t) D 1 (x .body) (x .within) i h)

@@ -8,7 +8,9 @@ use lib.Dec.{eqb}
 use lib.ListN.{length, getD, set, length-set}
 use lib.Seq.{getD-set-same, getD-set-other}
 use borrow.Author.Tests.{eqb-true, eqb-false, eq-eqb, ne-eqb}
-use Rattle.walk.specs.Gain.{one, Grown}
+use Rattle.trace.specs.Column.{Column, nth, slot}
+use Rattle.trace.proofs.Slots.{slot-apart}
+use Rattle.walk.specs.Gain.{ColumnFits, one, Grown}
 
 pub one-same : (j v : ℕ) → one j v j ≡ v
 one-same j v = ap (λ (b : Bool). cond b v 0) (eq-eqb j j refl)
@@ -33,3 +35,10 @@ grown-two a b c j k v w eb ec i l =
 -- rows that grew twice
 pub grown-again : (g h : ℕ → ℕ) (a b c : List ℕ) → length b ≡ length a → Grown a g b → Grown b h c → Grown a (λ i. g i + h i) c
 grown-again g h a b c l p q i r = omega (arith, p i r, q i (omega arith))
+
+-- what fitted another column of the row still does
+pub fits-still : (s u v : ℕ) (k l : Column) (a b : List ℕ) → (nth k ≡ nth l → ⊥) → length b ≡ length a → Grown a (one (slot s k) u) b → ColumnFits a s l v → ColumnFits b s l v
+fits-still s u v k l a b ne len grown fits = (
+  omega (arith, fits .0),
+  omega (arith, grown (slot s l) (fits .0), one-other (slot s k) u (slot s l) (λ e. ne (ap nth (slot-apart s s k l e .1))), fits .1),
+)

@@ -1,7 +1,7 @@
 -- For proofs and engines, not for the reader of document 01: the first item of a body, its lines, what it does, and what
 -- stands behind it.
-use Prim.Native.Nat.{ℕ, _+_, _*_}
-use Rattle.trace.specs.Rows.{columns}
+use Prim.Native.Nat.{ℕ, _+_}
+use Rattle.trace.specs.Column.{Column, slot}
 use Rattle.trace.specs.Tree.{leafWork, Body, done, leaf, child, size, workOf}
 use Rattle.trace.specs.Fold.{Chains, leafChains, childChains, run}
 use Rattle.walk.specs.Gain.{one, made, gain}
@@ -33,7 +33,7 @@ itemWork (child w j g r) = workOf g
 -- by how much row number i grows
 abbrev pub itemGain : ℕ → Body → ℕ → ℕ
 itemGain s done i = 0
-itemGain s (leaf l r) i = one (columns * s + 3) (leafWork l) i
+itemGain s (leaf l r) i = one (slot s Column.local) (leafWork l) i
 itemGain s (child w j g r) i = made j g i + gain j g i
 
 -- the chains behind it; n is its first line

@@ -1,13 +1,17 @@
 // What both engines share: an open invocation's numbers, what a cost line weighs, and columns 1 to 4 of the rows.
+use trace::CALLS;
 use trace::COLUMNS;
+use trace::LOCAL;
+use trace::SPAN;
+use trace::WORK;
 ghost use mathlib.Core.Path.{_≡_};
 ghost use Prim.Native.Nat.{_+_, _*_, _^_, _≤_, _<_};
 ghost use mathlib.Core.List.{_++_};
 ghost use lib.ListN.{length, getD, set, drop, replicate};
-ghost use Rattle.trace.specs.Rows.{columns};
+ghost use Rattle.trace.specs.Column.{Column, slot};
 ghost use Rattle.trace.specs.Fold.{nothing};
 ghost use Rattle.walk.specs.Weight.{weightAt};
-ghost use Rattle.walk.specs.Gain.{one, oneCall, credited, returned, Grown};
+ghost use Rattle.walk.specs.Gain.{ColumnFits, ReturnFits, one, oneCall, credited, returned, Grown};
 ghost use Rattle.walk.specs.Numbers.{numbers, spentN, laterHeavier, joinedN, calledN, childLonger, spawnedN};
 
 // An open invocation: its next line, the work so far, and what its three chains weigh: up to the last join, the longest child's since, and
@@ -141,27 +145,25 @@ pub fn add(a: &mut [u64], i: usize, v: u64)
 
 // Column 1 of row s: an invocation was made from it.
 fn count(rows: &mut [u64], s: usize)
-    requires { ⌜ (columns * s < length (now rows)) × (getD (now rows) (columns * s) 0 + 1 < 2 ^ 64) ⌝ }
+    requires { ⌜ ColumnFits (now rows) s Column.calls 1 ⌝ }
     ensures { λ _. ⌜ Grown (now (rows .entry)) (oneCall s) (now (rows .exit)) ⌝ }
 {
-    add(rows, COLUMNS * s, 1);
+    add(rows, COLUMNS * s + CALLS, 1);
 }
 
 // Columns 2 and 3 of row s: an invocation's work and its span.
 fn credit(rows: &mut [u64], s: usize, work: u64, span: u64)
-    requires { ⌜ columns * s + 2 < length (now rows) ⌝ }
-    requires { ⌜ (getD (now rows) (columns * s + 1) 0 + work < 2 ^ 64) × (getD (now rows) (columns * s + 2) 0 + span < 2 ^ 64) ⌝ }
+    requires { ⌜ ColumnFits (now rows) s Column.work work × ColumnFits (now rows) s Column.span span ⌝ }
     ensures { λ _. ⌜ Grown (now (rows .entry)) (credited s work span) (now (rows .exit)) ⌝ }
 {
     let i = COLUMNS * s;
-    add(rows, i + 1, work);
-    add(rows, i + 2, span);
+    add(rows, i + WORK, work);
+    add(rows, i + SPAN, span);
 }
 
 // An invocation of site s with this work and this span has returned: columns 1 to 3 of its row.
 pub fn returned(rows: &mut [u64], s: usize, work: u64, span: u64)
-    requires { ⌜ columns * s + 2 < length (now rows) ⌝ }
-    requires { ⌜ (getD (now rows) (columns * s) 0 + 1 < 2 ^ 64) × ((getD (now rows) (columns * s + 1) 0 + work < 2 ^ 64) × (getD (now rows) (columns * s + 2) 0 + span < 2 ^ 64)) ⌝ }
+    requires { ⌜ ReturnFits (now rows) s work span ⌝ }
     ensures { λ _. ⌜ Grown (now (rows .entry)) (returned s work span) (now (rows .exit)) ⌝ }
 {
     count(rows, s);
@@ -170,10 +172,10 @@ pub fn returned(rows: &mut [u64], s: usize, work: u64, span: u64)
 
 // Column 4 of row s: a cost of v directly in an invocation of it.
 pub fn spend(rows: &mut [u64], s: usize, v: u64)
-    requires { ⌜ (columns * s + 3 < length (now rows)) × (getD (now rows) (columns * s + 3) 0 + v < 2 ^ 64) ⌝ }
-    ensures { λ _. ⌜ Grown (now (rows .entry)) (one (columns * s + 3) v) (now (rows .exit)) ⌝ }
+    requires { ⌜ ColumnFits (now rows) s Column.local v ⌝ }
+    ensures { λ _. ⌜ Grown (now (rows .entry)) (one (slot s Column.local) v) (now (rows .exit)) ⌝ }
 {
-    add(rows, COLUMNS * s + 3, v);
+    add(rows, COLUMNS * s + LOCAL, v);
 }
 
 // Clears the first n numbers.

@@ -4,8 +4,9 @@ use super::case::{Case, Question, Spare};
 use super::rng::Rng;
 use super::{damage, shapes};
 use crate::check::Limits;
-use crate::line::{chars, Fields, CHARS};
+use crate::line::{chars, Fields, CHARS, WIDTHS};
 use crate::report::{REFUSAL_CHARS, ROW_CHARS};
+use crate::rows::COLUMNS;
 use crate::trace::Trace;
 
 /// The case with a number, of a seed.
@@ -96,17 +97,17 @@ fn read_line(rng: &mut Rng) -> Question {
         1 => line.resize(rng.index(2 * CHARS), b'0'),
         _ => (),
     }
-    Question::ReadLine { line, frame: near(rng, 5) }
+    Question::ReadLine { line, frame: near(rng, WIDTHS.len()) }
 }
 
 /// A frame for the line writer, its fields often at an edge of the table or past it.
 fn write_line(rng: &mut Rng) -> Question {
     let mut frame = fields(rng).to_vec();
     if rng.once_in(3) {
-        let field = rng.index(5);
+        let field = rng.index(WIDTHS.len());
         frame[field] = rng.pick(&[0, 1, 0xff, 0x100, 0xffff, 0x1_0000, 0xffff_ffff, 0x1_0000_0000, u64::MAX]);
     }
-    frame.resize(near(rng, 5), 0);
+    frame.resize(near(rng, WIDTHS.len()), 0);
     Question::WriteLine { frame, out: near(rng, CHARS), written: near(rng, 1) }
 }
 
@@ -125,7 +126,7 @@ fn fields(rng: &mut Rng) -> Fields {
     ];
     let mut fields = rng.pick(&good);
     if rng.once_in(4) {
-        let field = rng.index(5);
+        let field = rng.index(WIDTHS.len());
         fields[field] = rng.below(9);
     }
     fields
@@ -136,7 +137,7 @@ fn report(rng: &mut Rng) -> Question {
     let sites = if rng.once_in(10) { rng.below(256) } else { rng.below(6) };
     let count = if rng.once_in(8) { rng.pick(&[256, 257, 1 << 32, 1 << 60, u64::MAX]) } else { sites };
     let rows = sites as usize + 1;
-    let numbers = (0..near(rng, 5 * rows)).map(|_| rng.number() >> rng.below(64)).collect();
+    let numbers = (0..near(rng, COLUMNS * rows)).map(|_| rng.number() >> rng.below(64)).collect();
     Question::Report { rows: numbers, count, out: near(rng, ROW_CHARS * rows), written: near(rng, 1) }
 }
 

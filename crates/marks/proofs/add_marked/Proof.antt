@@ -1,9 +1,10 @@
 -- `marks::add_marked` meets its contract: where the line is marked, its weight is added to column 5.
 use Rattle.marks.proofs.Columns.{marked-on, grown-on, grown-off}
 use native.Mathlib.Omega.{arith}
-use Prim.Native.Nat.{ℕ, _+_, _*_}
+use Prim.Native.Nat.{ℕ}
 use mathlib.Core.Path.{subst}
 use lib.ListN.{getD}
+use Rattle.trace.specs.Column.{Column, slot}
 use Rattle.walk.specs.Weight.{weightAt}
 use Rattle.walk.specs.Gain.{one, Grown}
 use Rattle.marks.specs.Column.{marked}
@@ -37,7 +38,7 @@ add-requires : tie.Need-add-requires
 add-requires c κs =
     let a = weighed-start c in
     let x = a .args in
-    (a .pre .1, omega (arith, a .pre .2, marked-on (getD (x .marks .now) (x .at) 0) (weightAt (x .trace .now) (x .at)) (c .before .before .if1 .taken), c .weight-at .ensures))
+    (a .pre .1 .0, omega (arith, a .pre .1 .1, marked-on (getD (x .marks .now) (x .at) 0) (weightAt (x .trace .now) (x .at)) (c .before .before .if1 .taken), c .weight-at .ensures))
 
 same-length : tie.Need-same-length
 same-length c = search needs
@@ -47,14 +48,14 @@ returns c =
     let r = added c in
     let v = r .before in
     let x = weighed-start v .args in
-    let j = 5 * x .row + 4 in
+    let j = slot (x .row) Column.onSpan in
     let mark = getD (x .marks .now) (x .at) 0 in
     subst (λ (y : ℕ). Grown (x .rows .now) (one j (marked mark y)) (r .add .last .0)) (v .weight-at .ensures) (grown-on (x .rows .now) (r .add .last .0) j mark (v .weight-at .result) (v .before .before .if1 .taken) (r .add .ensures))
 
 returns-2 : tie.Need-returns-2
 returns-2 c =
     let x = start (c .before) .args in
-    grown-off (x .rows .now) (5 * x .row + 4) (getD (x .marks .now) (x .at) 0) (weightAt (x .trace .now) (x .at)) (c .if1 .left)
+    grown-off (x .rows .now) (slot (x .row) Column.onSpan) (getD (x .marks .now) (x .at) 0) (weightAt (x .trace .now) (x .at)) (c .if1 .left)
 
 pub add-marked-spec : {M : Type 1} → statement M
 add-marked-spec =

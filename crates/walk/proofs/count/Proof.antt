@@ -1,7 +1,6 @@
 -- `walk::count` meets its contract: one number grows by 1.
-use Prim.Native.Nat.{_*_}
 use borrow.Author.Needs.{needs}
-use Rattle.trace.specs.Rows.{columns}
+use Rattle.trace.specs.Column.{Column, slot}
 use Rattle.walk.proofs.Rows.{grown-one}
 use Rattle.walk.proofs.count.Statement.{statement}
 use Rattle.walk.proofs.count.Tie as tie
@@ -16,6 +15,9 @@ added c = c .before .before
 mul-add : tie.Need-mul-add
 mul-add c = search needs
 
+add-add : tie.Need-add-add
+add-add c = search needs
+
 add-requires : tie.Need-add-requires
 add-requires c κs = search needs
 
@@ -25,7 +27,7 @@ same-length c = search needs
 returns : tie.Need-returns
 returns c =
     let a = start (added c) .args in
-    rw (added c .add .ensures) (grown-one (a .rows .now) (columns * a .s) 1)
+    rw (added c .add .ensures) (grown-one (a .rows .now) (slot (a .s) Column.calls) 1)
 
 pub count-spec : {M : Type 1} → statement M
-count-spec = tie.close (tie.spec mul-add add-requires same-length returns)
+count-spec = tie.close (tie.spec mul-add add-add add-requires same-length returns)

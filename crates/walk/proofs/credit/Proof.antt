@@ -1,9 +1,8 @@
 -- `walk::credit` meets its contract: the two numbers are apart, and each is added to once.
-use Prim.Native.Nat.{_+_, _*_}
 use native.Mathlib.Omega.{arith}
 use lib.Seq.{getD-set-other}
 use borrow.Author.Needs.{needs}
-use Rattle.trace.specs.Rows.{columns}
+use Rattle.trace.specs.Column.{Column, slot}
 use Rattle.walk.proofs.Rows.{grown-two}
 use Rattle.walk.proofs.credit.Statement.{statement}
 use Rattle.walk.proofs.credit.Tie as tie
@@ -34,8 +33,7 @@ add-requires-2 : tie.Need-add-requires-2
 add-requires-2 c κs =
     let x = work-added c in
     let a = start x in
-    let i = 5 * a .args .s in
-    (omega (arith, x .add .kept .0, a .pre .0), rw (x .add .ensures, getD-set-other (a .args .rows .now) (i + 1) (i + 2) _ 0 (λ e. omega arith)) (a .pre .1 .1))
+    (omega (arith, x .add .kept .0, a .pre .1 .0), rw (x .add .ensures, getD-set-other (a .args .rows .now) (slot (a .args .s) Column.work) (slot (a .args .s) Column.span) _ 0 (λ e. omega arith)) (a .pre .1 .1))
 
 same-length : tie.Need-same-length
 same-length c = search needs
@@ -45,7 +43,7 @@ returns c =
     let y = span-added c in
     let x = work-added (y .before) in
     let a = start x .args in
-    grown-two (a .rows .now) (x .add .last .0) (y .add2 .last .0) (columns * a .s + 1) (columns * a .s + 2) (a .work) (a .span) (x .add .ensures) (y .add2 .ensures)
+    grown-two (a .rows .now) (x .add .last .0) (y .add2 .last .0) (slot (a .s) Column.work) (slot (a .s) Column.span) (a .work) (a .span) (x .add .ensures) (y .add2 .ensures)
 
 pub credit-spec : {M : Type 1} → statement M
 credit-spec =

@@ -1,10 +1,9 @@
 -- `walk::returned` meets its contract: column 1 and columns 2 and 3 are apart.
-use Prim.Native.Nat.{_+_, _*_}
 use native.Mathlib.Omega.{arith}
 use borrow.Author.Needs.{needs}
-use Rattle.trace.specs.Rows.{columns}
+use Rattle.trace.specs.Column.{Column}
 use Rattle.walk.specs.Gain.{oneCall, credited}
-use Rattle.walk.proofs.Rows.{one-other, grown-again}
+use Rattle.walk.proofs.Rows.{grown-again, fits-still}
 use Rattle.walk.proofs.returned.Statement.{statement}
 use Rattle.walk.proofs.returned.Tie as tie
 
@@ -25,12 +24,9 @@ credit-requires : tie.Need-credit-requires
 credit-requires c κs =
     let x = call-added c in
     let a = start x in
-    let i = columns * a .args .s in (
-      omega (arith, x .count .kept .0, a .pre .0),
-      (
-        omega (arith, x .count .ensures (i + 1) (omega (arith, a .pre .0)), one-other i 1 (i + 1) (λ e. omega arith), a .pre .1 .1 .0),
-        omega (arith, x .count .ensures (i + 2) (a .pre .0), one-other i 1 (i + 2) (λ e. omega arith), a .pre .1 .1 .1),
-      ),
+    let z = a .args in (
+      fits-still (z .s) 1 (z .work) Column.calls Column.work (z .rows .now) (x .count .last .0) (λ e. omega arith) (x .count .kept .0) (x .count .ensures) (a .pre .1 .0),
+      fits-still (z .s) 1 (z .span) Column.calls Column.span (z .rows .now) (x .count .last .0) (λ e. omega arith) (x .count .kept .0) (x .count .ensures) (a .pre .1 .1),
     )
 
 same-length : tie.Need-same-length

@@ -1,6 +1,6 @@
 -- `walk::spend` meets its contract: one number of the rows is added to.
 use Rattle.walk.proofs.Rows.{grown-one}
-use Prim.Native.Nat.{_+_, _*_}
+use Rattle.trace.specs.Column.{Column, slot}
 use borrow.Author.Needs.{needs}
 use Rattle.walk.proofs.spend.Statement.{statement}
 use Rattle.walk.proofs.spend.Tie as tie
@@ -23,7 +23,7 @@ same-length c = search needs
 returns : tie.Need-returns
 returns c =
     let a = c .before .before .before .before .before in
-    rw (c .before .before .add .ensures) (grown-one (a .args .rows .now) (5 * a .args .s + 3) (a .args .v))
+    rw (c .before .before .add .ensures) (grown-one (a .args .rows .now) (slot (a .args .s) Column.local) (a .args .v))
 
 pub spend-spec : {M : Type 1} → statement M
 spend-spec = tie.close (tie.spec mul-add add-add add-requires same-length returns)
