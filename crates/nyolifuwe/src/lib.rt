@@ -15,7 +15,7 @@ ghost use Rattle.report.specs.Refusal.{printRefusal};
 ghost use Rattle.nyolifuwe.specs.Code.{coded, Gives};
 ghost use Rattle.nyolifuwe.specs.Lines.{numbers, readFrame, writeFrame};
 ghost use Rattle.nyolifuwe.specs.Texts.{counted, Tells};
-ghost use Rattle.trace.specs.Promise.{Engine, Lent};
+ghost use Rattle.trace.specs.Promise.{Engine};
 ghost use Rattle.nyolifuwe.specs.Engines.{numbered, Profiles};
 ghost use Rattle.nyolifuwe.specs.Inside.{framedBy, told, lineOf, noted, lineIn, unroomy};
 

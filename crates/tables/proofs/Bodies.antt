@@ -16,7 +16,7 @@ use Rattle.walk.proofs.Items.{size-some}
 use Rattle.walk.proofs.Says.{kind-says}
 use Rattle.walk.proofs.Lines.{is-more, is-done}
 use Rattle.walk.proofs.Reader.{own-numbers, farther, ready-again, turn-start, turn-again, turn-done, body-done}
-use Rattle.tables.specs.Blocks.{Shows, Holds, Joined}
+use Rattle.tables.specs.Blocks.{Holds, Joined}
 use Rattle.tables.specs.Reader.{Lent, ItemAsks, ItemLeaves, ItemsLeave, BodyAsks, BodyLeaves}
 use Rattle.tables.proofs.Held.{holds-two, alone-shows}
 

@@ -11,10 +11,10 @@ use lib.Seq.{getD-set-same, getD-set-other}
 use borrow.Author.Tests.{eqb-true, eqb-false}
 use Rattle.chain.specs.Plan.{CostLine, weight, choose}
 use Rattle.chain.proofs.Choose.{choose-cases, test}
-use Rattle.trace.specs.Fold.{costAt, Chains, called, spawned, onRow}
+use Rattle.trace.specs.Fold.{costAt, Chains, spawned, onRow}
 use Rattle.trace.proofs.OnChain.{row-append, row-le}
 use Rattle.walk.specs.declared.Open.{Open}
-use Rattle.walk.specs.Numbers.{numbers, spentN, laterHeavier, joinedN, calledN, childLonger, spawnedN}
+use Rattle.walk.specs.Numbers.{spentN, laterHeavier, joinedN, calledN, childLonger, spawnedN}
 use Rattle.walk.proofs.Numbers.{spent-numbers, later-chosen, joined-numbers, called-numbers, child-chosen, spawned-numbers}
 use Rattle.tables.specs.Blocks.{Added, Cleared, Table, Weighed, sinceAt, partAt, Holds, Asks, Spent, Joined, Called, Spawned}
 use Rattle.tables.proofs.Held.{since-first, since-later, part-first, part-later, none-longest, some-longest, weightless, light, holds-two}

@@ -10,7 +10,6 @@ ghost use Prim.Native.Nat.{ℕ, _+_, _*_, _^_, _≤_, _<_};
 ghost use lib.ListN.{length, getD};
 ghost use Rattle.trace.specs.Rows.{columns};
 ghost use Rattle.trace.specs.Promise.{tables, Promise};
-ghost use Rattle.walk.specs.declared.Open.{Open};
 ghost use Rattle.tables.specs.Blocks.{Added, Cleared, Weighed, sinceAt, partAt, Asks, Spent, Joined, Called, Spawned};
 ghost use Rattle.tables.specs.Root.{lent, Admitted, Settled};
 ghost use Rattle.tables.specs.Reader.{Lent, ItemAsks, ItemLeaves, ItemsLeave, BodyAsks, BodyLeaves};

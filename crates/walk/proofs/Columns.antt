@@ -1,8 +1,7 @@
 -- What a body adds to each row number is columns 1 to 4 of the tree.
 use mathlib.Core.Path.{_≡_, refl, ap, _∙_}
 use mathlib.Core.Bool.{Bool, true, false, cond}
-use mathlib.Core.List.{List}
-use Prim.Native.Nat.{ℕ, zero, suc, _+_, _*_, _≤_, _<_}
+use Prim.Native.Nat.{ℕ, zero, suc, _+_, _*_, _≤_}
 use native.Mathlib.Omega.{arith}
 use lib.Dec.{eqb}
 use borrow.Author.Tests.{eqb-true, eqb-false, ne-eqb}
@@ -13,7 +12,7 @@ use Rattle.trace.specs.Tree.{leafWork, Body, done, leaf, child, Within, workOf,
 use Rattle.trace.proofs.Basics.{cond-same, cond-add}
 use Rattle.trace.proofs.Slots.{slot-apart, slot-in}
 use Rattle.trace.proofs.Columns.{none-from-root}
-use Rattle.walk.specs.Gain.{one, returned, made, gain}
+use Rattle.walk.specs.Gain.{one, made, gain}
 use Rattle.walk.proofs.Rows.{one-same, one-other}
 
 -- column k of row j is column l of row s where both are the same

@@ -1,9 +1,9 @@
 -- A body is its first item and the rest: size, work, rows, chains, lines.
-use mathlib.Core.Path.{_≡_, refl, ap, _∙_, sym, subst}
+use mathlib.Core.Path.{_≡_, refl, ap, sym, subst}
 use mathlib.Core.Logic.{_⊎_, inl, inr}
 use mathlib.Core.Bool.{Bool, true, false, cond}
 use mathlib.Core.List.{List, [], _∷_, _++_}
-use Prim.Native.Nat.{ℕ, zero, suc, _+_, _*_, _≤_, _<_}
+use Prim.Native.Nat.{ℕ, suc, _+_, _≤_, _<_}
 use native.Mathlib.Numerals.{add-one}
 use native.Mathlib.Omega.{arith}
 use lib.Dec.{ltb}
@@ -17,7 +17,7 @@ use Rattle.trace.specs.Fold.{costAt, Chains, nothing, joined, spawned, leafChai
 use Rattle.trace.proofs.Tree.{size-is}
 use Rattle.walk.specs.Stands.{Stands}
 use Rattle.walk.specs.Numbers.{load}
-use Rattle.walk.specs.Gain.{one, made, gain}
+use Rattle.walk.specs.Gain.{gain}
 use Rattle.walk.specs.Item.{More, rest, itemSize, itemWork, itemGain, itemChains}
 
 pub size-item : (b : Body) → More b → size b ≡ itemSize b + size (rest b)

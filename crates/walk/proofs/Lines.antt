@@ -1,7 +1,7 @@
 -- Which item a line is: its kind decides what stands at the front of the body.
-use mathlib.Core.Path.{_≡_, refl, ap, _∙_, sym}
+use mathlib.Core.Path.{_≡_, refl}
 use mathlib.Core.List.{List}
-use Prim.Native.Nat.{ℕ, _+_}
+use Prim.Native.Nat.{ℕ}
 use native.Mathlib.Omega.{arith}
 use Rattle.line.specs.declared.Frame.{Frame}
 use Rattle.line.specs.declared.Frame.the-variants.{Return}

@@ -8,7 +8,6 @@ use lib.Dec.{ltb}
 use Rattle.chain.specs.Plan.{CostLine, weight, choose}
 use Rattle.chain.proofs.Lists.{weight-append}
 use Rattle.trace.specs.Fold.{costAt, Chains, spent, joined, called, spawned}
-use Rattle.trace.proofs.Recurrence.{weight-joined}
 use Rattle.walk.specs.declared.Open.{Open}
 use Rattle.walk.specs.Numbers.{numbers, spentN, laterHeavier, joinedN, calledN, childLonger, spawnedN}
 

@@ -1,18 +1,17 @@
 -- One item further: what a reader asks for holds again, and the outcome is the same.
 use mathlib.Core.Path.{_≡_, refl, ap, _∙_, sym, subst}
-use mathlib.Core.List.{List, []}
-use Prim.Native.Nat.{ℕ, _+_, _*_, _^_, _≤_, _<_}
+use mathlib.Core.List.{List}
+use Prim.Native.Nat.{ℕ, _+_, _^_, _<_}
 use native.Mathlib.Decide.{decLt}
 use native.Mathlib.Omega.{arith}
 use lib.ListN.{length, getD, List·getD-eq-default}
-use Rattle.chain.specs.Plan.{weight}
-use Rattle.trace.specs.Tree.{Body, done, linesOf, size, Within, workOf}
+use Rattle.trace.specs.Tree.{Body, done, linesOf, size, workOf}
 use Rattle.trace.specs.Fold.{Chains, nothing, joined, run}
 use Rattle.walk.specs.declared.Open.{Open}
 use Rattle.walk.specs.Stands.{Stands}
 use Rattle.walk.specs.Numbers.{numbers, load}
 use Rattle.walk.specs.Gain.{gain}
-use Rattle.walk.specs.Item.{More, rest, itemSize, itemWork, itemGain, itemChains}
+use Rattle.walk.specs.Item.{More, rest, itemSize, itemWork, itemChains}
 use Rattle.walk.specs.Reader.{Ready, ItemDone, ItemsDone, BodyDone, Turn}
 use Rattle.walk.proofs.Items.{size-item, item-some, work-item, gain-item, run-item, load-item, stands-rest, within-rest}
 

@@ -7,7 +7,7 @@ use lib.ListN.{length, getD}
 use Rattle.chain.specs.Plan.{CostLine}
 use Rattle.trace.specs.Rows.{columns}
 use Rattle.trace.specs.Tree.{Body, linesOf, size, Within, workOf}
-use Rattle.trace.specs.Fold.{Chains, nothing, run, chainOf}
+use Rattle.trace.specs.Fold.{Chains, run, chainOf}
 use Rattle.walk.specs.declared.Open.{Open}
 use Rattle.walk.specs.Stands.{Stands}
 use Rattle.walk.specs.Numbers.{numbers}
