@@ -1,4 +1,5 @@
-// Acceptance: the flat check of a whole trace. It says whether a trace is accepted, or its first refusal, before anything lent is written.
+// Acceptance: the flat check of a whole trace. It says whether a trace is accepted, or its first refusal, before
+// anything lent is written.
 
 use line::Frame;
 use line::Place;
@@ -89,10 +90,13 @@ fn known_by_tag(keys: &[u64], tags: &[u16], key: u64) -> bool
     false
 }
 
-// Whether a line declares a place again. The key of a site line's place, and its tag, are kept behind the `count` before it.
+// Whether a line declares a place again. The key of a site line's place, and its tag, are kept behind the `count`
+// before it.
 fn again(keys: &mut [u64], tags: &mut [u16], count: usize, frame: Frame) -> bool
     requires { ⌜ (count < length (now keys)) × (now tags ≡ tagsOf (now keys)) ⌝ }
-    ensures { λ r. ⌜ (r ≡ seen (now (keys .entry)) count frame) × ((now (keys .exit) ≡ kept (now (keys .entry)) count frame) × (now (tags .exit) ≡ tagsOf (kept (now (keys .entry)) count frame))) ⌝ }
+    ensures { λ r. ⌜ (r ≡ seen (now (keys .entry)) count frame)
+        × ((now (keys .exit) ≡ kept (now (keys .entry)) count frame)
+        × (now (tags .exit) ≡ tagsOf (kept (now (keys .entry)) count frame))) ⌝ }
 {
     match frame {
         Frame::Site(_, place) => {
@@ -166,8 +170,8 @@ fn enter(t: Tally, site: usize, limit: usize) -> Tallied
     onward(t, t.sites, t.depth + 1)
 }
 
-// A line by its kind: the tally behind it, or the smallest refusal from 7 to 12 that applies. 13 never applies within the limits (proved), so
-// it is not looked for.
+// A line by its kind: the tally behind it, or the smallest refusal from 7 to 12 that applies. 13 never applies within
+// the limits (proved), so it is not looked for.
 fn step(t: Tally, frame: Frame, again: bool, depth: usize, sites: usize) -> Tallied
     requires { ⌜ Small depth t ⌝ }
     ensures { λ r. ⌜ r ≡ stepped depth sites again t frame ⌝ }
@@ -185,11 +189,12 @@ fn step(t: Tally, frame: Frame, again: bool, depth: usize, sites: usize) -> Tall
     }
 }
 
-// "A tally of lines, sites and open depth is kept up to date at each line": the same step on a tally that is lent. The answer is 0 or the
-// refusal.
+// "A tally of lines, sites and open depth is kept up to date at each line": the same step on a tally that is lent.
+// The answer is 0 or the refusal.
 fn update(tally: &mut Tally, frame: Frame, again: bool, depth: usize, sites: usize) -> u8
     requires { ⌜ Small depth (now tally) ⌝ }
-    ensures { λ r. ⌜ (r ≡ stepped depth sites again (now (tally .entry)) frame .refusal) × (now (tally .exit) ≡ stepped depth sites again (now (tally .entry)) frame .tally) ⌝ }
+    ensures { λ r. ⌜ (r ≡ stepped depth sites again (now (tally .entry)) frame .refusal)
+        × (now (tally .exit) ≡ stepped depth sites again (now (tally .entry)) frame .tally) ⌝ }
 {
     let next = step(*tally, frame, again, depth, sites);
     *tally = next.tally;
@@ -206,7 +211,8 @@ fn updated(t: Tally, frame: Frame, again: bool, depth: usize, sites: usize) -> T
     Tallied { refusal, tally }
 }
 
-// A line of the trace, read whole and judged with the lines before it: their tally, and the keys and tags of their places.
+// A line of the trace, read whole and judged with the lines before it: their tally, and the keys and tags of their
+// places.
 fn judge_whole(
     trace: &[u8],
     keys: &mut [u64],
@@ -216,7 +222,9 @@ fn judge_whole(
     sites: usize,
 ) -> Tallied
     requires { ⌜ Within depth (now keys) (now tags) t ⌝ }
-    ensures { λ r. ⌜ (r ≡ judgedBy depth sites (now (keys .entry)) t (readAt (now (trace .entry)) (t .lines))) × ((now (keys .exit) ≡ keptBy (now (keys .entry)) t (readAt (now (trace .entry)) (t .lines))) × (now (tags .exit) ≡ tagsOf (keptBy (now (keys .entry)) t (readAt (now (trace .entry)) (t .lines))))) ⌝ }
+    ensures { λ r. ⌜ (r ≡ judgedBy depth sites (now (keys .entry)) t (readAt (now (trace .entry)) (t .lines)))
+        × ((now (keys .exit) ≡ keptBy (now (keys .entry)) t (readAt (now (trace .entry)) (t .lines)))
+        × (now (tags .exit) ≡ tagsOf (keptBy (now (keys .entry)) t (readAt (now (trace .entry)) (t .lines))))) ⌝ }
 {
     match line::read_at(trace, t.lines) {
         Read::Line(_, frame) => {
@@ -237,7 +245,9 @@ fn judge(
     sites: usize,
 ) -> Tallied
     requires { ⌜ Within depth (now keys) (now tags) t ⌝ }
-    ensures { λ r. ⌜ (r ≡ judgedBy depth sites (now (keys .entry)) t (readAt (now (trace .entry)) (t .lines))) × ((now (keys .exit) ≡ keptBy (now (keys .entry)) t (readAt (now (trace .entry)) (t .lines))) × (now (tags .exit) ≡ tagsOf (keptBy (now (keys .entry)) t (readAt (now (trace .entry)) (t .lines))))) ⌝ }
+    ensures { λ r. ⌜ (r ≡ judgedBy depth sites (now (keys .entry)) t (readAt (now (trace .entry)) (t .lines)))
+        × ((now (keys .exit) ≡ keptBy (now (keys .entry)) t (readAt (now (trace .entry)) (t .lines)))
+        × (now (tags .exit) ≡ tagsOf (keptBy (now (keys .entry)) t (readAt (now (trace .entry)) (t .lines))))) ⌝ }
 {
     match line::glance(trace, t.lines) {
         Sight::Seen(frame) => updated(t, frame, false, depth, sites),

@@ -1,4 +1,5 @@
--- Series, chain, weight, span and the chosen chain over line numbers, for any rule that says which two lines are parallel.
+-- Series, chain, weight, span and the chosen chain over line numbers, for any rule that says which two lines are
+-- parallel.
 use Prim.Native.Nat.{ℕ, _+_, _≤_, _<_}
 use mathlib.Core.Path.{_≡_}
 use mathlib.Core.Logic.{_⊎_}

@@ -1,5 +1,5 @@
--- The round trip: a writable frame is written to a line that reads as that frame, and a line that reads as a frame is what that frame is written to.
--- Assumes nothing.
+-- The round trip: a writable frame is written to a line that reads as that frame, and a line that reads as a frame is
+-- what that frame is written to. Assumes nothing.
 use Prim.Native.Nat.{ℕ, _+_, _^_, _≤_, _<_}
 use mathlib.Core.Bool.{Bool, true, false, not, cond, _&&_}
 use mathlib.Core.List.{List, [], _∷_, _++_, append-assoc}

@@ -1,5 +1,6 @@
--- For proofs, not for the reader of document 01: one line of a text, and its kind, its site and its value, each by itself, without a look at the rest of
--- the line. Each character is taken for a digit, which on an accepted line it is.
+-- For proofs, not for the reader of document 01: one line of a text, and its kind, its site and its value, each by
+-- itself, without a look at the rest of the line. Each character is taken for a digit, which on an accepted line it
+-- is.
 use Prim.Native.Nat.{ℕ, _%_}
 use mathlib.Core.Bool.{cond}
 use mathlib.Core.List.{List, []}
@@ -12,7 +13,8 @@ use Rattle.line.specs.Read.{width, sitePart, valuePart, lineAt}
 abbrev pub wholeAt : List ℕ → ℕ → List ℕ
 wholeAt s n = cond (eqb (length (lineAt s n)) width) (lineAt s n) []
 
--- the kind in a line's characters, by its second digit alone: no kind is above 6; of no characters it is 0, as are the site and the value
+-- the kind in a line's characters, by its second digit alone: no kind is above 6; of no characters it is 0, as are
+-- the site and the value
 abbrev pub kindIn : List ℕ → ℕ
 kindIn l = getD l 1 0 % 16
 

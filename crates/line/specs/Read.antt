@@ -20,7 +20,8 @@ width = 23
 abbrev pub end : ℕ
 end = 22
 
--- "Fields, most significant digit first: kind (2 digits), site (4), value (8), file (4), column (4)": the characters of each
+-- "Fields, most significant digit first: kind (2 digits), site (4), value (8), file (4), column (4)": the characters
+-- of each
 abbrev pub kindPart : List ℕ → List ℕ
 kindPart s = part s 0 2
 
@@ -49,7 +50,8 @@ abbrev pub tabled : Entry → ℕ → Read
 tabled (frame f) n = Line n f
 tabled none n = Refused 6 n
 
--- "refusal 2 unless it is lent exactly 23 characters, then 5, then 6 ...; otherwise the frame"; n: the line's number, 0 where it stands alone
+-- "refusal 2 unless it is lent exactly 23 characters, then 5, then 6 ...; otherwise the frame"; n: the line's number,
+-- 0 where it stands alone
 abbrev pub readLine : List ℕ → ℕ → Read
 readLine s n = cond (eqb (length s) width) (cond (wrong s) (Refused 5 n) (tabled (table (fields s)) n)) (Refused 2 0)
 

@@ -14,7 +14,8 @@ ghost use Rattle.line.specs.declared.Sight.the-variants.{Seen, Other};
 ghost use Rattle.line.specs.Zeros.{allZero};
 ghost use Rattle.line.specs.Seeing.{glanced, around, isBare, isMade, isCost};
 
-// "kind (2 digits), site (4), value (8), file (4), column (4)": where each begins after the kind, and where the line feed stands.
+// "kind (2 digits), site (4), value (8), file (4), column (4)": where each begins after the kind, and where the line
+// feed stands.
 const SITE: usize = 2;
 
 const VALUE: usize = SITE + 4;
@@ -75,7 +76,8 @@ fn listed(fit: bool, f: Frame, n: usize) -> Read
 
 // The frame that five fields are by the table of kinds, else refusal 6.
 pub fn framed(kind: u32, site: u16, value: u32, file: u16, column: u16, n: usize) -> Read
-    ensures { λ r. ⌜ r ≡ tabled (table (record { kind = kind; site = site; value = value; file = file; column = column })) n ⌝ }
+    ensures { λ r. ⌜ r ≡ tabled
+        (table (record { kind = kind; site = site; value = value; file = file; column = column })) n ⌝ }
 {
     match kind {
         1 => listed(
@@ -259,7 +261,8 @@ fn value_of(s: &[u8]) -> u32
     eight_plainly(&s[VALUE..FILE])
 }
 
-// Whether a line has what every kind but a site line has around its site and its value: the digit 0, no file and no column, and a line feed.
+// Whether a line has what every kind but a site line has around its site and its value: the digit 0, no file and no
+// column, and a line feed.
 fn around(s: &[u8]) -> bool
     requires { ⌜ length (now s) ≡ width ⌝ }
     ensures { λ r. ⌜ r ≡ around (now (s .entry)) ⌝ }
@@ -379,7 +382,9 @@ pub fn value_at(text: &[u8], n: usize) -> u32
 
 // The characters of five fields, where they are as the table has them, else refusal 6.
 fn put_fields(fit: bool, kind: u64, site: u16, value: u32, file: u16, column: u16) -> Written
-    ensures { λ r. ⌜ (r .answer ≡ cond fit (Chars width) (Refused 6 0)) × (r .chars ≡ cond fit (chars (record { kind = kind; site = site; value = value; file = file; column = column })) (replicate width 0)) ⌝ }
+    ensures { λ r. ⌜ (r .answer ≡ cond fit (Chars width) (Refused 6 0)) × (r .chars ≡ cond fit
+        (chars (record { kind = kind; site = site; value = value; file = file; column = column }))
+        (replicate width 0)) ⌝ }
 {
     if !fit {
         return Written {

@@ -1,5 +1,5 @@
--- For proofs and engines, not for the reader of document 01: what the second reading, for the on-span column, asks for and
--- leaves. m are the marks.
+-- For proofs and engines, not for the reader of document 01: what the second reading, for the on-span column, asks
+-- for and leaves. m are the marks.
 use Prim.Native.Nat.{ℕ, _+_, _*_, _^_, _≤_, _<_}
 use mathlib.Core.Path.{_≡_}
 use mathlib.Core.Bool.{cond}
@@ -19,7 +19,8 @@ use Rattle.marks.specs.Park.{Zero}
 abbrev pub marked : ℕ → ℕ → ℕ
 marked x v = cond (eqb x 1) v 0
 
--- by how much row number i grows over the body of an invocation of row s whose first line is n: each marked cost in its own row
+-- by how much row number i grows over the body of an invocation of row s whose first line is n: each marked cost in
+-- its own row
 abbrev pub onGain : List ℕ → ℕ → ℕ → Body → ℕ → ℕ
 onGain m n s done i = 0
 onGain m n s (leaf l r) i = one (slot s Column.onSpan) (marked (getD m n 0) (leafWork l)) i + onGain m (n + 1) s r i
@@ -34,7 +35,8 @@ pub record Left : Type 0 where
 abbrev pub left : ℕ → Body → Left
 left s b = record { row = s; body = b }
 
--- All open invocations are a list, the innermost first. What is left of each stands behind what is left of those inside it, from line n on.
+-- All open invocations are a list, the innermost first. What is left of each stands behind what is left of those
+-- inside it, from line n on.
 abbrev pub AllStand : List ℕ → ℕ → List Left → Type 0
 AllStand s n [] = Unit {0}
 AllStand s n (x ∷ k) = Stands s n (linesOf (x .body)) × AllStand s (n + size (x .body)) k
@@ -89,13 +91,14 @@ root = record { row = 0; around = 0 }
 abbrev pub entered : ℕ → Present → Present
 entered site a = record { row = site; around = a .around + 1 }
 
--- an invocation was left: the root is the last; of another, the row around it is taken from the scratch and its number is cleared
+-- an invocation was left: the root is the last; of another, the row around it is taken from the scratch and its
+-- number is cleared
 pub record Returned (t : List ℕ) (a r : Present) (t′ : List ℕ) : Type 0 where
   pub last : a .around ≡ 0 → (r ≡ a) × (t′ ≡ t)
   pub inner : (d : ℕ) → a .around ≡ d + 1 → (r ≡ record { row = getD t d 0; around = d }) × (t′ ≡ set t d 0)
 
--- What is left of the open invocations k stands from line n on, and each line of the text has a mark. z is the scratch where none is open: it is zero, and
--- has room for all rows. The on-span numbers fit.
+-- What is left of the open invocations k stands from line n on, and each line of the text has a mark. z is the
+-- scratch where none is open: it is zero, and has room for all rows. The on-span numbers fit.
 pub record OnLent (s : List ℕ) (n : ℕ) (k : List Left) (z : List ℕ) (a : Present) (t m rows : List ℕ) : Type 0 where
   pub sites : ℕ
   pub D : ℕ

@@ -1,5 +1,5 @@
--- For proofs and engines, not for the reader of document 01: what the three readers of the marks engine ask for and leave.
--- t is the scratch from their invocation's part on, and m the marks.
+-- For proofs and engines, not for the reader of document 01: what the three readers of the marks engine ask for and
+-- leave. t is the scratch from their invocation's part on, and m the marks.
 use Prim.Native.Nat.{ℕ, _+_, _*_, _≤_}
 use mathlib.Core.Path.{_≡_}
 use mathlib.Core.List.{List}
@@ -17,7 +17,8 @@ use Rattle.marks.specs.declared.Zones.{Zones}
 use Rattle.marks.specs.Shown.{allPrefix, Zone, Shows, Kept}
 use Rattle.marks.specs.Park.{Zero}
 
--- The marks show the chains that the invocation's numbers weigh, and each line of the text has one; the scratch is zero, and has room for deep invocations more.
+-- The marks show the chains that the invocation's numbers weigh, and each line of the text has one; the scratch is
+-- zero, and has room for deep invocations more.
 pub record Lent (s : List ℕ) (deep : ℕ) (z : Zones) (t m rows : List ℕ) : Type 0 where
   pub sites : ℕ
   pub ready : Ready s (z .row) sites deep (z .own) rows

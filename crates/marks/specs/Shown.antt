@@ -1,5 +1,5 @@
--- For proofs and engines, not for the reader of document 01: what the marks of an open invocation's lines show: three zones
--- of lines, each with the marks of its chain.
+-- For proofs and engines, not for the reader of document 01: what the marks of an open invocation's lines show: three
+-- zones of lines, each with the marks of its chain.
 use Prim.Native.Nat.{ℕ, _≤_, _<_}
 use mathlib.Core.Path.{_≡_}
 use mathlib.Core.Bool.{cond}
@@ -20,7 +20,8 @@ allPrefix own row = record { own = own; row = row; child = own .at; after = own 
 abbrev pub Between : ℕ → ℕ → CostLine → Type 0
 Between a e x = (a ≤ x .line) × (x .line < e)
 
--- of the lines from a on and before e, "A mark is 1 for a line on the chosen chain, 0 for any other", and the chain has no lines elsewhere
+-- of the lines from a on and before e, "A mark is 1 for a line on the chosen chain, 0 for any other", and the chain
+-- has no lines elsewhere
 pub record Zone (m : List ℕ) (a e : ℕ) (c : List CostLine) : Type 0 where
   pub marks-are : (i : ℕ) → a ≤ i → i < e → getD m i 0 ≡ cond (has i (linesIn c)) 1 0
   pub inside : All (Between a e) c

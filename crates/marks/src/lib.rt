@@ -1,5 +1,6 @@
-// The marks engine. A mark is a byte a line. The lines of an open invocation are three zones: the prefix's, the longest child's and the continuation's. The
-// marks of each zone show its chain, and where a zone loses, its marks are cleared. A second reading takes column 5 from the marks.
+// The marks engine. A mark is a byte a line. The lines of an open invocation are three zones: the prefix's, the
+// longest child's and the continuation's. The marks of each zone show its chain, and where a zone loses, its marks
+// are cleared. A second reading takes column 5 from the marks.
 ghost use mathlib.Core.Path.{_≡_};
 ghost use Prim.Native.Nat.{_+_, _*_, _^_, _≤_, _<_};
 ghost use lib.ListN.{length, getD, set, replicate};
@@ -14,7 +15,8 @@ ghost use Rattle.marks.specs.Reader.{Lent, ItemAsks, ItemLeaves, ItemsLe
 ghost use Rattle.marks.specs.Column.{marked, entered, Returned, LineAsks, LineLeaves, ColumnAsks, ColumnLeaves};
 ghost use Rattle.marks.specs.Root.{lent, Admitted};
 
-// An open invocation: its numbers, its row, and the lines at which the zones of its longest child and of its continuation begin.
+// An open invocation: its numbers, its row, and the lines at which the zones of its longest child and of its
+// continuation begin.
 struct Zones {
     own: walk::Open,
     row: usize,
@@ -72,7 +74,8 @@ fn spend(marks: &mut [u8], z: Zones, v: u64) -> Zones
     }
 }
 
-// A sync, or the join at a return: the longest child's zone is cleared where the continuation is heavier, else the continuation's, and all is the prefix's zone.
+// A sync, or the join at a return: the longest child's zone is cleared where the continuation is heavier, else the
+// continuation's, and all is the prefix's zone.
 fn join(marks: &mut [u8], z: Zones) -> Zones
     requires { ⌜ Fits (now marks) z 0 ⌝ }
     ensures { λ r. ⌜ Joined (now (marks .entry)) z r (now (marks .exit)) ⌝ }
@@ -108,7 +111,8 @@ fn called(marks: &mut [u8], z: Zones, c: walk::Open) -> Zones
     }
 }
 
-// A spawned child has returned: where it is longer, it is the longest from now on and the one before it is cleared; else it is cleared itself.
+// A spawned child has returned: where it is longer, it is the longest from now on and the one before it is cleared;
+// else it is cleared itself.
 fn spawned(marks: &mut [u8], z: Zones, c: walk::Open) -> Zones
     requires { ⌜ Fits (now marks) z (c .prefix) ⌝ }
     requires { ⌜ (z .own .work + c .work < 2 ^ 64) × ((z .own .at < c .at) × (c .at ≤ length (now marks))) ⌝ }
@@ -196,7 +200,8 @@ fn read_items(
     rows: &mut [u64],
 ) -> Zones
     requires { ⌜ Lent (now trace) deep z (now t) (now marks) (now rows) ⌝ }
-    ensures { λ r. ⌜ ItemsLeave (now (trace .entry)) deep z (now (t .entry)) (now (marks .entry)) (now (rows .entry)) r (now (marks .exit)) (now (rows .exit)) ⌝ }
+    ensures { λ r. ⌜ ItemsLeave (now (trace .entry)) deep z (now (t .entry)) (now (marks .entry)) (now (rows .entry))
+        r (now (marks .exit)) (now (rows .exit)) ⌝ }
     ensures { λ _. ⌜ now (t .exit) ≡ now (t .entry) ⌝ }
 {
     let mut a = z;
@@ -219,7 +224,8 @@ fn body(
     rows: &mut [u64],
 ) -> walk::Open
     requires { ⌜ BodyAsks (now trace) from row deep (now t) (now marks) (now rows) ⌝ }
-    ensures { λ r. ⌜ BodyLeaves (now (trace .entry)) from row (now (marks .entry)) (now (rows .entry)) r (now (marks .exit)) (now (rows .exit)) ⌝ }
+    ensures { λ r. ⌜ BodyLeaves (now (trace .entry)) from row (now (marks .entry)) (now (rows .entry)) r
+        (now (marks .exit)) (now (rows .exit)) ⌝ }
     ensures { λ _. ⌜ now (t .exit) ≡ now (t .entry) ⌝ }
 {
     let z = read_items(
@@ -245,7 +251,8 @@ fn item(
     rows: &mut [u64],
 ) -> Zones
     requires { ⌜ ItemAsks (now trace) kind deep z (now t) (now marks) (now rows) ⌝ }
-    ensures { λ r. ⌜ ItemLeaves (now (trace .entry)) z (now (marks .entry)) (now (rows .entry)) r (now (marks .exit)) (now (rows .exit)) ⌝ }
+    ensures { λ r. ⌜ ItemLeaves (now (trace .entry)) z (now (marks .entry)) (now (rows .entry)) r (now (marks .exit))
+        (now (rows .exit)) ⌝ }
     ensures { λ _. ⌜ now (t .exit) ≡ now (t .entry) ⌝ }
 {
     let at = z.own.at;
@@ -270,8 +277,11 @@ fn item(
 
 // Column 5 of a row: the cost of a line, where the line is marked.
 fn add_marked(trace: &[u8], at: usize, row: usize, marks: &[u8], rows: &mut [u64])
-    requires { ⌜ (at < length (now marks)) × ColumnFits (now rows) row Column.onSpan (marked (getD (now marks) at 0) (weightAt (now trace) at)) ⌝ }
-    ensures { λ _. ⌜ Grown (now (rows .entry)) (one (slot row Column.onSpan) (marked (getD (now (marks .entry)) at 0) (weightAt (now (trace .entry)) at))) (now (rows .exit)) ⌝ }
+    requires { ⌜ (at < length (now marks)) × ColumnFits (now rows) row Column.onSpan
+        (marked (getD (now marks) at 0) (weightAt (now trace) at)) ⌝ }
+    ensures { λ _. ⌜ Grown (now (rows .entry))
+        (one (slot row Column.onSpan) (marked (getD (now (marks .entry)) at 0) (weightAt (now (trace .entry)) at)))
+        (now (rows .exit)) ⌝ }
 {
     if marks[at] == 1 {
         walk::add(
@@ -282,7 +292,8 @@ fn add_marked(trace: &[u8], at: usize, row: usize, marks: &[u8], rows: &mut [u64
     }
 }
 
-// The row of the invocation that a line stands in, and how many are open around it: their rows are at the front of the scratch, the root's first.
+// The row of the invocation that a line stands in, and how many are open around it: their rows are at the front of
+// the scratch, the root's first.
 struct Present {
     row: usize,
     around: usize,
@@ -326,7 +337,8 @@ fn on_line(
     rows: &mut [u64],
 ) -> Present
     requires { ⌜ LineAsks (now trace) at a (now t) (now marks) (now rows) ⌝ }
-    ensures { λ r. ⌜ LineLeaves (now (trace .entry)) at a (now (t .entry)) (now (marks .entry)) (now (rows .entry)) r (now (t .exit)) (now (rows .exit)) ⌝ }
+    ensures { λ r. ⌜ LineLeaves (now (trace .entry)) at a (now (t .entry)) (now (marks .entry)) (now (rows .entry)) r
+        (now (t .exit)) (now (rows .exit)) ⌝ }
 {
     let kind = line::kind_at(trace, at);
     if kind == 6 {
@@ -342,10 +354,12 @@ fn on_line(
     enter(t, a, line::site_at(trace, at) as usize)
 }
 
-// Reads the root's lines once more, from its first line up to the end: each marked cost is added to column 5 of the row that it stands in.
+// Reads the root's lines once more, from its first line up to the end: each marked cost is added to column 5 of the
+// row that it stands in.
 fn column(trace: &[u8], from: usize, lines: usize, t: &mut [u64], marks: &[u8], rows: &mut [u64])
     requires { ⌜ ColumnAsks (now trace) from lines (now t) (now marks) (now rows) ⌝ }
-    ensures { λ _. ⌜ ColumnLeaves (now (trace .entry)) from lines (now (t .entry)) (now (marks .entry)) (now (rows .entry)) (now (rows .exit)) ⌝ }
+    ensures { λ _. ⌜ ColumnLeaves (now (trace .entry)) from lines (now (t .entry)) (now (marks .entry))
+        (now (rows .entry)) (now (rows .exit)) ⌝ }
     ensures { λ _. ⌜ now (t .exit) ≡ now (t .entry) ⌝ }
 {
     let mut a = Present { row: 0, around: 0 };
@@ -356,7 +370,8 @@ fn column(trace: &[u8], from: usize, lines: usize, t: &mut [u64], marks: &[u8], 
     }
 }
 
-// An accepted trace of count sites and lines lines: the room is cleared, and the root is read twice, once for all and once for column 5.
+// An accepted trace of count sites and lines lines: the room is cleared, and the root is read twice, once for all and
+// once for column 5.
 fn accepted(
     text: &[u8],
     depth: usize,
@@ -368,7 +383,9 @@ fn accepted(
     rows: &mut [u64],
 ) -> trace::Answer
     requires { ⌜ Admitted (now text) depth sites (lent (now scratch) (now marks) (now rows)) count lines ⌝ }
-    ensures { λ r. ⌜ Promise Engine.marks (now (text .entry)) depth sites (lent (now (scratch .entry)) (now (marks .entry)) (now (rows .entry))) r (lent (now (scratch .exit)) (now (marks .exit)) (now (rows .exit))) ⌝ }
+    ensures { λ r. ⌜ Promise Engine.marks (now (text .entry)) depth sites
+        (lent (now (scratch .entry)) (now (marks .entry)) (now (rows .entry))) r
+        (lent (now (scratch .exit)) (now (marks .exit)) (now (rows .exit))) ⌝ }
 {
     walk::zero(scratch, scratch.len());
     walk::zero(rows, trace::COLUMNS * (count + 1));
@@ -388,7 +405,9 @@ pub fn profile(
     marks: &mut [u8],
     rows: &mut [u64],
 ) -> trace::Answer
-    ensures { λ r. ⌜ Promise Engine.marks (now (text .entry)) depth sites (lent (now (scratch .entry)) (now (marks .entry)) (now (rows .entry))) r (lent (now (scratch .exit)) (now (marks .exit)) (now (rows .exit))) ⌝ }
+    ensures { λ r. ⌜ Promise Engine.marks (now (text .entry)) depth sites
+        (lent (now (scratch .entry)) (now (marks .entry)) (now (rows .entry))) r
+        (lent (now (scratch .exit)) (now (marks .exit)) (now (rows .exit))) ⌝ }
 {
     match admit::for_marks(text, depth, sites, scratch.len(), rows.len(), marks.len()) {
         admit::Verdict::Accepted(count, lines) => accepted(

@@ -23,7 +23,8 @@ abbrev pub framed : Read → Decision
 framed (Line n f) = write (numbers (fieldsOf f))
 framed (Refused number line) = refuse number line
 
--- "refusal 2 unless it is lent exactly 23 characters", 4 where the frame has no room for five numbers, "then 5, then 6, each with line 0; otherwise the frame"
+-- "refusal 2 unless it is lent exactly 23 characters", 4 where the frame has no room for five numbers, "then 5, then
+-- 6, each with line 0; otherwise the frame"
 abbrev pub readFrame : List ℕ → ℕ → Decision
 readFrame s room = cond (eqb (length s) width) (cond (ltb room 5) (refuse 4 0) (framed (readLine s 0))) (refuse 2 0)
 

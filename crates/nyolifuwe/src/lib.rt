@@ -65,7 +65,8 @@ fn fields_of(f: Frame) -> [u64; FIELDS]
 // Reads one line: its frame goes to `frame`, or refusal 2, 4, 5 or 6.
 #[no_mangle]
 pub extern "C" fn nyo_read_line(line: &[u8], frame: &mut [u64]) -> u64
-    ensures { λ r. ⌜ Gives (readFrame (now (line .entry)) (length (now (frame .entry)))) r (now (frame .entry)) (now (frame .exit)) ⌝ }
+    ensures { λ r. ⌜ Gives (readFrame (now (line .entry)) (length (now (frame .entry)))) r (now (frame .entry))
+        (now (frame .exit)) ⌝ }
 {
     if line.len() != line::LINE {
         return 2;
@@ -147,7 +148,9 @@ pub extern "C" fn nyo_write_line(frame: &[u64], out: &mut [u8], written: &mut [u
 // Writes the report of `count` sites from their rows: its text goes to `out`, or refusal 1 or 4.
 #[no_mangle]
 pub extern "C" fn nyo_report(rows: &[u64], count: u64, out: &mut [u8], written: &mut [u64]) -> u64
-    ensures { λ r. ⌜ Tells (counted (report (now (rows .entry)) count (length (now (out .entry)))) (length (now (written .entry)))) r (now (out .entry)) (now (out .exit)) (now (written .entry)) (now (written .exit)) ⌝ }
+    ensures { λ r. ⌜ Tells
+        (counted (report (now (rows .entry)) count (length (now (out .entry)))) (length (now (written .entry)))) r
+        (now (out .entry)) (now (out .exit)) (now (written .entry)) (now (written .exit)) ⌝ }
 {
     if 255 < count {
         return 1;
@@ -161,7 +164,9 @@ pub extern "C" fn nyo_report(rows: &[u64], count: u64, out: &mut [u8], written: 
 // Writes a refusal's line: its text goes to `out`, or refusal 1 or 4.
 #[no_mangle]
 pub extern "C" fn nyo_refusal(number: u64, line: u64, out: &mut [u8], written: &mut [u64]) -> u64
-    ensures { λ r. ⌜ Tells (counted (printRefusal number line (length (now (out .entry)))) (length (now (written .entry)))) r (now (out .entry)) (now (out .exit)) (now (written .entry)) (now (written .exit)) ⌝ }
+    ensures { λ r. ⌜ Tells
+        (counted (printRefusal number line (length (now (out .entry)))) (length (now (written .entry)))) r
+        (now (out .entry)) (now (out .exit)) (now (written .entry)) (now (written .exit)) ⌝ }
 {
     if 255 < number {
         return 1;
@@ -210,7 +215,9 @@ pub extern "C" fn nyo_tables(
     rows: &mut [u64],
     answer: &mut [u64],
 ) -> u64
-    ensures { λ r. ⌜ Profiles Engine.tables (now (trace .entry)) depth sites (record { scratch = now (scratch .entry); rows = now (rows .entry); marks = [] }) (now (answer .entry)) r (record { scratch = now (scratch .exit); rows = now (rows .exit); marks = [] }) (now (answer .exit)) ⌝ }
+    ensures { λ r. ⌜ Profiles Engine.tables (now (trace .entry)) depth sites
+        (record { scratch = now (scratch .entry); rows = now (rows .entry); marks = [] }) (now (answer .entry)) r
+        (record { scratch = now (scratch .exit); rows = now (rows .exit); marks = [] }) (now (answer .exit)) ⌝ }
 {
     if answer.len() < 4 {
         return refuse_room(trace.len(), depth as usize, sites as usize);
@@ -230,7 +237,11 @@ pub extern "C" fn nyo_marks(
     rows: &mut [u64],
     answer: &mut [u64],
 ) -> u64
-    ensures { λ r. ⌜ Profiles Engine.marks (now (trace .entry)) depth sites (record { scratch = now (scratch .entry); rows = now (rows .entry); marks = now (marks .entry) }) (now (answer .entry)) r (record { scratch = now (scratch .exit); rows = now (rows .exit); marks = now (marks .exit) }) (now (answer .exit)) ⌝ }
+    ensures { λ r. ⌜ Profiles Engine.marks (now (trace .entry)) depth sites
+        (record { scratch = now (scratch .entry); rows = now (rows .entry); marks = now (marks .entry) })
+        (now (answer .entry)) r
+        (record { scratch = now (scratch .exit); rows = now (rows .exit); marks = now (marks .exit) })
+        (now (answer .exit)) ⌝ }
 {
     if answer.len() < 4 {
         return refuse_room(trace.len(), depth as usize, sites as usize);

@@ -58,7 +58,8 @@ fn copy(to: &mut [u8], from: &[u8])
 
 // Writes a text to the front of the output, or refuses: 4 for output too short.
 pub fn put_text(text: &[u8], out: &mut [u8]) -> Wrote
-    ensures { λ r. ⌜ Writes (fitting (now (text .entry)) (length (now (out .entry)))) r (now (out .entry)) (now (out .exit)) ⌝ }
+    ensures { λ r. ⌜ Writes (fitting (now (text .entry)) (length (now (out .entry)))) r (now (out .entry))
+        (now (out .exit)) ⌝ }
 {
     let n = text.len();
     if out.len() < n {
@@ -80,7 +81,8 @@ fn put_line(part: &mut [u8], line: ReportLine)
 // Writes the lines of the first n rows to the front of the output, and answers how many characters they are.
 fn put_rows(rows: &[u64], n: usize, out: &mut [u8]) -> usize
     requires { ⌜ (n ≤ 256) × (columns * n ≤ length (now rows)) × (width * n ≤ length (now out)) ⌝ }
-    ensures { λ r. ⌜ (r ≡ width * n) × (now (out .exit) ≡ linesOf (now (rows .entry)) (first n) ++ drop (width * n) (now (out .entry))) ⌝ }
+    ensures { λ r. ⌜ (r ≡ width * n)
+        × (now (out .exit) ≡ linesOf (now (rows .entry)) (first n) ++ drop (width * n) (now (out .entry))) ⌝ }
 {
     let mut at = 0;
     let mut row = 0;
@@ -93,9 +95,11 @@ fn put_rows(rows: &[u64], n: usize, out: &mut [u8]) -> usize
     at
 }
 
-// Writes a line for the root's row and for each site's, or refuses: 1 for a count above 255, then 4 for rows or output too short.
+// Writes a line for the root's row and for each site's, or refuses: 1 for a count above 255, then 4 for rows or
+// output too short.
 pub fn write_report(rows: &[u64], count: usize, out: &mut [u8]) -> Wrote
-    ensures { λ r. ⌜ Writes (report (now (rows .entry)) count (length (now (out .entry)))) r (now (out .entry)) (now (out .exit)) ⌝ }
+    ensures { λ r. ⌜ Writes (report (now (rows .entry)) count (length (now (out .entry)))) r (now (out .entry))
+        (now (out .exit)) ⌝ }
 {
     if 255 < count {
         return Wrote::Refused(1, 0);
@@ -122,7 +126,8 @@ fn refusal_line(number: u64, line: u64) -> [u8; 13]
 
 // Writes a refusal's line, or refuses: 1 where its number or line has no room in the digits, then 4 for output too short.
 pub fn write_refusal(number: u64, line: u64, out: &mut [u8]) -> Wrote
-    ensures { λ r. ⌜ Writes (printRefusal number line (length (now (out .entry)))) r (now (out .entry)) (now (out .exit)) ⌝ }
+    ensures { λ r. ⌜ Writes (printRefusal number line (length (now (out .entry)))) r (now (out .entry))
+        (now (out .exit)) ⌝ }
 {
     if 255 < number {
         return Wrote::Refused(1, 0);

@@ -1,5 +1,5 @@
--- For proofs and engines, not for the reader of document 01: what the three readers of the table engine ask for and leave.
--- t is what their invocation was lent of the scratch.
+-- For proofs and engines, not for the reader of document 01: what the three readers of the table engine ask for and
+-- leave. t is what their invocation was lent of the scratch.
 use Prim.Native.Nat.{ℕ, _+_, _*_, _≤_, _<_}
 use mathlib.Core.Path.{_≡_}
 use mathlib.Core.List.{List, []}

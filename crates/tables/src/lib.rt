@@ -1,10 +1,11 @@
-// The table engine. The scratch is blocks of n numbers; the first w numbers of a block are a table: what of a chain stands
-// in each row. The root is lent the whole scratch. An open invocation lends a child all that lies behind the blocks that it
-// has in use itself, and has it back when the child returns. Its part is at each moment what it was lent, without what it
-// has lent on: so each open invocation works in its own part of the scratch, and no two parts share a number.
-// As long as no child is the longest, one block is in use: the table of the prefix and the continuation together. The table
-// that a child leaves at the front of its part is then in the next block, that of the longest child. Once a child is the
-// longest, four blocks are in use: the prefix's, the longest child's, the continuation's, and one that stays zero.
+// The table engine. The scratch is blocks of n numbers; the first w numbers of a block are a table: what of a chain
+// stands in each row. The root is lent the whole scratch. An open invocation lends a child all that lies behind the
+// blocks that it has in use itself, and has it back when the child returns. Its part is at each moment what it was
+// lent, without what it has lent on: so each open invocation works in its own part of the scratch, and no two parts
+// share a number. As long as no child is the longest, one block is in use: the table of the prefix and the
+// continuation together. The table that a child leaves at the front of its part is then in the next block, that of
+// the longest child. Once a child is the longest, four blocks are in use: the prefix's, the longest child's, the
+// continuation's, and one that stays zero.
 ghost use mathlib.Core.Path.{_≡_};
 ghost use Prim.Native.Nat.{ℕ, _+_, _*_, _^_, _≤_, _<_};
 ghost use lib.ListN.{length, getD};
@@ -40,7 +41,8 @@ fn clear(t: &mut [u64], a: usize, w: usize)
     }
 }
 
-// Adds the block at b, the table of a chain that weighs v, to the block at a, and clears it: only number s where this is v, for then all others are zero.
+// Adds the block at b, the table of a chain that weighs v, to the block at a, and clears it: only number s where this
+// is v, for then all others are zero.
 fn take_child(t: &mut [u64], a: usize, b: usize, w: usize, s: usize, v: u64)
     requires { ⌜ (a + w ≤ b) × (b + w ≤ length (now t)) ⌝ }
     requires { ⌜ ((i : ℕ) → i < w → getD (now t) (a + i) 0 + getD (now t) (b + i) 0 < 2 ^ 64) ⌝ }
@@ -79,7 +81,8 @@ fn since(n: usize, f: walk::Open) -> usize
     2 * n
 }
 
-// Where a child's part of the scratch begins: behind the blocks in use, one as long as no child is the longest, else four.
+// Where a child's part of the scratch begins: behind the blocks in use, one as long as no child is the longest, else
+// four.
 fn part(n: usize, f: walk::Open) -> usize
     requires { ⌜ 4 * n < 2 ^ 64 ⌝ }
     ensures { λ r. ⌜ r ≡ partAt n (f .longest) ⌝ }
@@ -93,7 +96,8 @@ fn part(n: usize, f: walk::Open) -> usize
 // A cost of v in row s: the continuation's.
 fn spend(t: &mut [u64], n: usize, w: usize, f: walk::Open, s: usize, v: u64) -> walk::Open
     requires { ⌜ Asks n w (now t) f 0 ⌝ }
-    requires { ⌜ (s < w) × ((f .at + 1 < 2 ^ 64) × ((f .work + v < 2 ^ 64) × (f .prefix + (f .longest + f .since) + v < 2 ^ 64))) ⌝ }
+    requires { ⌜ (s < w)
+        × ((f .at + 1 < 2 ^ 64) × ((f .work + v < 2 ^ 64) × (f .prefix + (f .longest + f .since) + v < 2 ^ 64))) ⌝ }
     ensures { λ r. ⌜ Spent n w s v (now (t .entry)) f r (now (t .exit)) ⌝ }
 {
     let i = since(n, f) + s;
@@ -101,8 +105,8 @@ fn spend(t: &mut [u64], n: usize, w: usize, f: walk::Open, s: usize, v: u64) -> 
     f.spent(v)
 }
 
-// A sync, or the join at a return: the prefix takes the longest child or, where it is heavier, the continuation. Its block has the continuation already
-// where no child is the longest.
+// A sync, or the join at a return: the prefix takes the longest child or, where it is heavier, the continuation. Its
+// block has the continuation already where no child is the longest.
 fn join(t: &mut [u64], n: usize, w: usize, f: walk::Open) -> walk::Open
     requires { ⌜ Asks n w (now t) f 0 ⌝ }
     requires { ⌜ f .at + 1 < 2 ^ 64 ⌝ }
@@ -133,8 +137,8 @@ fn called(t: &mut [u64], n: usize, w: usize, f: walk::Open, s: usize, c: walk::O
     f.called(c)
 }
 
-// A spawned child of row s has returned: it is the longest from now on where it is longer, and the prefix takes the continuation up to it. Where no child
-// was the longest before, each table is in its place already.
+// A spawned child of row s has returned: it is the longest from now on where it is longer, and the prefix takes the
+// continuation up to it. Where no child was the longest before, each table is in its place already.
 fn spawned(t: &mut [u64], n: usize, w: usize, f: walk::Open, s: usize, c: walk::Open) -> walk::Open
     requires { ⌜ Asks n w (now t) f (c .prefix) ⌝ }
     requires { ⌜ (s < w) × ((5 * n ≤ length (now t)) × (f .work + c .work < 2 ^ 64)) ⌝ }
@@ -169,7 +173,8 @@ fn read_items(
     w: usize,
 ) -> walk::Open
     requires { ⌜ Lent (now trace) row deep f (now t) (now rows) n w ⌝ }
-    ensures { λ r. ⌜ ItemsLeave (now (trace .entry)) row deep f (now (t .entry)) (now (rows .entry)) n w r (now (t .exit)) (now (rows .exit)) ⌝ }
+    ensures { λ r. ⌜ ItemsLeave (now (trace .entry)) row deep f (now (t .entry)) (now (rows .entry)) n w r
+        (now (t .exit)) (now (rows .exit)) ⌝ }
 {
     let mut g = f;
     let mut kind = line::kind_at(trace, f.at);
@@ -192,7 +197,8 @@ fn body(
     w: usize,
 ) -> walk::Open
     requires { ⌜ BodyAsks (now trace) from row deep (now t) (now rows) n w ⌝ }
-    ensures { λ r. ⌜ BodyLeaves (now (trace .entry)) from row (now (t .entry)) (now (rows .entry)) n w r (now (t .exit)) (now (rows .exit)) ⌝ }
+    ensures { λ r. ⌜ BodyLeaves (now (trace .entry)) from row (now (t .entry)) (now (rows .entry)) n w r
+        (now (t .exit)) (now (rows .exit)) ⌝ }
 {
     let f = read_items(trace, walk::Open::new(from), row, deep, t, rows, n, w);
     join(t, n, w, f)
@@ -211,7 +217,8 @@ fn item(
     w: usize,
 ) -> walk::Open
     requires { ⌜ ItemAsks (now trace) kind row deep f (now t) (now rows) n w ⌝ }
-    ensures { λ r. ⌜ ItemLeaves (now (trace .entry)) row f (now (t .entry)) (now (rows .entry)) n w r (now (t .exit)) (now (rows .exit)) ⌝ }
+    ensures { λ r. ⌜ ItemLeaves (now (trace .entry)) row f (now (t .entry)) (now (rows .entry)) n w r (now (t .exit))
+        (now (rows .exit)) ⌝ }
 {
     let at = f.at;
     if kind == 6 {
@@ -256,7 +263,8 @@ fn accepted(
     rows: &mut [u64],
 ) -> trace::Answer
     requires { ⌜ Admitted (now text) depth sites (now scratch) (now rows) count lines ⌝ }
-    ensures { λ r. ⌜ Promise tables (now (text .entry)) depth sites (lent (now (scratch .entry)) (now (rows .entry))) r (lent (now (scratch .exit)) (now (rows .exit))) ⌝ }
+    ensures { λ r. ⌜ Promise tables (now (text .entry)) depth sites (lent (now (scratch .entry)) (now (rows .entry)))
+        r (lent (now (scratch .exit)) (now (rows .exit))) ⌝ }
 {
     walk::zero(scratch, scratch.len());
     walk::zero(rows, trace::COLUMNS * (count + 1));
@@ -283,7 +291,8 @@ pub fn profile(
     scratch: &mut [u64],
     rows: &mut [u64],
 ) -> trace::Answer
-    ensures { λ r. ⌜ Promise tables (now (text .entry)) depth sites (lent (now (scratch .entry)) (now (rows .entry))) r (lent (now (scratch .exit)) (now (rows .exit))) ⌝ }
+    ensures { λ r. ⌜ Promise tables (now (text .entry)) depth sites (lent (now (scratch .entry)) (now (rows .entry)))
+        r (lent (now (scratch .exit)) (now (rows .exit))) ⌝ }
 {
     match admit::for_tables(text, depth, sites, scratch.len(), rows.len()) {
         admit::Verdict::Accepted(count, lines) => accepted(

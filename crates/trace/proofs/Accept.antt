@@ -1,4 +1,5 @@
--- Lines pass exactly where they are sites in order and then the lines of a body within the limits; and the same on characters.
+-- Lines pass exactly where they are sites in order and then the lines of a body within the limits; and the same on
+-- characters.
 use mathlib.Core.Path.{_≡_, refl, sym, _∙_, ap, subst}
 use mathlib.Core.Logic.{_↔_}
 use mathlib.Core.Bool.{Bool, true, false, not, cond, _||_}

@@ -1,4 +1,5 @@
--- Total work and the columns calls, work and local stay below 2 ^ 54 over at most 65,536 lines, so refusal 13 applies to no line.
+-- Total work and the columns calls, work and local stay below 2 ^ 54 over at most 65,536 lines, so refusal 13 applies
+-- to no line.
 use mathlib.Core.Path.{_≡_, refl, sym, _∙_, ap, subst}
 use mathlib.Core.Bool.{Bool, true, false, cond, _&&_, _||_}
 use mathlib.Core.List.{List, [], _∷_, _++_}

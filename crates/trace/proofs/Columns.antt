@@ -169,7 +169,8 @@ module _ (t : List Frame) (s : ℕ) (q : ℕ → Bool) (pick : ℕ → ℕ → L
 
 -- ── column 4 ──
 
--- the costs of a plan that stand in row s: those directly in the body, where that is its row, and those of the invocations made from s
+-- the costs of a plan that stand in row s: those directly in the body, where that is its row, and those of the
+-- invocations made from s
 row-costs : (s : ℕ) (b : Body) (n r : ℕ) → sumWhere (λ x. eqb (x .row) s) (costs (plan n r b)) ≡ cond (eqb r s) (localOf b) 0 + madeSum localOf s b
 row-costs s done n r = omega (arith, cond-same (eqb r s))
 row-costs s (leaf l b) n r = omega (arith, where-leaf (λ x. eqb (x .row) s) l n r b, cond-add (eqb r s) (leafWork l) (localOf b), row-costs s b (suc n) r)

@@ -1,4 +1,5 @@
--- The definitions of the shape, read another way: an invocation contains the lines from its body's first to its return, and it has one return.
+-- The definitions of the shape, read another way: an invocation contains the lines from its body's first to its
+-- return, and it has one return.
 use mathlib.Core.Path.{_≡_, refl, sym, _∙_, ap, subst}
 use mathlib.Core.Logic.{inl, inr, _↔_}
 use mathlib.Core.List.{List, [], _∷_, _++_}

@@ -1,5 +1,5 @@
--- Levels along lines: which lines an invocation contains, and which two lines are beside each other, by recursion on the lines;
--- and what both say of the lines of a body.
+-- Levels along lines: which lines an invocation contains, and which two lines are beside each other, by recursion on
+-- the lines; and what both say of the lines of a body.
 use mathlib.Core.Path.{_≡_, refl, _∙_, subst, subst₂}
 use mathlib.Core.Logic.{_⊎_, inl, inr}
 use mathlib.Core.Bool.{Bool, true, false}
@@ -14,8 +14,9 @@ use Rattle.line.specs.declared.Frame.the-variants.{Site, Call, Spawn, Sync, Ret
 use Rattle.trace.specs.Tree.{Way, call, spawn, opening, Leaf, spend, sync, lineOf, Body, done, leaf, child, linesOf, size}
 use Rattle.trace.proofs.Basics.{below}
 
--- A walk to the line that stands i lines on, which counts the invocations that open on the way. hit: what the line itself says.
--- pass: whether a sync directly in the invocation of the first line may be passed. out: what comes after that invocation's return.
+-- A walk to the line that stands i lines on, which counts the invocations that open on the way. hit: what the line
+-- itself says. pass: whether a sync directly in the invocation of the first line may be passed. out: what comes after
+-- that invocation's return.
 module _ (hit : Type 0) (pass : Bool) (out : List Frame → ℕ → Type 0) where
   abbrev pub climb : ℕ → List Frame → ℕ → Type 0
   climb k [] i = ⊥
@@ -44,7 +45,8 @@ Near t i = climb (Unit {0}) false never zero t i
 abbrev pub Past : List Frame → ℕ → Type 0
 Past t i = climb ⊥ true Near zero t i
 
--- some spawned invocation contains line i and not line j, its spawner is still open at line j, and no sync directly in the spawner lies between
+-- some spawned invocation contains line i and not line j, its spawner is still open at line j, and no sync directly
+-- in the spawner lies between
 abbrev pub Beside : List Frame → ℕ → ℕ → Type 0
 Beside [] i j = ⊥
 Beside (e ∷ t) zero j = ⊥

@@ -1,4 +1,5 @@
--- Column 5 by the tree is the chain's part in each row; column 4 adds up to the total work, and column 5 to the total span.
+-- Column 5 by the tree is the chain's part in each row; column 4 adds up to the total work, and column 5 to the total
+-- span.
 use mathlib.Core.Path.{_≡_, refl, sym, _∙_, ap, subst}
 use mathlib.Core.Logic.{_⊎_, inl, inr}
 use mathlib.Core.Bool.{Bool, true, false, cond, _&&_, _||_, and-true, and-false}

@@ -1,5 +1,6 @@
 -- Two texts that differ only in places get the same outcome from an engine, unless one is refused with 10. Where both
--- are accepted, either engine gives one answer and rows; so the engines agree, and what the room held makes no difference.
+-- are accepted, either engine gives one answer and rows; so the engines agree, and what the room held makes no
+-- difference.
 use mathlib.Core.Path.{_≡_, refl, sym, _∙_, ap}
 use mathlib.Core.Bool.{Bool}
 use mathlib.Core.List.{List, [], _∷_, _++_}
@@ -94,8 +95,9 @@ room-held s D M e b c r q x y h k i j l = go (verdict s D M (enough e s D M b)) 
     go (accepted t) a = engines-agree s D M e e b c r q x y h k t a (also (accepted t) a) .answers
     go (refused n o) a = h .when-refused n o a .0 ∙ sym (k .when-refused n o (also (refused n o) a) .0)
 
--- LAW: "Places decide refusals 6 and 10 and nothing else": two runs of an engine, on texts that differ only in places, with
--- the same limits and room, neither refused with 10, give the same answer and leave the same scratch, rows and marks
+-- LAW: "Places decide refusals 6 and 10 and nothing else": two runs of an engine, on texts that differ only in
+-- places, with the same limits and room, neither refused with 10, give the same answer and leave the same scratch,
+-- rows and marks
 pub places : (e : Engine) (s z : List ℕ) (D M : ℕ) (before : Lent) (r q : Answer) (x y : Lent)
     → Promise e s D M before r x → Promise e z D M before q y
     → OnlyPlaces s z → ¬ RefusedWith 10 r → ¬ RefusedWith 10 q → (r ≡ q) × (x ≡ y)

@@ -1,4 +1,5 @@
--- Cilkprof's recurrence with the join at a return: with chains for numbers it gives the pick of the body's plan, and on numbers its weight.
+-- Cilkprof's recurrence with the join at a return: with chains for numbers it gives the pick of the body's plan, and
+-- on numbers its weight.
 use mathlib.Core.Path.{_≡_, sym, _∙_, ap}
 use mathlib.Core.Logic.{_⊎_, inl, inr}
 use mathlib.Core.Bool.{Bool, true, false, cond}

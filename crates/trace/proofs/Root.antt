@@ -1,4 +1,5 @@
--- The trace's plan has its cost lines and its parallel pairs; the root's span and chosen chain are what the recurrence gives, and nothing else.
+-- The trace's plan has its cost lines and its parallel pairs; the root's span and chosen chain are what the
+-- recurrence gives, and nothing else.
 use mathlib.Core.Path.{_≡_, refl}
 use mathlib.Core.Logic.{_↔_}
 use mathlib.Core.List.{List, []}

@@ -1,5 +1,5 @@
--- For proofs and engines, not for the reader of document 01: the plan of a body, and Cilkprof's recurrence with chains for numbers.
--- A body is taken with the number n of its first line and the row s of its invocation.
+-- For proofs and engines, not for the reader of document 01: the plan of a body, and Cilkprof's recurrence with
+-- chains for numbers. A body is taken with the number n of its first line and the row s of its invocation.
 use Prim.Native.Nat.{ℕ, suc, _+_}
 use mathlib.Core.Bool.{cond}
 use mathlib.Core.List.{List, [], _∷_, _++_}
@@ -33,7 +33,8 @@ abbrev mutual
 abbrev pub plan : ℕ → ℕ → Body → Plan
 plan n s b = seq (block n s b) (after n s b)
 
--- the chains of an open invocation: p up to the last join, l the longest child's since, c the continuation's since the spawn of l
+-- the chains of an open invocation: p up to the last join, l the longest child's since, c the continuation's since
+-- the spawn of l
 pub record Chains : Type 0 where
   pub p : List CostLine
   pub l : List CostLine
@@ -69,7 +70,8 @@ abbrev pub childChains : Way → (Chains → Chains) → Chains → Chains
 childChains call f k = called (ended f) k
 childChains spawn f k = spawned (ended f) k
 
--- what the items of a body make of the chains that its invocation has come to; the join at its return is left to the caller
+-- what the items of a body make of the chains that its invocation has come to; the join at its return is left to the
+-- caller
 abbrev pub run : ℕ → ℕ → Body → Chains → Chains
 run n s done k = k
 run n s (leaf l r) k = run (suc n) s r (leafChains n s l k)

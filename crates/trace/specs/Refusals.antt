@@ -1,4 +1,5 @@
--- The refusals, each under its number, and the verdict on a text. Those of a line are asked with the lines before it, which have none.
+-- The refusals, each under its number, and the verdict on a text. Those of a line are asked with the lines before it,
+-- which have none.
 use Prim.Native.Nat.{ℕ, zero, suc, _/_, _%_}
 use mathlib.Core.Bool.{Bool, true, false, not, cond, _&&_, _||_}
 use mathlib.Core.List.{List, [], _∷_, _++_}
@@ -85,8 +86,8 @@ tooDeep D before f = ifMakes (λ s. ltb D (suc (length (openNow before)))) false
 abbrev pub wide : ℕ → Bool
 wide n = leb 18446744073709551616 n
 
--- Some row from 0 to s has one of the numbers calls, work and local beyond 64 bits. A span is never above the work beside it, nor an
--- on-span number above the local beside it (proofs/AtMost), so these two need no test of their own.
+-- Some row from 0 to s has one of the numbers calls, work and local beyond 64 bits. A span is never above the work
+-- beside it, nor an on-span number above the local beside it (proofs/AtMost), so these two need no test of their own.
 abbrev pub wideRows : List Frame → ℕ → Bool
 wideRows t zero = wide (calls t 0) || wide (work t 0) || wide (local t 0)
 wideRows t (suc s) = (wide (calls t (suc s)) || wide (work t (suc s)) || wide (local t (suc s))) || wideRows t s
@@ -112,7 +113,8 @@ pub data Verdict : Type 0 where
   refused : ℕ → ℕ → Verdict
 
 -- A line as it reads, with the lines before it; on: what comes of the lines behind it, where it has no fault.
--- 5: "a wrong character in the line" and 6: "unknown kind, unused field not zero, or a value outside the table" are how it reads.
+-- 5: "a wrong character in the line" and 6: "unknown kind, unused field not zero, or a value outside the table" are
+-- how it reads.
 abbrev pub judged : ℕ → ℕ → List Frame → Read → (Frame → Verdict) → Verdict
 judged D M before (Refused n k) on = refused n k
 judged D M before (Line k f) on = cond (eqb (fault D M before f) 0) (on f) (refused (fault D M before f) k)
@@ -130,7 +132,8 @@ readsFrom s n (suc count) = readAt s n ∷ readsFrom s (suc n) count
 abbrev pub reads : List ℕ → List Read
 reads s = readsFrom s 0 (lineCount s)
 
--- "Checks 1 to 4 run in that order. Then the first faulty line decides". 4: "any lent slice shorter than stated"; room: none is
+-- "Checks 1 to 4 run in that order. Then the first faulty line decides". 4: "any lent slice shorter than stated";
+-- room: none is
 abbrev pub verdict : List ℕ → ℕ → ℕ → Bool → Verdict
 verdict s D M room =
     cond (outOfRange D M) (refused 1 0)

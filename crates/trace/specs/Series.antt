@@ -1,4 +1,5 @@
--- Series, chain, weight, span, and the chosen chain, over line numbers: those of `chain/specs/Over`, by the rule of these traces.
+-- Series, chain, weight, span, and the chosen chain, over line numbers: those of `chain/specs/Over`, by the rule of
+-- these traces.
 use Prim.Native.Nat.{ℕ, zero, suc}
 use mathlib.Core.List.{List, [], _∷_}
 use Rattle.line.specs.declared.Frame.{Frame}
@@ -35,8 +36,8 @@ rule t F = record { Cost = CostIn t F; value = valueAt t; Parallel = Parallel t 
 abbrev pub Series : List Frame → ℕ → ℕ → Type 0
 Series t i j = Over.Series (Parallel t) i j
 
--- "A chain is a set of cost lines, each two of them in series; the empty set is one." The set is its ascending list of line numbers,
--- and all of its lines are inside invocation F.
+-- "A chain is a set of cost lines, each two of them in series; the empty set is one." The set is its ascending list
+-- of line numbers, and all of its lines are inside invocation F.
 abbrev pub Chain : List Frame → ℕ → List ℕ → Type 0
 Chain t F c = Over.Chain (rule t F) c
 

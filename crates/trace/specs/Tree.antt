@@ -1,4 +1,5 @@
--- For proofs and engines, not for the reader of document 01: the body of an invocation as a tree, its lines, and its numbers by the tree.
+-- For proofs and engines, not for the reader of document 01: the body of an invocation as a tree, its lines, and its
+-- numbers by the tree.
 use Prim.Native.Nat.{ℕ, zero, suc, _+_, _≤_}
 use mathlib.Core.Path.{_≡_}
 use mathlib.Core.Bool.{true, false, cond}
@@ -91,7 +92,8 @@ localOf (child w s g r) = localOf r
 abbrev pub larger : ℕ → ℕ → ℕ
 larger l c = cond (ltb l c) c l
 
--- Cilkprof's recurrence, with the join at a return. p: the span up to the last join; l: the longest child's since; c: the continuation since the spawn of l
+-- Cilkprof's recurrence, with the join at a return. p: the span up to the last join; l: the longest child's since; c:
+-- the continuation since the spawn of l
 abbrev pub spanFrom : ℕ → ℕ → ℕ → Body → ℕ
 spanFrom p l c done = p + larger l c
 spanFrom p l c (leaf (spend v) r) = spanFrom p l (c + v) r

@@ -1,4 +1,5 @@
--- A cost, a call and a spawn by what their line says; and a child's body, which a reader may read where it may read the item.
+-- A cost, a call and a spawn by what their line says; and a child's body, which a reader may read where it may read
+-- the item.
 use mathlib.Core.Path.{_≡_, refl, ap, _∙_, sym, subst}
 use mathlib.Core.Bool.{Bool, true, false}
 use mathlib.Core.List.{List}

@@ -1,5 +1,5 @@
--- For proofs and engines, not for the reader of document 01: the numbers of an open invocation, what its chains weigh, and
--- what each item makes of them.
+-- For proofs and engines, not for the reader of document 01: the numbers of an open invocation, what its chains
+-- weigh, and what each item makes of them.
 use Prim.Native.Nat.{ℕ, _+_}
 use mathlib.Core.Bool.{Bool, cond}
 use lib.Dec.{ltb}

@@ -14,8 +14,8 @@ use Rattle.walk.specs.Numbers.{numbers}
 use Rattle.walk.specs.Gain.{gain}
 use Rattle.walk.specs.Item.{itemSize, itemWork, itemGain, itemChains}
 
--- The lines of s from line f .at on are those of a body. Its sites are at most m, at most deep invocations open inside one another, and
--- whatever number reading it comes to, from the invocation's numbers f and the rows, fits.
+-- The lines of s from line f .at on are those of a body. Its sites are at most m, at most deep invocations open
+-- inside one another, and whatever number reading it comes to, from the invocation's numbers f and the rows, fits.
 pub record Ready (s : List ℕ) (row m deep : ℕ) (f : Open) (rows : List ℕ) : Type 0 where
   pub body : Body
   pub stands : Stands s (f .at) (linesOf body)

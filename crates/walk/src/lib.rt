@@ -14,8 +14,8 @@ ghost use Rattle.walk.specs.Weight.{weightAt};
 ghost use Rattle.walk.specs.Gain.{ColumnFits, ReturnFits, one, oneCall, credited, returned, Grown};
 ghost use Rattle.walk.specs.Numbers.{numbers, spentN, laterHeavier, joinedN, calledN, childLonger, spawnedN};
 
-// An open invocation: its next line, the work so far, and what its three chains weigh: up to the last join, the longest child's since, and
-// that since the spawn of this child.
+// An open invocation: its next line, the work so far, and what its three chains weigh: up to the last join, the
+// longest child's since, and that since the spawn of this child.
 pub struct Open {
     pub at: usize,
     pub work: u64,

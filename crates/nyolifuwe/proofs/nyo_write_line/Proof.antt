@@ -1,4 +1,5 @@
--- `nyolifuwe::nyo_write_line` meets its contract: each answer is what is decided by the tests that led to it. Assumes nothing.
+-- `nyolifuwe::nyo_write_line` meets its contract: each answer is what is decided by the tests that led to it. Assumes
+-- nothing.
 use Prim.Native.Nat.{_≤_}
 use mathlib.Core.Path.{_≡_, ap, _∙_, sym}
 use native.Mathlib.Omega.{arith}

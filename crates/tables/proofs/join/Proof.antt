@@ -1,4 +1,5 @@
--- `tables::join` meets its contract: the block of the chain that wins is added to the prefix's, and that of the loser cleared.
+-- `tables::join` meets its contract: the block of the chain that wins is added to the prefix's, and that of the loser
+-- cleared.
 use Prim.Native.Nat.{_+_, _*_, _^_, _<_}
 use native.Mathlib.Omega.{arith}
 use borrow.Author.Needs.{needs}

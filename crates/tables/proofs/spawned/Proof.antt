@@ -1,4 +1,5 @@
--- `tables::spawned` meets its contract: the child's block is that of the longest child where it is longer, else it is cleared.
+-- `tables::spawned` meets its contract: the child's block is that of the longest child where it is longer, else it is
+-- cleared.
 use Prim.Native.Nat.{_+_, _*_, _^_, _<_}
 use native.Mathlib.Omega.{arith}
 use borrow.Author.Needs.{needs}
