@@ -13,9 +13,9 @@ pub data Decision : Type 0 where
   write : List ℕ → Decision
   refuse : ℕ → ℕ → Decision
 
--- a text as it is, and 4 where the room is shorter
-abbrev pub fitting : List ℕ → ℕ → Decision
-fitting s room = cond (ltb room (length s)) (refuse 4 0) (write s)
+-- a text as it is, and the refusal with the number that a writer has for it, line 0, where the room is shorter
+abbrev pub fitting : ℕ → List ℕ → ℕ → Decision
+fitting number s room = cond (ltb room (length s)) (refuse number 0) (write s)
 
 -- "The writer answers how many characters it wrote"; "Refused: a number and a line."
 abbrev pub answer : Decision → Wrote

@@ -58,7 +58,7 @@ fn copy(to: &mut [u8], from: &[u8])
 
 // Writes a text to the front of the output, or refuses: 4 for output too short.
 pub fn put_text(text: &[u8], out: &mut [u8]) -> Wrote
-    ensures { λ r. ⌜ Writes (fitting (now (text .entry)) (length (now (out .entry)))) r (now (out .entry)) (now (out .exit)) ⌝ }
+    ensures { λ r. ⌜ Writes (fitting 4 (now (text .entry)) (length (now (out .entry)))) r (now (out .entry)) (now (out .exit)) ⌝ }
 {
     let n = text.len();
     if out.len() < n {

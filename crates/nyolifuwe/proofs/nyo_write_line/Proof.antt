@@ -72,7 +72,7 @@ returns-3 c =
     let is : s ≡ writeChars f = c .before .before .before .before .before .before .write-line .ensures .1 in
     let fit : length s ≤ length (a .out .now) = omega (arith, ap length is, chars-length f) in
     given (writeChars f) (a .out .now) _ decided
-    (c .before .before .put-text .ensures .left ∙ ap (λ (d : Decision). leave d (a .out .now)) (fitting-text s (length (a .out .now)) fit) ∙ ap (λ (l : List ℕ). l ++ drop (length l) (a .out .now)) is)
+    (c .before .before .put-text .ensures .left ∙ ap (λ (d : Decision). leave d (a .out .now)) (fitting-text 4 s (length (a .out .now)) fit) ∙ ap (λ (l : List ℕ). l ++ drop (length l) (a .out .now)) is)
 
 returns-4 : tie.Need-returns-4
 returns-4 c =
