@@ -1,4 +1,6 @@
 // The report: a line for each row, and the line of a refusal.
+pub mod lay;
+
 use line::Wrote;
 use trace::COLUMNS;
 ghost use mathlib.Core.Path.{_≡_};
@@ -45,7 +47,7 @@ fn report_line(row: u16, numbers: &[u64]) -> ReportLine
 }
 
 // Copies all of `from` over `to`, which is as long.
-fn copy(to: &mut [u8], from: &[u8])
+pub(crate) fn copy(to: &mut [u8], from: &[u8])
     requires { ⌜ length (now to) ≡ length (now from) ⌝ }
     ensures { λ _. ⌜ now (to .exit) ≡ now (from .entry) ⌝ }
 {
