@@ -1,0 +1,7 @@
+pub mod Names
+pub mod Apart
+pub mod Spelled
+pub mod Good
+pub mod Decisions
+pub mod RoundTrip
+mod Examples
