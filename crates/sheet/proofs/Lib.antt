@@ -1,4 +1,5 @@
 pub mod Names
+pub mod Clear
 pub mod Apart
 pub mod Spelled
 pub mod Good

@@ -2,50 +2,29 @@
 -- Assumes nothing.
 use Prim.{Unit, tt}
 use Prim.Native.Nat.{ℕ, zero, suc, _+_, _*_, _^_, _≤_, _<_}
-use mathlib.Core.Bool.{Bool, true, false, cond, _&&_, not}
+use mathlib.Core.Bool.{Bool, true, cond}
 use mathlib.Core.List.{List, [], _∷_, _++_, append-assoc, append-nil, map}
 use mathlib.Core.Path.{_≡_, refl, ap, _∙_, sym, subst}
 use native.Mathlib.Nat.{add-zero, zero-add}
 use native.Mathlib.Numerals.{add-one}
 use native.Mathlib.Omega.{arith}
 use native.Mathlib.Decide.{decLt}
-use borrow.Author.Tests.{eq-eqb, ne-eqb, not-true}
+use borrow.Author.Tests.{eq-eqb}
 use lib.Dec.{eqb}
 use lib.ListN.{length, take, drop, getD, length-append, length-take, List·getD-eq-default}
 use lib.Seq.{take-at, drop-at, take-add, drop-drop, getD-take, getD-drop}
-use Rattle.digits.specs.Decimal.{isFigure, allFigures, isNumber, number, decimal}
-use Rattle.digits.proofs.Laws.{and-left, and-right}
-use Rattle.digits.proofs.Figures.{figure-bounds, proper-figures, decimal-proper, decimal-number, decimal-is-number, decimal-some}
+use Rattle.digits.specs.Decimal.{isNumber, number, decimal}
+use Rattle.digits.proofs.Figures.{proper-figures, decimal-proper, decimal-number, decimal-is-number, decimal-some}
 use Rattle.trace.specs.Rows.{columns}
 use Rattle.report.specs.Rows.{numbersOf}
 use Rattle.report.specs.Report.{first}
 use Rattle.report.proofs.Lines.{row-length}
 use Rattle.sheet.specs.Text.{comma, quote, lineEnds, rowName, columnNames, names, rowFields, rowRecords, sheetRecords}
 use Rattle.sheet.specs.Found.{Found, none, found, then}
-use Rattle.sheet.specs.Grammar.{before, endsBare, endsQuoted, closing, quoted, bare, field, separator, lineEnd, same, name, nextNames, numeral, also, noMore, nextNumerals, header, recordOf, sheet, bad, with, follow, records, afterHeader, sheetOf}
+use Rattle.sheet.specs.Grammar.{closing, quoted, bare, field, separator, lineEnd, same, name, nextNames, numeral, also, noMore, nextNumerals, header, recordOf, sheet, bad, with, follow, records, afterHeader, sheetOf}
 use Rattle.sheet.specs.Spelling.{Field, asIs, inQuotes, Fields, nil, next, Record, begin, Spells, over, lacks, ends}
+use Rattle.sheet.proofs.Clear.{Clear, Stop, end, at, before-stop, before-quote, figures-clear, AllClear, names-clear}
 use Rattle.sheet.proofs.Apart.{one-record, at-end, ended-no}
-
--- characters that end no field, bare or in quotes
-abbrev Clear : List ℕ → Type 0
-Clear [] = Unit
-Clear (c ∷ t) = (endsBare c ≡ false) × (endsQuoted c ≡ false) × Clear t
-
--- what may stand behind a bare field: nothing, a comma or a CR
-data Stop : List ℕ → Type 0 where
-  end : Stop []
-  at : (c : ℕ) (u : List ℕ) → endsBare c ≡ true → endsQuoted c ≡ false → Stop (c ∷ u)
-
-before-stop : (t u : List ℕ) → Clear t → Stop u → before endsBare (t ++ u) ≡ length t
-before-stop [] [] k end = refl
-before-stop [] (c ∷ u) k (at _ _ e q) = ap (λ (b : Bool). cond b 0 (suc (before endsBare u))) e
-before-stop (d ∷ t) u k s =
-    ap (λ (b : Bool). cond b 0 (suc (before endsBare (t ++ u)))) (k .0) ∙ ap suc (before-stop t u (k .2) s)
-
-before-quote : (t u : List ℕ) → Clear t → before endsQuoted (t ++ quote ∷ u) ≡ length t
-before-quote [] u k = refl
-before-quote (d ∷ t) u k =
-    ap (λ (b : Bool). cond b 0 (suc (before endsQuoted (t ++ quote ∷ u)))) (k .1) ∙ ap suc (before-quote t u (k .2))
 
 bare-is : (t u : List ℕ) → Clear t → Stop u → bare (t ++ u) ≡ found t u
 bare-is t u k s =
@@ -80,16 +59,6 @@ name-spelled {t} u f k s =
     ap (λ (y : Found (List ℕ)). then y (λ x w. cond (same x t) (found tt w) none)) (field-spelled u f k s)
     ∙ ap (λ (b : Bool). cond b (found tt u) none) (same-self t)
 
--- figures end no field
-figures-clear : (t : List ℕ) → allFigures t ≡ true → Clear t
-figures-clear [] a = tt
-figures-clear (c ∷ t) a =
-    let b = figure-bounds c (and-left (isFigure c) (allFigures t) a) in (
-      simp (ne-eqb c 44 (λ z. omega arith), ne-eqb c 13 (λ z. omega arith)),
-      ne-eqb c 34 (λ z. omega arith),
-      figures-clear t (and-right (isFigure c) (allFigures t) a),
-    )
-
 numeral-spelled : {x : ℕ} {f : List ℕ} (u : List ℕ) → x < 2 ^ 64 → Field (decimal x) f → Stop u → numeral (f ++ u) ≡ found x u
 numeral-spelled {x} u h f s =
     ap (λ (y : Found (List ℕ)). then y (λ t w. cond (isNumber t) (found (number t) w) none)) (field-spelled u f (figures-clear (decimal x) (proper-figures (decimal x) (decimal-proper x h))) s)
@@ -113,11 +82,6 @@ numerals-spelled (x ∷ xs) u w h (next {f = f} {s = s} g r) k e =
     ∙ ap (λ (y : Found ℕ). then y (λ v z. also v (nextNumerals (length xs) z))) (numeral-spelled (s ++ u) (h 0) g (fields-stop u r k))
     ∙ ap (also x) (numerals-spelled xs u w (λ i. h (suc i)) r k e)
 
--- every name is clear
-abbrev AllClear : List (List ℕ) → Type 0
-AllClear [] = Unit
-AllClear (t ∷ ts) = Clear t × AllClear ts
-
 names-spelled : (ns : List (List ℕ)) {s : List ℕ} (u w : List ℕ) → AllClear ns → Fields ns s → Stop u → lineEnd u ≡ found tt w → nextNames ns (s ++ u) ≡ found tt w
 unfolding separator
 names-spelled [] u w c nil k e = e
@@ -125,33 +89,6 @@ names-spelled (n ∷ ns) u w c (next {f = f} {s = s} g r) k e =
     ap (λ (l : List ℕ). then (name n l) (λ _ y. nextNames ns y)) (append-assoc f s u)
     ∙ ap (λ (y : Found Unit). then y (λ _ z. nextNames ns z)) (name-spelled (s ++ u) g (c .0) (fields-stop u r k))
     ∙ names-spelled ns u w (c .1) r k e
-
--- which is seen by computing
-clear : List ℕ → Bool
-clear [] = true
-clear (c ∷ t) = not (endsBare c) && (not (endsQuoted c) && clear t)
-
-clear-is : (t : List ℕ) → clear t ≡ true → Clear t
-unfolding clear
-clear-is [] e = tt
-clear-is (c ∷ t) e =
-    let a = not (endsBare c) in
-    let b = not (endsQuoted c) in
-    let f = and-right a (b && clear t) e in
-    (not-true (endsBare c) (and-left a (b && clear t) e), not-true (endsQuoted c) (and-left b (clear t) f), clear-is t (and-right b (clear t) f))
-
-all-clear : List (List ℕ) → Bool
-all-clear [] = true
-all-clear (t ∷ ts) = clear t && all-clear ts
-
-all-clear-is : (ts : List (List ℕ)) → all-clear ts ≡ true → AllClear ts
-unfolding all-clear
-all-clear-is [] e = tt
-all-clear-is (t ∷ ts) e = (clear-is t (and-left (clear t) (all-clear ts) e), all-clear-is ts (and-right (clear t) (all-clear ts) e))
-
-names-clear : all-clear names ≡ true
-unfolding all-clear clear
-names-clear = refl
 
 -- the first of some records, and the others: its line end may lack only where it is the last
 record Cut (ts : List (List ℕ)) (rs : List (List (List ℕ))) (s : List ℕ) : Type 0 where
@@ -173,7 +110,7 @@ cut ts rs (ends {s = s} {u = u} r q) = record { front = s; mark = lineEnds ++ u;
 header-spelled : {s : List ℕ} (u w : List ℕ) → Record names s → Stop u → lineEnd u ≡ found tt w → header (s ++ u) ≡ found tt w
 unfolding header
 header-spelled u w (begin {f = f} {s = s} g r) k e =
-    let c = all-clear-is names names-clear in
+    let c = names-clear in
     ap (λ (l : List ℕ). then (name rowName l) (λ _ x. nextNames columnNames x)) (append-assoc f s u)
     ∙ ap (λ (y : Found Unit). then y (λ _ x. nextNames columnNames x)) (name-spelled (s ++ u) g (c .0) (fields-stop u r k))
     ∙ names-spelled columnNames u w (c .1) r k e
