@@ -10,7 +10,7 @@ use lib.Dec.{eqb}
 use lib.ListN.{length, length-append}
 use Rattle.trace.specs.Rows.{columns}
 use Rattle.sheet.specs.Found.{Found, none, found, then}
-use Rattle.sheet.specs.Grammar.{lineEnd, numeral, nextNumeral, also, noMore, nextNumerals, recordOf, Sheet, sheet, bad, with, ended, follow, records}
+use Rattle.sheet.specs.Grammar.{lineEnd, numeral, nextNumeral, also, noMore, nextNumerals, recordOf, Sheet, sheet, bad, with, ended, follow, records, header, afterHeader, sheetOf}
 
 -- where the text is at its end, and where it is not
 pub ended-no : (s : List ℕ) (a b : Sheet) → 0 < length s → ended s a b ≡ b
@@ -173,3 +173,28 @@ records-some zero row w n numbers h e = absurd (let f = sym (full row w h) ∙ e
 records-some (suc m) row w n numbers h e =
     let s = split-of m row w n numbers (sym (one-record m row w h) ∙ e) in
     omega (arith, records-count m (suc row) (s .behind) n (s .others) (s .there) .least)
+
+-- the number of a record that is not good is at most 257
+bad-with : (vs : List ℕ) (x : Sheet) (k : ℕ) → with vs x ≡ bad k → x ≡ bad k
+bad-with vs (sheet n ws) k e = absurd (let z : _≡_ {A = ℕ} 0 1 = cc in omega arith)
+bad-with vs (bad j) k e = e
+
+bad-records : (left r : ℕ) (s : List ℕ) (k : ℕ) → records left r s ≡ bad k → k ≤ suc (r + left)
+unfolding records
+bad-records zero r [] k e = absurd (let z : _≡_ {A = ℕ} 0 1 = cc in omega arith)
+bad-records zero r (c ∷ s) k e = let q : suc r ≡ k = cc in omega arith
+bad-records (suc m) r [] k e = absurd (let z : _≡_ {A = ℕ} 0 1 = cc in omega arith)
+bad-records (suc m) r (c ∷ s) k e = go (recordOf r (c ∷ s)) e (λ u. bad-records m (suc r) u k)
+  where
+    go : (y : Found (List ℕ)) → follow y (bad (suc r)) (λ u. records m (suc r) u) ≡ bad k → ((u : List ℕ) → records m (suc r) u ≡ bad k → k ≤ suc (suc r + m)) → k ≤ suc (r + suc m)
+    go none f g = let q : suc r ≡ k = cc in omega arith
+    go (found vs u) f g = omega (arith, g u (bad-with vs (records m (suc r) u) k f))
+
+pub bad-few : (s : List ℕ) (k : ℕ) → sheetOf s ≡ bad k → k ≤ 257
+unfolding sheetOf
+bad-few s k e = go (header s) e
+  where
+    go : (y : Found Unit) → afterHeader y ≡ bad k → k ≤ 257
+    go none f = let q : 0 ≡ k = cc in omega arith
+    go (found tt []) f = let q : 1 ≡ k = cc in omega arith
+    go (found tt (c ∷ u)) f = omega (arith, bad-records 256 0 (c ∷ u) k f)
