@@ -154,7 +154,7 @@ first-up zero = refl
 first-up (suc n) = ap (λ (l : List ℕ). l ++ n ∷ []) (first-up n) ∙ ap (λ (k : ℕ). up 0 n ++ k ∷ []) (sym (zero-add n)) ∙ sym (up-last 0 n)
 
 module _ (rows : List ℕ) (small : Small rows) where
-  row-small : (r : ℕ) → Small (numbersOf rows r)
+  pub row-small : (r : ℕ) → Small (numbersOf rows r)
   row-small r i = go (decLt i columns)
     where
       go : Dec (i < columns) → getD (numbersOf rows r) i 0 < 2 ^ 64

@@ -21,6 +21,8 @@ use Rattle.sheetout.specs.Pieces.{headerText, numberText, recordText, ro
 use Rattle.sheet.specs.Text.{codes, rowName, columnNames, names, rowFields, rowRecords, follows, lineEnds, sheetText}
 use Rattle.sheet.specs.Text.{recordText as fieldsText}
 use Rattle.sheet.proofs.Names.{names-joined}
+use Rattle.sheet.proofs.Spelled.{Small, row-small, Given}
+use Rattle.report.proofs.Lines.{row-length}
 
 module _ (f : ℕ → List ℕ) where
   pub flatMap-none : flatMap f [] ≡ []
@@ -161,3 +163,20 @@ pub text-laid : (rows : List ℕ) (count : ℕ) (before : List ℕ) {e f : ℕ} 
 text-laid rows count before h a b =
     lays-as 0 (sym (text-is rows count)) (lays-next 0 headerText (flatMap (rowText rows) (first (count + 1))) before (omega (arith, header-length, text-length rows count)) a b) .left
     ∙ laid-front (sheetText rows count) before
+
+-- room for 127 characters a row, besides the header's 34, is always enough: six fields of at most 20 figures, each with what ends it, and a LF
+numbers-few : (xs : List ℕ) → Small xs → length (flatMap numberText xs) ≤ 21 * length xs
+unfolding flatMap
+numbers-few [] h = omega arith
+numbers-few (x ∷ xs) h = omega (arith, length-append (numberText x) (flatMap numberText xs), number-size x, decimal-length x, decimal-few x (h 0), numbers-few xs (λ i. h (suc i)))
+
+records-few : (rows : List ℕ) (n : ℕ) → Small rows → n ≤ 256 → columns * n ≤ length rows → length (flatMap (rowText rows) (first n)) ≤ (22 + 21 * columns) * n
+records-few rows zero h b e = omega (arith, ap length (flatMap-none (rowText rows)))
+records-few rows (suc n) h b e =
+    let numbers = numbersOf rows n in
+    let last = numbers-few numbers (row-small rows h n) in
+    omega
+    (arith, ap length (flatMap-last (rowText rows) (first n) n), length-append (flatMap (rowText rows) (first n)) (rowText rows n), record-size-is n numbers, decimal-length n, decimal-few n (omega arith), last, row-length rows n (omega arith), records-few rows n h (omega arith) (omega arith))
+
+pub text-few : (rows : List ℕ) (count : ℕ) → Given rows count → length (sheetText rows count) ≤ 34 + (22 + 21 * columns) * (count + 1)
+text-few rows count g = omega (arith, text-length rows count, records-few rows (count + 1) (g .small) (omega (arith, g .few)) (g .enough))
