@@ -1,7 +1,9 @@
 #!/bin/sh
 # sheet-consumers.sh: the comma-separated text of the example traces in the hands of other programs: read by Python's csv, by
-# sqlite3's `.import --csv` and by miller, and written back by Python's csv in each of its quoting modes and read again. Run by
-# hand or at night; it says what it skipped because the program is not here. The last line is `N passed, 0 failed, M skipped`.
+# sqlite3's `.import --csv` and by miller, and written back by Python's csv in each of its quoting modes and by LibreOffice, and
+# read again. What LibreOffice on Linux writes is refused, and read once it has its CRs, where all columns were opened as text.
+# Run by hand or at night; it says what it skipped because the program is not here. The last line is
+# `N passed, 0 failed, M skipped`.
 set -eu
 cd "$(dirname "$0")/.."
 out=target/sheets lib=${NYO_LIB_DIR:-target/native}
@@ -57,6 +59,17 @@ PYTHON
     if have mlr "$name"; then
         mlr --csv --ofs , cat "$csv" | tr -d '\r' >"$out/$name.miller"
         held "miller" "$out/$name.miller" "$out/$name.plain"
+    fi
+
+    if have soffice "$name"; then
+        as_text=44,34,76,1,1/2/2/2/3/2/4/2/5/2/6/2 filter='Text - txt - csv (StarCalc)'
+        HOME=$PWD/$out soffice --headless --infilter="$filter:$as_text" --convert-to "csv:$filter:44,34,76,1" \
+            --outdir "$out/libreoffice" "$csv" >"$out/log" 2>&1
+        "$out/sheet" read 31 "$out/libreoffice/$name.csv" >"$out/$name.again" || :
+        echo ff0f00000000 >"$out/refused"
+        held "LibreOffice, as it writes" "$out/$name.again" "$out/refused"
+        sed 's/$/\r/' "$out/libreoffice/$name.csv" | "$out/sheet" read 31 >"$out/$name.again" || :
+        held "LibreOffice, with CRs" "$out/$name.again" "$out/$name.report"
     fi
 done
 echo "$passed passed, $failed failed, $skipped skipped"

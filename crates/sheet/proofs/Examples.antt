@@ -73,7 +73,7 @@ texts =
     ∷ case (under "0,1,2,3,4,\"\"\r\n") 5 (refuse 15 1)
     ∷ case (under "0,1,2,3,4,18446744073709551615\r\n") 5 (fill 0 (1 ∷ 2 ∷ 3 ∷ 4 ∷ 18446744073709551615 ∷ []))
     ∷ case (under "0,1,2,3,4,18446744073709551616\r\n") 5 (refuse 15 1)
-    ∷ case (under "0,1,2,3,4,1.84E+19\r\n") 5 (refuse 15 1)
+    ∷ case (under "0,1,2,3,4,1.84E+019\r\n") 5 (refuse 15 1)
     ∷ case (under "0,1,2,3,4,1\"5\r\n") 5 (refuse 15 1)
     ∷ case (under "0,1,2,3,4,\"1\"\"5\"\r\n") 5 (refuse 15 1)
     ∷ case (under "0,1,2,3,4,\"1\"5\r\n") 5 (refuse 15 1)
