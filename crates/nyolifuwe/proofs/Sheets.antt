@@ -48,7 +48,8 @@ csv-at-0 rows number room e =
     let z = ap lineOf e ∙ go (ltb 255 number) (ltb (length rows) (columns * (number + 1))) (ltb room (length (sheetText rows number))) in
     omega arith
   where
-    go : (a b c : Bool) → lineOf (answer (cond a (refuse 1 0) (cond b (refuse 4 0) (cond c (refuse 16 0) (write (sheetText rows number)))))) ≡ 0
+    go : (a b c : Bool)
+        → lineOf (answer (cond a (refuse 1 0) (cond b (refuse 4 0) (cond c (refuse 16 0) (write (sheetText rows number)))))) ≡ 0
     go true b c = refl
     go false true c = refl
     go false false true = refl
@@ -64,11 +65,13 @@ csv-untaken s rows count few =
       count-left = sym (ap (λ (t : Taken). leave (sites t) count) e);
     }
 
-takes : (t : Taken) {r : Counted} {given : ℕ} {rows rows′ count count′ : List ℕ} → Reads t r rows rows′ → given ≡ toldSites r → count′ ≡ notedSites r count → Takes t given rows rows′ count count′
+takes : (t : Taken) {r : Counted} {given : ℕ} {rows rows′ count count′ : List ℕ} → Reads t r rows rows′ → given ≡ toldSites r
+    → count′ ≡ notedSites r count → Takes t given rows rows′ count count′
 takes (fill n xs) {count = count} w g k = record { answered = g ∙ ap toldSites (w .answered); rows-left = w .left; count-left = k ∙ ap (λ (r : Counted). notedSites r count) (w .answered) }
 takes (turn n l) {count = count} w g k = record { answered = g ∙ ap toldSites (w .answered); rows-left = w .left; count-left = k ∙ ap (λ (r : Counted). notedSites r count) (w .answered) }
 
-pub csv-taken : (s rows rows′ count count′ : List ℕ) {r : Counted} {given : ℕ} → 1 ≤ length count → Reads (reading s (length rows)) r rows rows′ → given ≡ toldSites r → count′ ≡ notedSites r count
+pub csv-taken : (s rows rows′ count count′ : List ℕ) {r : Counted} {given : ℕ} → 1 ≤ length count
+    → Reads (reading s (length rows)) r rows rows′ → given ≡ toldSites r → count′ ≡ notedSites r count
     → Takes (csvRead s (length rows) (length count)) given rows rows′ count count′
 csv-taken s rows rows′ count count′ {given = given} some w g k =
     let e : csvRead s (length rows) (length count) ≡ reading s (length rows) = simp (le-ltb _ _ some) in
@@ -84,15 +87,19 @@ csv-record s room {r} e = go (sheetOf s) refl
     room-enough false n xs = refl
 
     go : (x : Sheet) → sheetOf s ≡ x → recordIn r ≤ 65536
-    go (sheet n xs) h = omega (arith, ap recordIn e, ap (λ (y : Sheet). recordIn (tellOf (taken y room))) h, room-enough (ltb room (columns * n)) (n - 1) xs)
+    go (sheet n xs) h =
+        omega
+        (arith, ap recordIn e, ap (λ (y : Sheet). recordIn (tellOf (taken y room))) h, room-enough (ltb room (columns * n)) (n - 1) xs)
     go (bad k) h = omega (arith, ap recordIn e, ap (λ (y : Sheet). recordIn (tellOf (taken y room))) h, bad-few s k h)
 
 -- LAW: a decision of the writer leaves one code and one outcome
-pub one-telling : {d : Decision} {given given′ : ℕ} {text text′ text″ written written′ written″ : List ℕ} → Tells d given text text′ written written′ → Tells d given′ text text″ written written″
+pub one-telling : {d : Decision} {given given′ : ℕ} {text text′ text″ written written′ written″ : List ℕ}
+    → Tells d given text text′ written written′ → Tells d given′ text text″ written written″
     → (given ≡ given′) × (text′ ≡ text″) × (written′ ≡ written″)
 one-telling a b = (a .answered ∙ sym (b .answered), a .text-left ∙ sym (b .text-left), a .count-left ∙ sym (b .count-left))
 
 -- LAW: so does one of the reader
-pub one-taking : {t : Taken} {given given′ : ℕ} {rows rows′ rows″ count count′ count″ : List ℕ} → Takes t given rows rows′ count count′ → Takes t given′ rows rows″ count count″
+pub one-taking : {t : Taken} {given given′ : ℕ} {rows rows′ rows″ count count′ count″ : List ℕ}
+    → Takes t given rows rows′ count count′ → Takes t given′ rows rows″ count count″
     → (given ≡ given′) × (rows′ ≡ rows″) × (count′ ≡ count″)
 one-taking a b = (a .answered ∙ sym (b .answered), a .rows-left ∙ sym (b .rows-left), a .count-left ∙ sym (b .count-left))

@@ -1,5 +1,5 @@
--- Laws of a piece laid into room: its length, no piece, one piece behind another, one character, a lent part that a piece
--- fills, and the figures of a number. Assumes nothing.
+-- Laws of a piece laid into room: no piece, one piece behind another, one character, a lent part that a piece fills, and the
+-- figures of a number. Assumes nothing.
 use Prim.Native.Nat.{ℕ, _+_, _-_, _≤_, _<_}
 use mathlib.Core.List.{List, [], _∷_, _++_, append-assoc}
 use mathlib.Core.Path.{_≡_, refl, ap, _∙_, sym, subst}
@@ -7,7 +7,7 @@ use native.Mathlib.Nat.{add-sub-cancel-left, add-assoc, add-zero, zero-add}
 use native.Mathlib.Numerals.{add-one}
 use native.Mathlib.Omega.{arith}
 use borrow.Rule.Slice.PartMut.{putMid, midOf, mid-len}
-use lib.ListN.{length, take, drop, set, length-append, length-drop, take-append-drop}
+use lib.ListN.{length, take, drop, set, length-append, take-append-drop}
 use lib.Seq.{length-take-le, take-at, drop-at, drop-drop, set-split}
 use Rattle.digits.specs.Decimal.{sizeOf, figures, decimal}
 use Rattle.digits.proofs.Figures.{decimal-length}
@@ -25,13 +25,6 @@ module _ (at : ℕ) (room : List ℕ) where
     split : laid at piece room ≡ (take at room ++ piece) ++ drop (at + length piece) room
     unfolding laid
     split = sym (append-assoc (take at room) piece (drop (at + length piece) room))
-
-    -- the room is as long as before
-    pub laid-length : length (laid at piece room) ≡ length room
-    laid-length =
-        ap length split
-        ∙ length-append (take at room ++ piece) (drop (at + length piece) room)
-        ∙ omega (arith, front, length-drop (at + length piece) room)
 
     -- one piece right behind another is the two as one
     pub laid-behind : (next : List ℕ) → laid (at + length piece) next (laid at piece room) ≡ laid at (piece ++ next) room
@@ -67,7 +60,7 @@ pub laid-front : (piece room : List ℕ) → laid 0 piece room ≡ piece ++ drop
 unfolding laid
 laid-front piece room = ap (λ (n : ℕ). piece ++ drop n room) (zero-add (length piece))
 
--- nothing laid; one leaf behind another; and the room is as long as before
+-- nothing laid; one leaf behind another; one character
 pub lays-nothing : (at : ℕ) (before : List ℕ) → Lays at [] before at before
 lays-nothing at before = record { ends = sym (add-zero at); left = sym (laid-nothing at before) }
 
@@ -81,9 +74,6 @@ lays-next at a b before {middle = middle} h x y =
           ∙ ap (laid (at + length a) b) (x .left)
           ∙ laid-behind at before a h b;
     }
-
-pub lays-length : (at : ℕ) (piece before : List ℕ) {e : ℕ} {after : List ℕ} → at + length piece ≤ length before → Lays at piece before e after → length after ≡ length before
-lays-length at piece before h x = ap length (x .left) ∙ laid-length at before piece h
 
 pub lays-one : (at c : ℕ) (before : List ℕ) → at < length before → Lays at (c ∷ []) before (at + 1) (set before at c)
 lays-one at c before h = record { ends = refl; left = laid-one at before c h }

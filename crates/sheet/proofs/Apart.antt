@@ -30,7 +30,8 @@ unfolding records
 at-end zero r s h = ended-yes s (sheet r []) (bad (suc r)) h
 at-end (suc left) r s h = ended-yes s (sheet r []) (follow (recordOf r s) (bad (suc r)) (λ u. records left (suc r) u)) h
 
-pub one-record : (left r : ℕ) (s : List ℕ) → 0 < length s → records (suc left) r s ≡ follow (recordOf r s) (bad (suc r)) (λ u. records left (suc r) u)
+pub one-record : (left r : ℕ) (s : List ℕ) → 0 < length s
+    → records (suc left) r s ≡ follow (recordOf r s) (bad (suc r)) (λ u. records left (suc r) u)
 unfolding records
 one-record left r s h = ended-no s (sheet r []) (follow (recordOf r s) (bad (suc r)) (λ u. records left (suc r) u)) h
 
@@ -46,7 +47,8 @@ pub record First (m : ℕ) (w numbers u : List ℕ) : Type 0 where
 pub first-of : (m : ℕ) (w numbers u : List ℕ) → nextNumerals (suc m) w ≡ found numbers u → First m w numbers u
 first-of m w numbers u e = go (nextNumeral w) refl e
   where
-    last : (v : ℕ) (x : List ℕ) (y : Found (List ℕ)) → nextNumeral w ≡ found v x → nextNumerals m x ≡ y → also v y ≡ found numbers u → First m w numbers u
+    last : (v : ℕ) (x : List ℕ) (y : Found (List ℕ)) → nextNumeral w ≡ found v x → nextNumerals m x ≡ y
+        → also v y ≡ found numbers u → First m w numbers u
     last v x none h k j = absurd (let z : _≡_ {A = ℕ} 0 1 = cc in omega arith)
     last v x (found vs l) h k j =
         record {
@@ -66,7 +68,8 @@ first-of m w numbers u e = go (nextNumeral w) refl e
 pub none-of : (w numbers u : List ℕ) → nextNumerals 0 w ≡ found numbers u → (numbers ≡ []) × (lineEnd w ≡ found tt u)
 none-of w numbers u e = go (lineEnd w) refl e
   where
-    go : (y : Found Unit) → lineEnd w ≡ y → noMore y ≡ found numbers u → (numbers ≡ []) × (_≡_ {A = Found Unit} (lineEnd w) (found tt u))
+    go : (y : Found Unit) → lineEnd w ≡ y → noMore y ≡ found numbers u
+        → (numbers ≡ []) × (_≡_ {A = Found Unit} (lineEnd w) (found tt u))
     go none h k = absurd (let z : _≡_ {A = ℕ} 0 1 = cc in omega arith)
     go (found tt l) h k = (let i : numbers ≡ [] = cc in i, h ∙ ap (found tt) (let i : l ≡ u = cc in i))
 
@@ -81,11 +84,14 @@ pub record-of : (row : ℕ) (s numbers u : List ℕ) → recordOf row s ≡ foun
 unfolding recordOf
 record-of row s numbers u e = go (numeral s) refl e
   where
-    last : (v : ℕ) (x : List ℕ) (b : Bool) → numeral s ≡ found v x → eqb v row ≡ b → cond b (nextNumerals columns x) none ≡ found numbers u → (x : List ℕ) × (numeral s ≡ found row x) × (nextNumerals columns x ≡ found numbers u)
+    last : (v : ℕ) (x : List ℕ) (b : Bool) → numeral s ≡ found v x → eqb v row ≡ b
+        → cond b (nextNumerals columns x) none ≡ found numbers u
+        → (x : List ℕ) × (numeral s ≡ found row x) × (nextNumerals columns x ≡ found numbers u)
     last v x true h k j = (x, h ∙ ap (λ (n : ℕ). found n x) (eqb-true v row k), j)
     last v x false h k j = absurd (let z : _≡_ {A = ℕ} 0 1 = cc in omega arith)
 
-    go : (y : Found ℕ) → numeral s ≡ y → then y (λ v u. cond (eqb v row) (nextNumerals columns u) none) ≡ found numbers u → (x : List ℕ) × (numeral s ≡ found row x) × (nextNumerals columns x ≡ found numbers u)
+    go : (y : Found ℕ) → numeral s ≡ y → then y (λ v u. cond (eqb v row) (nextNumerals columns u) none) ≡ found numbers u
+        → (x : List ℕ) × (numeral s ≡ found row x) × (nextNumerals columns x ≡ found numbers u)
     go none h k = absurd (let z : _≡_ {A = ℕ} 0 1 = cc in omega arith)
     go (found v x) h k = last v x (eqb v row) h refl k
 
@@ -101,10 +107,12 @@ pub record Split (m row : ℕ) (w : List ℕ) (n : ℕ) (numbers : List ℕ) : T
   pub there : records m (suc row) behind ≡ sheet n others
   pub all : numbers ≡ these ++ others
 
-split-of : (m row : ℕ) (w : List ℕ) (n : ℕ) (numbers : List ℕ) → follow (recordOf row w) (bad (suc row)) (λ u. records m (suc row) u) ≡ sheet n numbers → Split m row w n numbers
+split-of : (m row : ℕ) (w : List ℕ) (n : ℕ) (numbers : List ℕ)
+    → follow (recordOf row w) (bad (suc row)) (λ u. records m (suc row) u) ≡ sheet n numbers → Split m row w n numbers
 split-of m row w n numbers e = go (recordOf row w) refl e
   where
-    last : (vs x : List ℕ) (y : Sheet) → recordOf row w ≡ found vs x → records m (suc row) x ≡ y → with vs y ≡ sheet n numbers → Split m row w n numbers
+    last : (vs x : List ℕ) (y : Sheet) → recordOf row w ≡ found vs x → records m (suc row) x ≡ y → with vs y ≡ sheet n numbers
+        → Split m row w n numbers
     last vs x (bad k) h j i = absurd (let z : _≡_ {A = ℕ} 0 1 = cc in omega arith)
     last vs x (sheet l ws) h j i =
         record {
@@ -116,7 +124,8 @@ split-of m row w n numbers e = go (recordOf row w) refl e
           all = let q : numbers ≡ vs ++ ws = cc in q;
         }
 
-    go : (y : Found (List ℕ)) → recordOf row w ≡ y → follow y (bad (suc row)) (λ u. records m (suc row) u) ≡ sheet n numbers → Split m row w n numbers
+    go : (y : Found (List ℕ)) → recordOf row w ≡ y → follow y (bad (suc row)) (λ u. records m (suc row) u) ≡ sheet n numbers
+        → Split m row w n numbers
     go none h k = absurd (let z : _≡_ {A = ℕ} 0 1 = cc in omega arith)
     go (found vs x) h k = last vs x (records m (suc row) x) h refl k
 
@@ -137,13 +146,17 @@ pub record Count (row n : ℕ) (numbers : List ℕ) : Type 0 where
   pub least : row ≤ n
   pub long : length numbers + columns * row ≡ columns * n
 
-count-here : (left row : ℕ) (w : List ℕ) (n : ℕ) (numbers : List ℕ) → Records left row w n numbers → ((m : ℕ) (x ws : List ℕ) → left ≡ suc m → records m (suc row) x ≡ sheet n ws → Count (suc row) n ws) → Count row n numbers
+count-here : (left row : ℕ) (w : List ℕ) (n : ℕ) (numbers : List ℕ) → Records left row w n numbers
+    → ((m : ℕ) (x ws : List ℕ) → left ≡ suc m → records m (suc row) x ≡ sheet n ws → Count (suc row) n ws)
+    → Count row n numbers
 count-here left row w n numbers (over-rows d e f) k = record { least = omega arith; long = omega (arith, ap length f) }
 count-here left row w n numbers (more-rows m h s) k =
     let c = k m (s .behind) (s .others) h (s .there) in
     record {
       least = omega (arith, c .least);
-      long = omega (arith, c .long, ap length (s .all), length-append (s .these) (s .others), record-length row w (s .these) (s .behind) (s .here));
+      long =
+          omega
+          (arith, c .long, ap length (s .all), length-append (s .these) (s .others), record-length row w (s .these) (s .behind) (s .here));
     }
 
 pub records-count : (left row : ℕ) (w : List ℕ) (n : ℕ) (numbers : List ℕ) → records left row w ≡ sheet n numbers → Count row n numbers
@@ -160,7 +173,8 @@ no-more left n w numbers e = go (records-of left n w n numbers e)
     go (over-rows d e f) = f
     go (more-rows m h s) = absurd (omega (arith, records-count m (suc n) (s .behind) n (s .others) (s .there) .least))
 
-pub one-more : (left row : ℕ) (w : List ℕ) (n : ℕ) (numbers : List ℕ) → row < n → records left row w ≡ sheet n numbers → (m : ℕ) × (left ≡ suc m) × Split m row w n numbers
+pub one-more : (left row : ℕ) (w : List ℕ) (n : ℕ) (numbers : List ℕ) → row < n → records left row w ≡ sheet n numbers
+    → (m : ℕ) × (left ≡ suc m) × Split m row w n numbers
 one-more left row w n numbers l e = go (records-of left row w n numbers e)
   where
     go : Records left row w n numbers → (m : ℕ) × (left ≡ suc m) × Split m row w n numbers
@@ -186,7 +200,8 @@ bad-records zero r (c ∷ s) k e = let q : suc r ≡ k = cc in omega arith
 bad-records (suc m) r [] k e = absurd (let z : _≡_ {A = ℕ} 0 1 = cc in omega arith)
 bad-records (suc m) r (c ∷ s) k e = go (recordOf r (c ∷ s)) e (λ u. bad-records m (suc r) u k)
   where
-    go : (y : Found (List ℕ)) → follow y (bad (suc r)) (λ u. records m (suc r) u) ≡ bad k → ((u : List ℕ) → records m (suc r) u ≡ bad k → k ≤ suc (suc r + m)) → k ≤ suc (r + suc m)
+    go : (y : Found (List ℕ)) → follow y (bad (suc r)) (λ u. records m (suc r) u) ≡ bad k
+        → ((u : List ℕ) → records m (suc r) u ≡ bad k → k ≤ suc (suc r + m)) → k ≤ suc (r + suc m)
     go none f g = let q : suc r ≡ k = cc in omega arith
     go (found vs u) f g = omega (arith, g u (bad-with vs (records m (suc r) u) k f))
 

@@ -31,23 +31,30 @@ module _ (rows : List ℕ) (count room : ℕ) where
     writing-fitting h = simp (le-ltb _ _ few, le-ltb _ _ h)
 
   -- characters are written only where the count is within its limit and the rows are enough, and they are the text's
-  pub writing-accepts : (n : ℕ) → answer (writing rows count room) ≡ Chars n → (count ≤ 255) × (columns * (count + 1) ≤ length rows) × (n ≡ length (sheetText rows count)) × (writing rows count room ≡ write (sheetText rows count))
-  writing-accepts n e = go (ltb 255 count) (ltb (length rows) (columns * (count + 1))) (ltb room (length (sheetText rows count))) refl refl refl e
+  pub writing-accepts : (n : ℕ) → answer (writing rows count room) ≡ Chars n
+      → (count ≤ 255) × (columns * (count + 1) ≤ length rows) × (n ≡ length (sheetText rows count)) × (writing rows count room ≡ write (sheetText rows count))
+  writing-accepts n e =
+      go (ltb 255 count) (ltb (length rows) (columns * (count + 1))) (ltb room (length (sheetText rows count))) refl refl refl
+      e
     where
-      go : (a b c : Bool) → ltb 255 count ≡ a → ltb (length rows) (columns * (count + 1)) ≡ b → ltb room (length (sheetText rows count)) ≡ c
+      go : (a b c : Bool) → ltb 255 count ≡ a → ltb (length rows) (columns * (count + 1)) ≡ b
+          → ltb room (length (sheetText rows count)) ≡ c
           → answer (cond a (refuse 1 0) (cond b (refuse 4 0) (cond c (refuse 16 0) (write (sheetText rows count))))) ≡ Chars n
           → (count ≤ 255) × (columns * (count + 1) ≤ length rows) × (n ≡ length (sheetText rows count)) × (writing rows count room ≡ write (sheetText rows count))
       go true b c f g h k = absurd (let z : _≡_ {A = ℕ} 0 1 = cc in omega arith)
       go false true c f g h k = absurd (let z : _≡_ {A = ℕ} 0 1 = cc in omega arith)
       go false false true f g h k = absurd (let z : _≡_ {A = ℕ} 0 1 = cc in omega arith)
-      go false false false f g h k = (ltb-false 255 count f, ltb-false (length rows) (columns * (count + 1)) g, (let q : n ≡ length (sheetText rows count) = cc in q), simp (f, g, h))
+      go false false false f g h k =
+          (ltb-false 255 count f, ltb-false (length rows) (columns * (count + 1)) g, (let q : n ≡ length (sheetText rows count) = cc in q), simp (f, g, h))
 
 -- one answer and one room for each decision of the reader
-pub one-reading : {t : Taken} {r q : Counted} {before after other : List ℕ} → Reads t r before after → Reads t q before other → (r ≡ q) × (after ≡ other)
+pub one-reading : {t : Taken} {r q : Counted} {before after other : List ℕ} → Reads t r before after → Reads t q before other
+    → (r ≡ q) × (after ≡ other)
 one-reading w v = (w .answered ∙ sym (v .answered), w .left ∙ sym (v .left))
 
 module _ (text before : List ℕ) where
-  refused : (number line : ℕ) → reading text (length before) ≡ turn number line → Reads (reading text (length before)) (Refused number line) before before
+  refused : (number line : ℕ) → reading text (length before) ≡ turn number line
+      → Reads (reading text (length before)) (Refused number line) before before
   refused number line e = record { answered = sym (ap tell e); left = sym (ap (λ (d : Taken). leave d before) e) }
 
   pub refused-15 : (k : ℕ) → sheetOf text ≡ bad k → Reads (reading text (length before)) (Refused 15 k) before before
@@ -68,7 +75,8 @@ module _ (text before : List ℕ) where
         ap (λ (x : Sheet). taken x (length before)) e
         ∙ ap (λ (b : Bool). cond b (turn 16 0) (fill (n - 1) numbers)) (le-ltb (length before) (columns * n) h)
 
-    pub filled : (after : List ℕ) → columns * n ≤ length before → length numbers ≡ columns * n → after ≡ numbers ++ drop (columns * n) before → Reads (reading text (length before)) (Sites (n - 1)) before after
+    pub filled : (after : List ℕ) → columns * n ≤ length before → length numbers ≡ columns * n
+        → after ≡ numbers ++ drop (columns * n) before → Reads (reading text (length before)) (Sites (n - 1)) before after
     filled after h l f =
         record {
           answered = sym (ap tell (fills h));

@@ -40,7 +40,8 @@ first-quote : (s : List ℕ) (q : ℕ) (u : List ℕ) → drop (before endsQuote
 first-quote [] q u e = absurd (let z : _≡_ {A = ℕ} 0 1 = cc in omega arith)
 first-quote (c ∷ s) q u e = go (eqb c quote) refl (λ h. first-quote s q u h) e
   where
-    go : (b : Bool) → eqb c quote ≡ b → (drop (before endsQuoted s) s ≡ q ∷ u → q ≡ quote) → drop (cond b 0 (suc (before endsQuoted s))) (c ∷ s) ≡ q ∷ u → q ≡ quote
+    go : (b : Bool) → eqb c quote ≡ b → (drop (before endsQuoted s) s ≡ q ∷ u → q ≡ quote)
+        → drop (cond b 0 (suc (before endsQuoted s))) (c ∷ s) ≡ q ∷ u → q ≡ quote
     go true h k j = (let i : q ≡ c = cc in i) ∙ eqb-true c quote h
     go false h k j = k j
 
@@ -66,7 +67,10 @@ bare-front s c u e =
     record {
       text = c;
       spelled = asIs;
-      is = sym (take-append-drop (before endsBare s) s) ∙ ap (λ (l : List ℕ). l ++ drop (before endsBare s) s) a ∙ ap (λ (l : List ℕ). c ++ l) b;
+      is =
+          sym (take-append-drop (before endsBare s) s)
+          ∙ ap (λ (l : List ℕ). l ++ drop (before endsBare s) s) a
+          ∙ ap (λ (l : List ℕ). c ++ l) b;
     }
 
 field-front : (s c u : List ℕ) → field s ≡ found c u → Front c s u
@@ -95,27 +99,31 @@ same-is (c ∷ s) (d ∷ t) e =
 numeral-front : (s : List ℕ) (x : ℕ) (u : List ℕ) → numeral s ≡ found x u → Front (decimal x) s u
 numeral-front s x u e = go (field s) refl e
   where
-    last : (c w : List ℕ) (b : Bool) → field s ≡ found c w → isNumber c ≡ b → cond b (found (number c) w) none ≡ found x u → Front (decimal x) s u
+    last : (c w : List ℕ) (b : Bool) → field s ≡ found c w → isNumber c ≡ b → cond b (found (number c) w) none ≡ found x u
+        → Front (decimal x) s u
     last c w true h k j =
         let a : number c ≡ x = cc in
         let b : w ≡ u = cc in
         subst (λ (t : List ℕ). Front t s u) (sym (number-decimal c k) ∙ ap decimal a) (subst (λ (y : List ℕ). Front c s y) b (field-front s c w h))
     last c w false h k j = absurd (let z : _≡_ {A = ℕ} 0 1 = cc in omega arith)
 
-    go : (y : Found (List ℕ)) → field s ≡ y → then y (λ t u. cond (isNumber t) (found (number t) u) none) ≡ found x u → Front (decimal x) s u
+    go : (y : Found (List ℕ)) → field s ≡ y → then y (λ t u. cond (isNumber t) (found (number t) u) none) ≡ found x u
+        → Front (decimal x) s u
     go none h k = absurd (let z : _≡_ {A = ℕ} 0 1 = cc in omega arith)
     go (found c w) h k = last c w (isNumber c) h refl k
 
 name-front : (n s u : List ℕ) → name n s ≡ found tt u → Front n s u
 name-front n s u e = go (field s) refl e
   where
-    last : (c w : List ℕ) (b : Bool) → field s ≡ found c w → same c n ≡ b → _≡_ {A = Found Unit} (cond b (found tt w) none) (found tt u) → Front n s u
+    last : (c w : List ℕ) (b : Bool) → field s ≡ found c w → same c n ≡ b
+        → _≡_ {A = Found Unit} (cond b (found tt w) none) (found tt u) → Front n s u
     last c w true h k j =
         let b : w ≡ u = cc in
         subst (λ (t : List ℕ). Front t s u) (same-is c n k) (subst (λ (y : List ℕ). Front c s y) b (field-front s c w h))
     last c w false h k j = absurd (let z : _≡_ {A = ℕ} 0 1 = cc in omega arith)
 
-    go : (y : Found (List ℕ)) → field s ≡ y → _≡_ {A = Found Unit} (then y (λ t u. cond (same t n) (found tt u) none)) (found tt u) → Front n s u
+    go : (y : Found (List ℕ)) → field s ≡ y
+        → _≡_ {A = Found Unit} (then y (λ t u. cond (same t n) (found tt u) none)) (found tt u) → Front n s u
     go none h k = absurd (let z : _≡_ {A = ℕ} 0 1 = cc in omega arith)
     go (found c w) h k = last c w (same c n) h refl k
 
@@ -130,7 +138,8 @@ comma-is (c ∷ s) u e = go (eqb c comma) refl e
     go false h k = absurd (let z : _≡_ {A = ℕ} 0 1 = cc in omega arith)
 
 -- what stands behind a comma
-behind-comma : {A : Type 0} (f : List ℕ → Found A) (s : List ℕ) (a : A) (u : List ℕ) → then (separator s) (λ _ w. f w) ≡ found a u → (w : List ℕ) × (s ≡ comma ∷ w) × (f w ≡ found a u)
+behind-comma : {A : Type 0} (f : List ℕ → Found A) (s : List ℕ) (a : A) (u : List ℕ)
+    → then (separator s) (λ _ w. f w) ≡ found a u → (w : List ℕ) × (s ≡ comma ∷ w) × (f w ≡ found a u)
 behind-comma f s a u e = go (separator s) refl e
   where
     go : (y : Found Unit) → separator s ≡ y → then y (λ _ w. f w) ≡ found a u → (w : List ℕ) × (s ≡ comma ∷ w) × (f w ≡ found a u)
@@ -144,7 +153,8 @@ end-is [] u e = inr (refl, let a : u ≡ [] = cc in a)
 end-is (c ∷ []) u e = absurd (let z : _≡_ {A = ℕ} 0 1 = cc in omega arith)
 end-is (c ∷ d ∷ s) u e = go (eqb c cr) (eqb d lf) refl refl e
   where
-    go : (a b : Bool) → eqb c cr ≡ a → eqb d lf ≡ b → _≡_ {A = Found Unit} (cond (a && b) (found tt s) none) (found tt u) → (c ∷ d ∷ s ≡ lineEnds ++ u) ⊎ ((c ∷ d ∷ s ≡ []) × (u ≡ []))
+    go : (a b : Bool) → eqb c cr ≡ a → eqb d lf ≡ b → _≡_ {A = Found Unit} (cond (a && b) (found tt s) none) (found tt u)
+        → (c ∷ d ∷ s ≡ lineEnds ++ u) ⊎ ((c ∷ d ∷ s ≡ []) × (u ≡ []))
     go true true h k j =
         let i : s ≡ u = cc in
         inl (ap (λ (n : ℕ). n ∷ d ∷ s) (eqb-true c cr h) ∙ ap (λ (n : ℕ). cr ∷ n ∷ s) (eqb-true d lf k) ∙ ap (λ (l : List ℕ). lineEnds ++ l) i)
@@ -167,7 +177,10 @@ line-more {s = s} e f l =
       mark = l .mark;
       spelled = next (f .spelled) (l .spelled);
       past = l .past;
-      is = e ∙ ap (λ (y : List ℕ). comma ∷ y) (f .is ∙ ap (λ (y : List ℕ). f .text ++ y) (l .is) ∙ sym (append-assoc (f .text) (l .text) (l .mark)));
+      is =
+          e
+          ∙ ap (λ (y : List ℕ). comma ∷ y)
+          (f .is ∙ ap (λ (y : List ℕ). f .text ++ y) (l .is) ∙ sym (append-assoc (f .text) (l .text) (l .mark)));
     }
 
 numerals-line : (m : ℕ) (s numbers u : List ℕ) → nextNumerals m s ≡ found numbers u → Line (map decimal numbers) s u
@@ -183,16 +196,21 @@ names-line : (ns : List (List ℕ)) (s u : List ℕ) → nextNames ns s ≡ foun
 names-line [] s u e = record { text = []; mark = s; spelled = nil; past = e; is = refl }
 names-line (n ∷ ns) s u e = go (separator s) refl e (λ x h. names-line ns x u h)
   where
-    second : (w : List ℕ) (y : Found Unit) → s ≡ comma ∷ w → name n w ≡ y → _≡_ {A = Found Unit} (then y (λ _ x. nextNames ns x)) (found tt u) → ((x : List ℕ) → nextNames ns x ≡ found tt u → Line ns x u) → Line (n ∷ ns) s u
+    second : (w : List ℕ) (y : Found Unit) → s ≡ comma ∷ w → name n w ≡ y
+        → _≡_ {A = Found Unit} (then y (λ _ x. nextNames ns x)) (found tt u)
+        → ((x : List ℕ) → nextNames ns x ≡ found tt u → Line ns x u) → Line (n ∷ ns) s u
     second w none h k j g = absurd (let z : _≡_ {A = ℕ} 0 1 = cc in omega arith)
     second w (found tt x) h k j g = line-more h (name-front n w x k) (g x j)
 
-    go : (y : Found Unit) → separator s ≡ y → _≡_ {A = Found Unit} (then (then y (λ _ w. name n w)) (λ _ x. nextNames ns x)) (found tt u) → ((x : List ℕ) → nextNames ns x ≡ found tt u → Line ns x u) → Line (n ∷ ns) s u
+    go : (y : Found Unit) → separator s ≡ y
+        → _≡_ {A = Found Unit} (then (then y (λ _ w. name n w)) (λ _ x. nextNames ns x)) (found tt u)
+        → ((x : List ℕ) → nextNames ns x ≡ found tt u → Line ns x u) → Line (n ∷ ns) s u
     go none h k g = absurd (let z : _≡_ {A = ℕ} 0 1 = cc in omega arith)
     go (found tt w) h k g = second w (name n w) (comma-is s w h) refl k g
 
 -- a record and its line end, and what is spelled behind it
-spells-more : {t : List ℕ} {ts : List (List ℕ)} {rs : List (List (List ℕ))} {s x u : List ℕ} → Front t s x → Line ts x u → Spells rs u → (u ≡ [] → rs ≡ []) → Spells ((t ∷ ts) ∷ rs) s
+spells-more : {t : List ℕ} {ts : List (List ℕ)} {rs : List (List (List ℕ))} {s x u : List ℕ} → Front t s x → Line ts x u
+    → Spells rs u → (u ≡ [] → rs ≡ []) → Spells ((t ∷ ts) ∷ rs) s
 spells-more {t} {ts} {rs} {s} {x} {u} f l q z = go (end-is (l .mark) u (l .past))
   where
     all : s ≡ (f .text ++ l .text) ++ l .mark
@@ -222,7 +240,8 @@ module _ (all : List ℕ) where
   unfolding up
   rows-here left r zero w others (over-rows d e f) g v = subst (λ (x : List ℕ). Spells [] x) (sym d) over
   rows-here left r (suc k) w others (over-rows d e f) g v = absurd (omega arith)
-  rows-here left r zero w others (more-rows m h s) g v = absurd (omega (arith, records-count m (suc r) (s .behind) (r + 0) (s .others) (s .there) .least))
+  rows-here left r zero w others (more-rows m h s) g v =
+      absurd (omega (arith, records-count m (suc r) (s .behind) (r + 0) (s .others) (s .there) .least))
   rows-here left r (suc k) w others (more-rows m h s) g v =
       let l = record-length r w (s .these) (s .behind) (s .here) in
       let e : records m (suc r) (s .behind) ≡ sheet (suc r + k) (s .others) = s .there ∙ ap (λ (n : ℕ). sheet n (s .others)) (move r k) in
@@ -243,8 +262,10 @@ module _ (all : List ℕ) where
       more : (r : ℕ) → columns * suc r ≡ columns * r + columns
       more r = omega arith
 
-  rows-spell : (left r k : ℕ) (w others : List ℕ) → records left r w ≡ sheet (r + k) others → drop (columns * r) all ≡ others → Spells (rowRecords all (up r k)) w
-  rows-spell zero r k w others e g = rows-here zero r k w others (records-of zero r w (r + k) others e) g (λ m j x ws z h i. absurd (omega arith))
+  rows-spell : (left r k : ℕ) (w others : List ℕ) → records left r w ≡ sheet (r + k) others → drop (columns * r) all ≡ others
+      → Spells (rowRecords all (up r k)) w
+  rows-spell zero r k w others e g =
+      rows-here zero r k w others (records-of zero r w (r + k) others e) g (λ m j x ws z h i. absurd (omega arith))
   rows-spell (suc l) r k w others e g =
       rows-here (suc l) r k w others (records-of (suc l) r w (r + k) others e) g
       (λ m j x ws z h i. rows-spell l (suc r) j x ws (ap (λ (n : ℕ). records n (suc r) x) (let q : l ≡ m = omega arith in q) ∙ h) i)
@@ -254,7 +275,8 @@ pub good-is-spelled : (s : List ℕ) (n : ℕ) (numbers : List ℕ) → sheetOf 
 unfolding sheetOf header
 good-is-spelled s n numbers e = go (header s) refl e
   where
-    most : (u : List ℕ) (k : ℕ) → header s ≡ found tt u → (u ≡ [] → ⊥) → n ≡ suc k → records 256 0 u ≡ sheet n numbers → Spells (names ∷ rowRecords numbers (first (n - 1 + 1))) s
+    most : (u : List ℕ) (k : ℕ) → header s ≡ found tt u → (u ≡ [] → ⊥) → n ≡ suc k → records 256 0 u ≡ sheet n numbers
+        → Spells (names ∷ rowRecords numbers (first (n - 1 + 1))) s
     most u k h z a j =
         subst (λ (l : List ℕ). Spells (names ∷ rowRecords numbers l) s) (sym (first-up n) ∙ ap first (one a))
         (top (name rowName s) refl h)
@@ -265,11 +287,14 @@ good-is-spelled s n numbers e = go (header s) refl e
         rows : Spells (rowRecords numbers (up 0 n)) u
         rows = rows-spell numbers 256 0 n u numbers (j ∙ ap (λ (i : ℕ). sheet i numbers) (sym (zero-add n))) refl
 
-        top : (y : Found Unit) → name rowName s ≡ y → _≡_ {A = Found Unit} (then y (λ _ x. nextNames columnNames x)) (found tt u) → Spells (names ∷ rowRecords numbers (up 0 n)) s
+        top : (y : Found Unit) → name rowName s ≡ y
+            → _≡_ {A = Found Unit} (then y (λ _ x. nextNames columnNames x)) (found tt u)
+            → Spells (names ∷ rowRecords numbers (up 0 n)) s
         top none b c = absurd (let z : _≡_ {A = ℕ} 0 1 = cc in omega arith)
         top (found tt w) b c = spells-more (name-front rowName s w b) (names-line columnNames w u c) rows (λ d. absurd (z d))
 
-    cases : (u : List ℕ) (k : ℕ) → header s ≡ found tt u → n ≡ k → ended u (bad 1) (records 256 0 u) ≡ sheet n numbers → Spells (names ∷ rowRecords numbers (first (n - 1 + 1))) s
+    cases : (u : List ℕ) (k : ℕ) → header s ≡ found tt u → n ≡ k → ended u (bad 1) (records 256 0 u) ≡ sheet n numbers
+        → Spells (names ∷ rowRecords numbers (first (n - 1 + 1))) s
     cases [] k h a j = absurd (let z : _≡_ {A = ℕ} 0 1 = cc in omega arith)
     cases (c ∷ u) zero h a j = absurd (omega (arith, records-some 256 0 (c ∷ u) n numbers (omega arith) j))
     cases (c ∷ u) (suc k) h a j = most (c ∷ u) k h (λ b. let z : _≡_ {A = ℕ} 0 1 = cc in omega arith) a j

@@ -1,5 +1,6 @@
--- One name for each number of a row; and the names as one text, which is how the code has them. Assumes nothing.
-use mathlib.Core.List.{_++_, flatMap}
+-- One name for each number of a row, and the names as the code has them. Assumes nothing.
+use Prim.Native.Nat.{ℕ}
+use mathlib.Core.List.{List, _++_, flatMap}
 use mathlib.Core.Path.{_≡_, refl}
 use lib.ListN.{length}
 use Rattle.trace.specs.Rows.{columns}
@@ -8,6 +9,10 @@ use Rattle.sheet.specs.Text.{codes, rowName, columnNames, follows}
 pub one-name-each : length columnNames ≡ columns
 one-name-each = refl
 
-pub names-joined : codes "row,calls,work,span,local,onspan" ≡ rowName ++ flatMap follows columnNames
+-- the table of names in the code, each but the first behind a comma
+abbrev pub table : List ℕ
+table = codes "row,calls,work,span,local,onspan"
+
+pub names-joined : table ≡ rowName ++ flatMap follows columnNames
 unfolding flatMap
 names-joined = refl

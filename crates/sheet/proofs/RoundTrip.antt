@@ -48,13 +48,15 @@ unfolding sheetText flatMap
 written-spells rows count = record-as-is rowName columnNames (rowRecords rows (first (count + 1))) (rows-as-is rows (first (count + 1)))
 
 -- what the writer writes is good, and holds the rows
-pub written-good : (rows : List ℕ) (count : ℕ) → Given rows count → sheetOf (sheetText rows count) ≡ sheet (count + 1) (take (columns * (count + 1)) rows)
+pub written-good : (rows : List ℕ) (count : ℕ) → Given rows count
+    → sheetOf (sheetText rows count) ≡ sheet (count + 1) (take (columns * (count + 1)) rows)
 written-good rows count g = spelled-is-good rows count g (written-spells rows count)
 
 -- "Writing and reading gives the rows again": whoever wrote n characters, and read them into room enough, has the count and the rows, and
 -- the room past them as it was
 module _ (rows : List ℕ) (count : ℕ) (small : Small rows) (out out′ : List ℕ) (n : ℕ) (room room′ : List ℕ) (c : Counted) where
-  pub round-trip : Writes (writing rows count (length out)) (Chars n) out out′ → Reads (reading (take n out′) (length room)) c room room′ → columns * (count + 1) ≤ length room
+  pub round-trip : Writes (writing rows count (length out)) (Chars n) out out′
+      → Reads (reading (take n out′) (length room)) c room room′ → columns * (count + 1) ≤ length room
       → (c ≡ Sites count) × (room′ ≡ take (columns * (count + 1)) rows ++ drop (columns * (count + 1)) room)
   round-trip w r h = (
     r .answered ∙ ap tell is,
@@ -82,7 +84,8 @@ module _ (rows : List ℕ) (count : ℕ) (small : Small rows) (out out′ : List
           ∙ ap (λ (m : ℕ). fill m (take k′ rows)) (less count)
 
 -- no other rows or count have that text
-pub same-text : (rows others : List ℕ) (count sites : ℕ) → Given rows count → Given others sites → sheetText rows count ≡ sheetText others sites
+pub same-text : (rows others : List ℕ) (count sites : ℕ) → Given rows count → Given others sites
+    → sheetText rows count ≡ sheetText others sites
     → (count ≡ sites) × (take (columns * (count + 1)) rows ≡ take (columns * (sites + 1)) others)
 same-text rows others count sites a b e =
     let f : sheet (count + 1) (take (columns * (count + 1)) rows) ≡ sheet (sites + 1) (take (columns * (sites + 1)) others) =
@@ -98,5 +101,6 @@ pub same-reading : (s t : List ℕ) (n : ℕ) (numbers : List ℕ) → sheetOf s
 same-reading s t n numbers a b = (written-spells numbers (n - 1), good-is-spelled s n numbers a, good-is-spelled t n numbers b)
 
 -- and texts that spell the same rows read the same
-pub same-spelling : (rows : List ℕ) (count : ℕ) (s t : List ℕ) → Given rows count → Spells (sheetRecords rows count) s → Spells (sheetRecords rows count) t → sheetOf s ≡ sheetOf t
+pub same-spelling : (rows : List ℕ) (count : ℕ) (s t : List ℕ) → Given rows count → Spells (sheetRecords rows count) s
+    → Spells (sheetRecords rows count) t → sheetOf s ≡ sheetOf t
 same-spelling rows count s t g a b = spelled-is-good rows count g a ∙ sym (spelled-is-good rows count g b)

@@ -74,7 +74,8 @@ fields-stop u (next {f = f} {s = s} g r) k = at comma ((f ++ s) ++ u) refl refl
 abbrev pub Small : List ℕ → Type 0
 Small xs = (i : ℕ) → getD xs i 0 < 2 ^ 64
 
-numerals-spelled : (xs : List ℕ) {s : List ℕ} (u w : List ℕ) → Small xs → Fields (map decimal xs) s → Stop u → lineEnd u ≡ found tt w → nextNumerals (length xs) (s ++ u) ≡ found xs w
+numerals-spelled : (xs : List ℕ) {s : List ℕ} (u w : List ℕ) → Small xs → Fields (map decimal xs) s → Stop u
+    → lineEnd u ≡ found tt w → nextNumerals (length xs) (s ++ u) ≡ found xs w
 unfolding separator
 numerals-spelled [] u w h nil k e = ap (λ (y : Found Unit). noMore y) e
 numerals-spelled (x ∷ xs) u w h (next {f = f} {s = s} g r) k e =
@@ -82,7 +83,8 @@ numerals-spelled (x ∷ xs) u w h (next {f = f} {s = s} g r) k e =
     ∙ ap (λ (y : Found ℕ). then y (λ v z. also v (nextNumerals (length xs) z))) (numeral-spelled (s ++ u) (h 0) g (fields-stop u r k))
     ∙ ap (also x) (numerals-spelled xs u w (λ i. h (suc i)) r k e)
 
-names-spelled : (ns : List (List ℕ)) {s : List ℕ} (u w : List ℕ) → AllClear ns → Fields ns s → Stop u → lineEnd u ≡ found tt w → nextNames ns (s ++ u) ≡ found tt w
+names-spelled : (ns : List (List ℕ)) {s : List ℕ} (u w : List ℕ) → AllClear ns → Fields ns s → Stop u → lineEnd u ≡ found tt w
+    → nextNames ns (s ++ u) ≡ found tt w
 unfolding separator
 names-spelled [] u w c nil k e = e
 names-spelled (n ∷ ns) u w c (next {f = f} {s = s} g r) k e =
@@ -151,18 +153,22 @@ up-last r (suc k) = ap (λ (l : List ℕ). r ∷ l) (up-last (suc r) k ∙ ap (�
 pub first-up : (n : ℕ) → first n ≡ up 0 n
 unfolding up
 first-up zero = refl
-first-up (suc n) = ap (λ (l : List ℕ). l ++ n ∷ []) (first-up n) ∙ ap (λ (k : ℕ). up 0 n ++ k ∷ []) (sym (zero-add n)) ∙ sym (up-last 0 n)
+first-up (suc n) =
+    ap (λ (l : List ℕ). l ++ n ∷ []) (first-up n) ∙ ap (λ (k : ℕ). up 0 n ++ k ∷ []) (sym (zero-add n)) ∙ sym (up-last 0 n)
 
 module _ (rows : List ℕ) (small : Small rows) where
   pub row-small : (r : ℕ) → Small (numbersOf rows r)
   row-small r i = go (decLt i columns)
     where
       go : Dec (i < columns) → getD (numbersOf rows r) i 0 < 2 ^ 64
-      go (yes h) = omega (arith, getD-take columns (drop (columns * r) rows) i 0 h, getD-drop (columns * r) rows i 0, small (columns * r + i))
+      go (yes h) =
+          omega
+          (arith, getD-take columns (drop (columns * r) rows) i 0 h, getD-drop (columns * r) rows i 0, small (columns * r + i))
       go (no h) = omega (arith, List·getD-eq-default (numbersOf rows r) 0 {n = i} (simp length-take (omega arith)))
 
   -- the numbers of a row and of those behind it
-  row-and : (k r : ℕ) → numbersOf rows r ++ take (columns * k) (drop (columns * suc r) rows) ≡ take (columns * suc k) (drop (columns * r) rows)
+  row-and : (k r : ℕ)
+      → numbersOf rows r ++ take (columns * k) (drop (columns * suc r) rows) ≡ take (columns * suc k) (drop (columns * r) rows)
   row-and k r =
       ap (λ (n : ℕ). numbersOf rows r ++ take (columns * k) (drop n rows)) (more r)
       ∙ ap (λ (l : List ℕ). numbersOf rows r ++ take (columns * k) l) (sym (drop-drop columns (columns * r) rows))
@@ -175,7 +181,8 @@ module _ (rows : List ℕ) (small : Small rows) where
       plus : (k : ℕ) → columns + columns * k ≡ columns * suc k
       plus k = omega arith
 
-  rows-spelled : (k r left : ℕ) {s : List ℕ} → k ≤ left → r + k < 2 ^ 64 → columns * (r + k) ≤ length rows → Spells (rowRecords rows (up r k)) s
+  rows-spelled : (k r left : ℕ) {s : List ℕ} → k ≤ left → r + k < 2 ^ 64 → columns * (r + k) ≤ length rows
+      → Spells (rowRecords rows (up r k)) s
       → records left r s ≡ sheet (r + k) (take (columns * k) (drop (columns * r) rows))
   unfolding up
   rows-spelled zero r left l b e over = at-end left r [] refl ∙ ap (λ (n : ℕ). sheet n []) (sym (add-zero r))
@@ -199,7 +206,8 @@ pub record Given (rows : List ℕ) (count : ℕ) : Type 0 where
   pub small : Small rows
 
 -- every text that spells a sheet's records is good, and holds the rows
-pub spelled-is-good : (rows : List ℕ) (count : ℕ) {s : List ℕ} → Given rows count → Spells (sheetRecords rows count) s → sheetOf s ≡ sheet (count + 1) (take (columns * (count + 1)) rows)
+pub spelled-is-good : (rows : List ℕ) (count : ℕ) {s : List ℕ} → Given rows count → Spells (sheetRecords rows count) s
+    → sheetOf s ≡ sheet (count + 1) (take (columns * (count + 1)) rows)
 unfolding sheetOf up
 spelled-is-good rows count {s} g q =
     let n = count + 1 in
@@ -214,4 +222,7 @@ spelled-is-good rows count {s} g q =
     up-is {x} k = subst (λ (l : List ℕ). Spells (rowRecords rows l) x) (first-up (count + 1)) k
 
     some : (x : List ℕ) → Spells (rowRecords rows (up 0 (count + 1))) x → 0 < length x
-    some x k = row-long rows 0 (omega arith) (cut (rowFields rows 0) (rowRecords rows (up 1 count)) (subst (λ (n : ℕ). Spells (rowRecords rows (up 0 n)) x) (add-one count) k))
+    some x k =
+        row-long rows 0 (omega arith)
+        (cut (rowFields rows 0) (rowRecords rows (up 1 count))
+        (subst (λ (n : ℕ). Spells (rowRecords rows (up 0 n)) x) (add-one count) k))

@@ -82,13 +82,15 @@ field-bare (c ∷ s) n h q e l =
 pub no-pass : {s : List ℕ} {f : Found Unit} → f ≡ none → Passes s f (record { good = false; next = 0 })
 no-pass e = record { told = e; within = omega arith }
 
-pub pass : {s : List ℕ} {f : Found Unit} (n : ℕ) → f ≡ found tt (drop n s) → n ≤ length s → Passes s f (record { good = true; next = n })
+pub pass : {s : List ℕ} {f : Found Unit} (n : ℕ) → f ≡ found tt (drop n s) → n ≤ length s
+    → Passes s f (record { good = true; next = n })
 pass n e h = record { told = e; within = h }
 
 pub no-get : {s : List ℕ} {f : Found ℕ} → f ≡ none → Gets s f (record { good = false; value = 0; next = 0 })
 no-get e = record { told = e; within = omega arith }
 
-pub get : {s : List ℕ} {f : Found ℕ} (v n : ℕ) → f ≡ found v (drop n s) → n ≤ length s → Gets s f (record { good = true; value = v; next = n })
+pub get : {s : List ℕ} {f : Found ℕ} (v n : ℕ) → f ≡ found v (drop n s) → n ≤ length s
+    → Gets s f (record { good = true; value = v; next = n })
 get v n e h = record { told = e; within = h }
 
 -- what a telling says where it is good and where it is not
@@ -125,11 +127,14 @@ module _ (s : List ℕ) (a : ℕ) (h : a ≤ length s) {u : List ℕ} (e : u ≡
   inside : (k : ℕ) → k ≤ length u → a + k ≤ length s
   inside k g = omega (arith, ap length e, length-drop a s)
 
-  pub shift-pass : {f g : Found Unit} {p : Past} → g ≡ f → Passes u f p → p .good ≡ true → Passes s g (record { good = true; next = a + p .next })
+  pub shift-pass : {f g : Found Unit} {p : Past} → g ≡ f → Passes u f p → p .good ≡ true
+      → Passes s g (record { good = true; next = a + p .next })
   shift-pass {p = p} i t k = pass (a + p .next) (i ∙ pass-yes t k ∙ ap (found tt) (beyond (p .next))) (inside (p .next) (t .within))
 
-  pub shift-get : {f g : Found ℕ} {p : Got} → g ≡ f → Gets u f p → p .good ≡ true → Gets s g (record { good = true; value = p .value; next = a + p .next })
-  shift-get {p = p} i t k = get (p .value) (a + p .next) (i ∙ get-yes t k ∙ ap (found (p .value)) (beyond (p .next))) (inside (p .next) (t .within))
+  pub shift-get : {f g : Found ℕ} {p : Got} → g ≡ f → Gets u f p → p .good ≡ true
+      → Gets s g (record { good = true; value = p .value; next = a + p .next })
+  shift-get {p = p} i t k =
+      get (p .value) (a + p .next) (i ∙ get-yes t k ∙ ap (found (p .value)) (beyond (p .next))) (inside (p .next) (t .within))
 
 -- where something is known to be there, a telling tells it
 module _ {s : List ℕ} where
@@ -181,7 +186,8 @@ module _ {s : List ℕ} {r : Field} (t : Fields s (field s) r) where
         c : List ℕ
         c = take (r .to - r .from) (drop (r .from) s)
 
-        given-is : (b : Bool) (v : ℕ) → cond b (found v (drop (r .next) s)) none ≡ cond (given b v .good) (found (given b v .value) (drop (r .next) s)) none
+        given-is : (b : Bool) (v : ℕ)
+            → cond b (found v (drop (r .next) s)) none ≡ cond (given b v .good) (found (given b v .value) (drop (r .next) s)) none
         given-is true v = refl
         given-is false v = refl
 

@@ -1,21 +1,20 @@
 -- Laws of the header's names as a table, in which each stands behind a comma. Assumes nothing.
-use Prim.{Unit, tt}
-use Prim.Native.Nat.{ℕ, suc, _+_, _-_, _≤_, _<_}
-use mathlib.Core.Bool.{Bool, true, false}
+use Prim.{Unit}
+use Prim.Native.Nat.{ℕ, _+_, _-_, _≤_, _<_}
+use mathlib.Core.Bool.{true, false}
 use mathlib.Core.List.{List, [], _∷_, _++_, flatMap}
 use mathlib.Core.Path.{_≡_, refl, ap, _∙_, sym}
-use native.Mathlib.Numerals.{add-one}
-use native.Mathlib.Nat.{add-sub-cancel-left}
 use native.Mathlib.Omega.{arith}
-use lib.ListN.{length, take, drop, length-drop, length-append}
+use lib.ListN.{length, take, drop, length-drop}
 use lib.Seq.{drop-drop, take-at, drop-at}
-use Rattle.sheet.specs.Text.{codes, comma, rowName, columnNames, follows}
-use Rattle.sheet.specs.Found.{Found, none, found, then}
+use Rattle.sheet.specs.Text.{comma, rowName, columnNames, follows}
+use Rattle.sheet.specs.Found.{Found, none, then}
 use Rattle.sheet.specs.Grammar.{before, endsBare, lineEnd, name, nextName, nextNames, header}
+use Rattle.sheet.proofs.Names.{table}
 use Rattle.sheet.proofs.Clear.{Stop, end, at, AllClear, before-stop, names-clear}
 use Rattle.sheetin.specs.declared.fields.Past.{Past}
 use Rattle.sheetin.specs.Seen.{Passes}
-use Rattle.sheetin.proofs.Front.{pass-no, pass-yes, shift-pass}
+use Rattle.sheetin.proofs.Front.{pass-no, pass-yes}
 
 -- the names so far are there, and those that the table has from place h on are still to come
 pub record Names (s table : List ℕ) (place h : ℕ) : Type 0 where
@@ -47,11 +46,13 @@ record Next (s table : List ℕ) (place h n : ℕ) : Type 0 where
   rest : drop (h + 1 + n) table ≡ flatMap follows others
   same : nextNames columnNames s ≡ nextNames (this ∷ others) (drop place s)
 
-next-of : (s table : List ℕ) (place h n : ℕ) → Names s table place h → h < length table → n ≡ before endsBare (drop (h + 1) table) → Next s table place h n
+next-of : (s table : List ℕ) (place h n : ℕ) → Names s table place h → h < length table
+    → n ≡ before endsBare (drop (h + 1) table) → Next s table place h n
 unfolding flatMap
 next-of s table place h n r l e = go (r .left) (r .clear) (r .rest) (r .same)
   where
-    go : (ns : List (List ℕ)) → AllClear ns → drop h table ≡ flatMap follows ns → nextNames columnNames s ≡ nextNames ns (drop place s) → Next s table place h n
+    go : (ns : List (List ℕ)) → AllClear ns → drop h table ≡ flatMap follows ns
+        → nextNames columnNames s ≡ nextNames ns (drop place s) → Next s table place h n
     go [] c k q = absurd (omega (arith, ap length k, length-drop h table))
     go (m ∷ ns) c k q =
         record {
@@ -74,7 +75,10 @@ module _ (s table : List ℕ) (place h : ℕ) (r : Heading s table place h) (l :
   this = next-of s table place h n (r .names) l e
 
   here : nextNames columnNames s ≡ then (nextName m u) (λ _ w. nextNames (this .others) w)
-  here = this .same ∙ ap (λ (x : List ℕ). then (nextName x (drop place s)) (λ _ w. nextNames (this .others) w)) (sym (this .is) ∙ sym b) ∙ ap (λ (x : List ℕ). then (nextName m x) (λ _ w. nextNames (this .others) w)) (sym a)
+  here =
+      this .same
+      ∙ ap (λ (x : List ℕ). then (nextName x (drop place s)) (λ _ w. nextNames (this .others) w)) (sym (this .is) ∙ sym b)
+      ∙ ap (λ (x : List ℕ). then (nextName m x) (λ _ w. nextNames (this .others) w)) (sym a)
 
   pub heading-no : p .good ≡ false → nextNames columnNames s ≡ none
   heading-no f = here ∙ ap (λ (x : Found Unit). then x (λ _ w. nextNames (this .others) w)) (pass-no t f)
@@ -89,16 +93,21 @@ module _ (s table : List ℕ) (place h : ℕ) (r : Heading s table place h) (l :
               left = this .others;
               clear = this .clear;
               rest = this .rest;
-              same = here ∙ ap (λ (x : Found Unit). then x (λ _ w. nextNames (this .others) w)) (pass-yes t f) ∙ ap (nextNames (this .others)) (ap (drop (p .next)) a ∙ drop-drop (p .next) place s);
+              same =
+                  here
+                  ∙ ap (λ (x : Found Unit). then x (λ _ w. nextNames (this .others) w)) (pass-yes t f)
+                  ∙ ap (nextNames (this .others)) (ap (drop (p .next)) a ∙ drop-drop (p .next) place s);
             };
       }
 
 -- no names more: the line end is asked
-pub heading-end : (s table : List ℕ) (place h : ℕ) → Heading s table place h → length table ≤ h → (u : List ℕ) → u ≡ drop place s → nextNames columnNames s ≡ lineEnd u
+pub heading-end : (s table : List ℕ) (place h : ℕ) → Heading s table place h → length table ≤ h → (u : List ℕ)
+    → u ≡ drop place s → nextNames columnNames s ≡ lineEnd u
 unfolding flatMap
 heading-end s table place h r l u e = go (r .names .left) (r .names .rest) (r .names .same)
   where
-    go : (ns : List (List ℕ)) → drop h table ≡ flatMap follows ns → nextNames columnNames s ≡ nextNames ns (drop place s) → nextNames columnNames s ≡ lineEnd u
+    go : (ns : List (List ℕ)) → drop h table ≡ flatMap follows ns → nextNames columnNames s ≡ nextNames ns (drop place s)
+        → nextNames columnNames s ≡ lineEnd u
     go [] k q = q ∙ ap lineEnd (sym e)
     go (n ∷ ns) k q = absurd (omega (arith, ap length k, length-drop h table))
 
@@ -112,12 +121,12 @@ module _ (s m : List ℕ) {p : Past} (t : Passes s (name m s) p) (i : m ≡ rowN
   header-no e = begins ∙ ap (λ (x : Found Unit). then x (λ _ w. nextNames columnNames w)) (pass-no t e)
 
   pub header-yes : p .good ≡ true → (u : List ℕ) → u ≡ drop (p .next) s → header s ≡ nextNames columnNames u
-  header-yes e u f = begins ∙ ap (λ (x : Found Unit). then x (λ _ w. nextNames columnNames w)) (pass-yes t e) ∙ ap (nextNames columnNames) (sym f)
+  header-yes e u f =
+      begins
+      ∙ ap (λ (x : Found Unit). then x (λ _ w. nextNames columnNames w)) (pass-yes t e)
+      ∙ ap (nextNames columnNames) (sym f)
 
--- the table begins with the first name, and goes on with those of the columns
-pub first-name : (table : List ℕ) (n : ℕ) → table ≡ codes "row,calls,work,span,local,onspan" → n ≡ before endsBare table
-    → (take n table ≡ rowName) × (drop n table ≡ flatMap follows columnNames)
+-- the table of names begins with the first, and goes on with those of the columns
+pub first-name : (n : ℕ) → n ≡ before endsBare table → (take n table ≡ rowName) × (drop n table ≡ flatMap follows columnNames)
 unfolding flatMap
-first-name table n e f =
-    let k : n ≡ length rowName = f ∙ ap (before endsBare) e in
-    (ap (λ (i : ℕ). take i table) k ∙ ap (take 3) e, ap (λ (i : ℕ). drop i table) k ∙ ap (drop 3) e)
+first-name n e = (ap (λ (i : ℕ). take i table) e, ap (λ (i : ℕ). drop i table) e)

@@ -59,7 +59,8 @@ module _ (s u : List ℕ) (at : ℕ) (e : u ≡ drop at s) {g : Got} (t : Gets u
       one : suc m - 1 ≡ m
       one = omega arith
 
-pub numerals-end : (s u : List ℕ) (at left : ℕ) → u ≡ drop at s → Numerals s at left → left ≡ 0 → there (nextNumerals columns s) ≡ lineEnd u
+pub numerals-end : (s u : List ℕ) (at left : ℕ) → u ≡ drop at s → Numerals s at left → left ≡ 0
+    → there (nextNumerals columns s) ≡ lineEnd u
 numerals-end s u at left e r z =
     sym (r .rest) ∙ ap (λ (k : ℕ). there (nextNumerals k (drop at s))) z ∙ there-noMore (lineEnd (drop at s)) ∙ ap lineEnd (sym e)
 
@@ -98,7 +99,8 @@ follow-no : (x : Found (List ℕ)) (b : Sheet) (f : List ℕ → Sheet) → ther
 follow-no none b f e = refl
 follow-no (found vs s) b f e = absurd (let z : _≡_ {A = ℕ} 0 1 = cc in omega arith)
 
-follow-yes : (x : Found (List ℕ)) (b : Sheet) (f : List ℕ → Sheet) (u : List ℕ) → there x ≡ found tt u → tally (follow x b f) ≡ tally (f u)
+follow-yes : (x : Found (List ℕ)) (b : Sheet) (f : List ℕ → Sheet) (u : List ℕ) → there x ≡ found tt u
+    → tally (follow x b f) ≡ tally (f u)
 follow-yes none b f u e = absurd (let z : _≡_ {A = ℕ} 0 1 = cc in omega arith)
 follow-yes (found vs s) b f u e = tally-with vs (f s) ∙ ap (λ (l : List ℕ). tally (f l)) (let g : s ≡ u = cc in g)
 

@@ -85,7 +85,9 @@ module _ {s t : List ℕ} {i : ℕ} (r : Same s t i) where
 
   module _ (h : i < length s) where
     both : same (drop i s) (drop i t) ≡ (eqb (getD s i 0) (getD t i 0) && same (drop (i + 1) s) (drop (i + 1) t))
-    both = ap (λ (l : List ℕ). same l (drop i t)) (cut s i h) ∙ ap (same (getD s i 0 ∷ drop (i + 1) s)) (cut t i (omega (arith, r .long)))
+    both =
+        ap (λ (l : List ℕ). same l (drop i t)) (cut s i h)
+        ∙ ap (same (getD s i 0 ∷ drop (i + 1) s)) (cut t i (omega (arith, r .long)))
 
     pub same-not : (getD s i 0 ≡ getD t i 0 → ⊥) → false ≡ same s t
     same-not f = sym (both ∙ ap (λ (b : Bool). b && same (drop (i + 1) s) (drop (i + 1) t)) (ne-eqb _ _ f)) ∙ r .rest

@@ -42,7 +42,8 @@ filling-none s before =
     omega-zero n = omega arith
 
 module _ (s before part : List ℕ) (at k : ℕ) (r : Filling s before part at k) (u : List ℕ) (e : u ≡ drop at s) where
-  pub filling-more : k < length part → {g : Got} → Gets u (nextNumeral u) g → Filling s before (set part k (g .value)) (at + g .next) (k + 1)
+  pub filling-more : k < length part → {g : Got} → Gets u (nextNumeral u) g
+      → Filling s before (set part k (g .value)) (at + g .next) (k + 1)
   filling-more h {g} t =
       record {
         long = length-set part k (g .value) ∙ r .long;
@@ -54,7 +55,9 @@ module _ (s before part : List ℕ) (at k : ℕ) (r : Filling s before part at k
       one : length before - k ≡ suc (length before - (k + 1))
       one = omega (arith, r .long)
 
-      step : (numbers x : List ℕ) (q : Rest s before part at k numbers x) → First (length before - (k + 1)) (drop at s) (q .others) x → Rest s before (set part k (g .value)) (at + g .next) (k + 1) numbers x
+      step : (numbers x : List ℕ) (q : Rest s before part at k numbers x)
+          → First (length before - (k + 1)) (drop at s) (q .others) x
+          → Rest s before (set part k (g .value)) (at + g .next) (k + 1) numbers x
       step numbers x q f =
           let i = get-is (f .value) (f .behind) t (ap nextNumeral e ∙ f .here) in
           record {
@@ -66,13 +69,21 @@ module _ (s before part : List ℕ) (at k : ℕ) (r : Filling s before part at k
                 ∙ ap (λ (v : ℕ). take k part ++ (v ∷ f .others)) (i .0)
                 ∙ ap (λ (l : List ℕ). take k part ++ l) (sym (f .all))
                 ∙ q .front;
-            there = ap (nextNumerals (length before - (k + 1))) (sym (drop-drop (g .next) at s) ∙ ap (drop (g .next)) (sym e) ∙ i .1) ∙ f .there;
+            there =
+                ap (nextNumerals (length before - (k + 1)))
+                (sym (drop-drop (g .next) at s) ∙ ap (drop (g .next)) (sym e) ∙ i .1)
+                ∙ f .there;
           }
 
-      go : (numbers x : List ℕ) → Rest s before part at k numbers x → Rest s before (set part k (g .value)) (at + g .next) (k + 1) numbers x
-      go numbers x q = step numbers x q (first-of (length before - (k + 1)) (drop at s) (q .others) x (ap (λ (n : ℕ). nextNumerals n (drop at s)) (sym one) ∙ q .there))
+      go : (numbers x : List ℕ) → Rest s before part at k numbers x
+          → Rest s before (set part k (g .value)) (at + g .next) (k + 1) numbers x
+      go numbers x q =
+          step numbers x q
+          (first-of (length before - (k + 1)) (drop at s) (q .others) x
+          (ap (λ (n : ℕ). nextNumerals n (drop at s)) (sym one) ∙ q .there))
 
-  pub filling-end : length part ≤ k → {p : Past} → Passes u (lineEnd u) p → Fills s (nextNumerals (length before) s) (at + p .next) part
+  pub filling-end : length part ≤ k → {p : Past} → Passes u (lineEnd u) p
+      → Fills s (nextNumerals (length before) s) (at + p .next) part
   filling-end h {p} t =
       record {
         holds = λ numbers x f. go numbers x (r .rest numbers x f);
@@ -90,7 +101,8 @@ module _ (s before part : List ℕ) (at k : ℕ) (r : Filling s before part at k
           )
 
 -- a record's numbers stored behind its first field
-pub fills-record : (s u after : List ℕ) (n k : ℕ) {g : Got} → n ≡ columns → Gets s (numeral s) g → u ≡ drop (g .next) s → Fills u (nextNumerals n u) k after → FillsRecord s (g .next + k) after
+pub fills-record : (s u after : List ℕ) (n k : ℕ) {g : Got} → n ≡ columns → Gets s (numeral s) g → u ≡ drop (g .next) s
+    → Fills u (nextNumerals n u) k after → FillsRecord s (g .next + k) after
 fills-record s u after n k {g} c t e f =
     record {
       any = λ row.
@@ -100,7 +112,9 @@ fills-record s u after n k {g} c t e f =
           };
     }
   where
-    go : {row : ℕ} {numbers x : List ℕ} → (y : List ℕ) × (numeral s ≡ found row y) × (nextNumerals columns y ≡ found numbers x) → (after ≡ numbers) × (drop (g .next + k) s ≡ x)
+    go : {row : ℕ} {numbers x : List ℕ}
+        → (y : List ℕ) × (numeral s ≡ found row y) × (nextNumerals columns y ≡ found numbers x)
+        → (after ≡ numbers) × (drop (g .next + k) s ≡ x)
     go {row} {numbers} {x} (y, h, j) =
         let i = get-is row y t h .1 in
         let q = f .holds numbers x (ap (λ (m : ℕ). nextNumerals m u) c ∙ ap (nextNumerals columns) (e ∙ i) ∙ j) in
@@ -130,11 +144,15 @@ storing-none s n before =
     }
 
 module _ (s : List ℕ) (n : ℕ) (before room : List ℕ) (at row : ℕ) (r : Storing s n before room at row) where
-  pub storing-more : (u vs : List ℕ) (k : ℕ) → u ≡ drop at s → row < n → n ≤ 256 → columns * n ≤ length before → length vs ≡ columns → FillsRecord u k vs
+  pub storing-more : (u vs : List ℕ) (k : ℕ) → u ≡ drop at s → row < n → n ≤ 256 → columns * n ≤ length before
+      → length vs ≡ columns → FillsRecord u k vs
       → Storing s n before (putMid (columns * row) (columns * row + columns - columns * row) room vs) (at + k) (row + 1)
   storing-more u vs k e l f h c t =
       record {
-        long = ap length whole ∙ length-append (take (columns * row) room ++ vs) (drop (columns * row + columns) room) ∙ omega (arith, done, length-drop (columns * row + columns) room, r .long);
+        long =
+            ap length whole
+            ∙ length-append (take (columns * row) room ++ vs) (drop (columns * row + columns) room)
+            ∙ omega (arith, done, length-drop (columns * row + columns) room, r .long);
         within = omega (arith, r .within, t .any row .within, ap length e, length-drop at s);
         few = omega arith;
         kept =
@@ -160,7 +178,8 @@ module _ (s : List ℕ) (n : ℕ) (before room : List ℕ) (at row : ℕ) (r : S
           ∙ ap (λ (l : List ℕ). take (columns * row) room ++ (vs ++ l)) (drop-drop columns (columns * row) room)
           ∙ sym (append-assoc (take (columns * row) room) vs (drop (columns * row + columns) room))
 
-      step : (numbers : List ℕ) (q : Left s room at row n numbers) → (m : ℕ) × (256 - row ≡ suc m) × Split m row (drop at s) n (q .others)
+      step : (numbers : List ℕ) (q : Left s room at row n numbers)
+          → (m : ℕ) × (256 - row ≡ suc m) × Split m row (drop at s) n (q .others)
           → Left s (putMid (columns * row) (columns * row + columns - columns * row) room vs) (at + k) (row + 1) n numbers
       step numbers q (m, a, x) =
           let i = t .any row .holds (x .these) (x .behind) (ap (recordOf row) e ∙ x .here) in
@@ -182,7 +201,8 @@ module _ (s : List ℕ) (n : ℕ) (before room : List ℕ) (at row : ℕ) (r : S
                 ∙ x .there;
           }
 
-      go : (numbers : List ℕ) → Left s room at row n numbers → Left s (putMid (columns * row) (columns * row + columns - columns * row) room vs) (at + k) (row + 1) n numbers
+      go : (numbers : List ℕ) → Left s room at row n numbers
+          → Left s (putMid (columns * row) (columns * row + columns - columns * row) room vs) (at + k) (row + 1) n numbers
       go numbers q = step numbers q (one-more (256 - row) row (drop at s) n (q .others) l (q .there))
 
   pub storing-end : n ≤ row → FillsRows s n before room

@@ -28,7 +28,10 @@ module _ (text : List ℕ) {h : Past} (t : Passes text (header text) h) where
     after = ap afterHeader (pass-yes t e)
 
     pub whole-one : h .next ≡ length text → sheetOf text ≡ bad 1
-    whole-one f = after ∙ ended-yes (drop (h .next) text) (bad 1) (records 256 0 (drop (h .next) text)) (omega (arith, length-drop (h .next) text))
+    whole-one f =
+        after
+        ∙ ended-yes (drop (h .next) text) (bad 1) (records 256 0 (drop (h .next) text))
+        (omega (arith, length-drop (h .next) text))
 
     module _ (f : h .next ≡ length text → ⊥) where
       pub some-text : 0 < length (drop (h .next) text)
@@ -52,7 +55,8 @@ tally-wrong (bad k) n e = ap bad (let q : k ≡ n = cc in q)
 
 module _ {s : List ℕ} {r : Tallied} (t : Tallies s r) where
   pub tallied-wrong : r .good ≡ false → records 256 0 s ≡ bad (r .count)
-  tallied-wrong e = tally-wrong (records 256 0 s) (r .count) (t .told ∙ ap (λ (b : Bool). cond b (rows (r .count)) (wrong (r .count))) e)
+  tallied-wrong e =
+      tally-wrong (records 256 0 s) (r .count) (t .told ∙ ap (λ (b : Bool). cond b (rows (r .count)) (wrong (r .count))) e)
 
   pub tallied-good : r .good ≡ true → (numbers : List ℕ) × (records 256 0 s ≡ sheet (r .count) numbers)
   tallied-good e = tally-good (records 256 0 s) (r .count) (t .told ∙ ap (λ (b : Bool). cond b (rows (r .count)) (wrong (r .count))) e)
@@ -72,7 +76,8 @@ module _ (text before : List ℕ) {h : Past} (t : Passes text (header text) h) (
     pub reads-some : 1 ≤ r .count
     reads-some = let n = tallied-good c g in records-some 256 0 u (r .count) (n .0) (omega (arith, ap length d, some-text text t e f)) (n .1)
 
-    pub reads-all : (w after : List ℕ) → w ≡ drop (h .next) text → columns * r .count ≤ length before → FillsRows w (r .count) before after
+    pub reads-all : (w after : List ℕ) → w ≡ drop (h .next) text → columns * r .count ≤ length before
+        → FillsRows w (r .count) before after
         → Reads (reading text (length before)) (Sites (r .count - 1)) before after
     reads-all w after k i a =
         let n = tallied-good c g in

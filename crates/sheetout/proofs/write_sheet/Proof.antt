@@ -43,7 +43,7 @@ returns-3 c =
     let a = c .before .before .before .before .before .before .args in
     let s = sheetText (a .rows .now) (a .count) in
     let room = length (a .out .now) in
-    let short : room < length s = omega (arith, text-length (a .rows .now) (a .count), c .before .records-size .ensures .0, c .if3 .taken) in
+    let short : room < length s = omega (arith, header-length, text-length (a .rows .now) (a .count), c .before .records-size .ensures .0, c .if3 .taken) in
     refused 16 0 (a .out .now)
     (writing-fitting (a .rows .now) (a .count) room (c .before .before .before .if1 .left) (c .before .before .if2 .left)
     ∙ fitting-short 16 s room short)
@@ -66,7 +66,7 @@ returns-4 c =
     let s = sheetText rows (a .count) in
     let room = length (a .out .now) in
     let n = c .before .before .before .before .before .before .before .before .before .records-size in
-    let size : length s ≡ 34 + n .result = omega (arith, text-length rows (a .count), n .ensures .0) in
+    let size : length s ≡ 34 + n .result = omega (arith, header-length, text-length rows (a .count), n .ensures .0) in
     let fits : length s ≤ room = omega (arith, size, c .before .before .before .before .before .before .before .before .if3 .left) in
     let decided = writing-fitting rows (a .count) room (c .before .before .before .before .before .before .before .before .before .before .before .if1 .left) (c .before .before .before .before .before .before .before .before .before .before .if2 .left) ∙ fitting-text 16 s room fits in
     written s (a .out .now) _ _ decided size

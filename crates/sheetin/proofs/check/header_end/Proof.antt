@@ -1,21 +1,16 @@
 -- `sheetin::check::header_end` meets its contract: the first name of the table, and then the others. Assumes nothing.
 use borrow.Author.Needs.{needs}
 use Prim.Native.Nat.{ℕ}
-use mathlib.Core.List.{List}
-use mathlib.Core.Path.{refl, ap, _∙_}
+use mathlib.Core.Path.{ap, _∙_}
 use native.Mathlib.Nat.{sub-zero}
 use native.Mathlib.Omega.{arith}
 use borrow.Author.Tests.{not-true, not-false}
 use lib.ListN.{length, take, length-drop}
-use Rattle.sheet.specs.Text.{codes}
+use Rattle.sheet.proofs.Names.{table}
 use Rattle.sheetin.proofs.Front.{no-pass, pass-no, rest-is, shift-pass}
 use Rattle.sheetin.proofs.Head.{header-no, header-yes, first-name}
 use Rattle.sheetin.proofs.check.header_end.Statement.{statement}
 use Rattle.sheetin.proofs.check.header_end.Tie as tie
-
--- the table of names, as the code has it
-abbrev table : List ℕ
-table = codes "row,calls,work,span,local,onspan"
 
 slice-aggregate-to-end : tie.Need-slice-aggregate-to-end
 slice-aggregate-to-end c = search needs
@@ -38,7 +33,7 @@ name-at-requires c κs = search needs
 returns : tie.Need-returns
 returns c =
     let n = c .before .before .before .before .before .to-end in
-    let first = ap (λ (k : ℕ). take k table) (sub-zero (n .result)) ∙ first-name table (n .result) refl (n .ensures .0) .0 in
+    let first = ap (λ (k : ℕ). take k table) (sub-zero (n .result)) ∙ first-name (n .result) (n .ensures .0) .0 in
     no-pass
     (header-no (c .before .before .before .before .before .before .before .before .args .s .now) _
     (c .before .before .name-at .ensures) first (not-true _ (c .if1 .taken)))
@@ -64,14 +59,14 @@ part-names-end-end-2 c = search needs
 names-end-requires : tie.Need-names-end-requires
 names-end-requires c κs =
     let n = c .before .before .before .before .before .before .before .before .to-end in
-    rest-is table (n .result) (n .ensures .1) ∙ first-name table (n .result) refl (n .ensures .0) .1
+    rest-is table (n .result) (n .ensures .1) ∙ first-name (n .result) (n .ensures .0) .1
 
 returns-2 : tie.Need-returns-2
 returns-2 c =
     let s = c .before .before .before .before .before .before .before .before .before .before .before .before .before .before .args .s .now in
     let n = c .before .before .before .before .before .before .before .before .before .before .before .to-end in
     let p = c .before .before .before .before .before .before .before .before .name-at in
-    let first = ap (λ (k : ℕ). take k table) (sub-zero (n .result)) ∙ first-name table (n .result) refl (n .ensures .0) .0 in
+    let first = ap (λ (k : ℕ). take k table) (sub-zero (n .result)) ∙ first-name (n .result) (n .ensures .0) .0 in
     no-pass
     (header-yes s _ (p .ensures) first (not-false _ (c .before .before .before .before .before .before .if1 .left)) _
     (rest-is s (p .result .next) (p .ensures .within))
@@ -89,7 +84,7 @@ returns-3 c =
     let s = c .before .before .before .before .before .before .before .before .before .before .before .before .before .before .before .args .s .now in
     let n = c .before .before .before .before .before .before .before .before .before .before .before .before .to-end in
     let p = c .before .before .before .before .before .before .before .before .before .name-at in
-    let first = ap (λ (k : ℕ). take k table) (sub-zero (n .result)) ∙ first-name table (n .result) refl (n .ensures .0) .0 in
+    let first = ap (λ (k : ℕ). take k table) (sub-zero (n .result)) ∙ first-name (n .result) (n .ensures .0) .0 in
     let rest = rest-is s (p .result .next) (p .ensures .within) in
     shift-pass s (p .result .next) (p .ensures .within) rest
     (header-yes s _ (p .ensures) first
