@@ -1,6 +1,6 @@
 #!/bin/sh
-# run.sh: builds the archive, the C example and the C test for this machine with the system's C compiler and runs both.
-# What the example prints is held, whole and with its status, against the page of the example traces. CC names another
+# run.sh: builds the archive, the C examples and the C test for this machine with the system's C compiler and runs them.
+# What the examples print is held, whole and with their status, against the page of the examples. CC names another
 # compiler.
 set -eu
 cd "$(dirname "$0")/.."
@@ -9,7 +9,7 @@ numbers c/run.sh 0 "$@"
 cc=${CC:-cc} out=target/c lib=${NYO_LIB_DIR:-target/native}
 [ -n "${NYO_LIB_DIR:-}" ] || tools/native-lib.sh
 mkdir -p "$out"
-for program in test profile; do
+for program in test profile sheet; do
     "$cc" -std=c99 -O2 -Wall -Wextra -Wpedantic -Werror -Iinclude "c/$program.c" "$lib/libnyolifuwe.a" -o "$out/$program"
 done
 echo '#include "nyolifuwe.h"' | "$cc" -std=c99 -Wall -Wextra -Wpedantic -Werror -Iinclude -fsyntax-only -x c -
@@ -32,14 +32,15 @@ shown() {
         index($0, "| " name " |") == 1 { n = split($0, cell, "`"); print cell[n - 1] }' examples/README.md
 }
 
-# tried STATUS SAID COMMAND: the command ends with this status, says so on standard error, and has printed, to the byte,
-# what stands in the file `wanted`.
+# tried STATUS SAID COMMAND: the command ends with this status, says so on standard error (nothing, where SAID is empty),
+# and has printed, to the byte, what stands in the file `wanted`.
 passed=0 profile=$out/profile wanted=$out/wanted
 export profile
+says() { if [ -n "$1" ]; then grep -q -- "$1" "$out/said"; else [ ! -s "$out/said" ]; fi; }
 tried() {
     status=0
     sh -c "$3" </dev/null >"$out/printed" 2>"$out/said" || status=$?
-    if [ "$status" != "$1" ] || ! cmp "$wanted" "$out/printed" || ! grep -q -- "$2" "$out/said"; then
+    if [ "$status" != "$1" ] || ! cmp "$wanted" "$out/printed" || ! says "$2"; then
         echo "$3: wanted status $1, what $wanted holds, and '$2'"
         echo "came status $status, what $out/printed holds, and: $(cat "$out/said")"
         exit 1
@@ -76,5 +77,23 @@ for trace in case-i refusal-14; do
     tried 3 '^profile: standard output: ' "\$profile examples/$trace.trace >/dev/full"
     tried 3 '^profile: standard output: ' "\$profile examples/$trace.trace >&-"
 done
-echo "the C example: $passed passed, 0 failed"
+
+# The sheet of case I written, and read back bare and in quotes; two that are not good, and too little room.
+sheet=$out/sheet
+export sheet
+cp examples/case-i.csv "$wanted"
+tried 0 '' '$sheet write examples/case-i.trace'
+shown case-i.trace >"$wanted"
+for name in case-i case-i-quoted; do tried 0 '' "\$sheet read 2 examples/$name.csv"; done
+echo ff0f00000000 >"$wanted"
+tried 1 '^sheet: refusal 15, record 0$' '$sheet read 2 examples/refusal-15-line-ends.csv'
+echo ff0f00000001 >"$wanted"
+tried 1 '^sheet: refusal 15, record 1$' '$sheet read 2 examples/refusal-15-number.csv'
+echo ff1000000000 >"$wanted"
+tried 1 '^sheet: refusal 16, line 0$' '$sheet read 1 examples/case-i.csv'
+: >"$wanted"
+tried 2 '^usage: sheet ' '$sheet read 256'
+tried 3 '^sheet: no-such-file: ' '$sheet write no-such-file'
+tried 3 '^sheet: standard output: ' '$sheet write examples/case-i.trace >/dev/full'
+echo "the C examples: $passed passed, 0 failed"
 "$out/test"

@@ -169,6 +169,52 @@ static void refusals_are_written(void) {
     CHECK(refusal(14, 0, 13, 0) == 4 && nothing_written());
 }
 
+static const char case_i_sheet[] =
+    "row,calls,work,span,local,onspan\r\n"
+    "0,1,10,9,2,2\r\n"
+    "1,1,8,7,1,0\r\n"
+    "2,1,7,7,7,7\r\n";
+
+static uint64_t csv_write(size_t n, uint64_t count, size_t room, size_t count_room) {
+    uint8_t *text = lend_chars(&out, room);
+    uint64_t *to = lend_numbers(&written, count_room);
+    return nyo_csv_write(case_i_rows, n, count, text, room, to, count_room);
+}
+
+static void sheets_are_written(void) {
+    CHECK(sizeof case_i_sheet - 1 == 74 && NYO_CSV_CHARS(2) == 34 + 3 * 127);
+    CHECK(csv_write(15, 2, 74, 1) == 0);
+    CHECK(chars_are(&out, case_i_sheet, 74) && numbers_are(&written, (const uint64_t[]){74}, 1));
+    CHECK(csv_write(15, 0, NYO_CSV_CHARS(0), 3) == 0);
+    CHECK(chars_are(&out, case_i_sheet, 48) && numbers_are(&written, (const uint64_t[]){48}, 1));
+    CHECK(csv_write(15, 256, 0, 0) == 1 && nothing_written());
+    CHECK(csv_write(14, 2, 0, 1) == 4 && nothing_written());
+    CHECK(csv_write(15, 2, 0, 0) == 4 && nothing_written());
+    CHECK(csv_write(15, 2, 73, 1) == 16 && nothing_written());
+}
+
+static uint64_t csv_read(const char *text, size_t len, size_t room, size_t count_room) {
+    uint64_t *to_rows = lend_numbers(&rows, room), *to = lend_numbers(&written, count_room);
+    return nyo_csv_read((const uint8_t *)text, len, to_rows, room, to, count_room);
+}
+
+static int nothing_read(void) { return numbers_unchanged(&rows) && numbers_unchanged(&written); }
+
+static void sheets_are_read(void) {
+    CHECK(csv_read(case_i_sheet, 74, 15, 1) == 0);
+    CHECK(numbers_are(&rows, case_i_rows, 15) && numbers_are(&written, (const uint64_t[]){2}, 1));
+    CHECK(csv_read(case_i_sheet, 72, 20, 2) == 0);
+    CHECK(numbers_are(&rows, case_i_rows, 15) && numbers_are(&written, (const uint64_t[]){2}, 1));
+    const char quoted[] = "row,\"calls\",work,span,local,onspan\r\n\"0\",1,10,9,2,\"2\"";
+    CHECK(csv_read(quoted, sizeof quoted - 1, 5, 1) == 0);
+    CHECK(numbers_are(&rows, case_i_rows, 5) && numbers_are(&written, (const uint64_t[]){0}, 1));
+    CHECK(csv_read(case_i_sheet, 0, 15, 0) == 4 && nothing_read());
+    CHECK(csv_read(case_i_sheet, 0, 15, 1) == 15 && nothing_read());
+    CHECK(csv_read(case_i_sheet, 34, 15, 1) == 15 + 256 * 1 && nothing_read());
+    CHECK(csv_read(case_i_sheet, 73, 15, 1) == 15 + 256 * 3 && nothing_read());
+    CHECK(csv_read(case_i_sheet, 74, 14, 1) == 16 && nothing_read());
+}
+
 /* Both engines on a trace, with so many numbers less lent than needed for scratch, rows, answer and marks. */
 typedef struct {
     size_t scratch, rows, answer, marks;
@@ -235,6 +281,8 @@ int main(void) {
     lines_are_written();
     reports_are_written();
     refusals_are_written();
+    sheets_are_written();
+    sheets_are_read();
     traces_are_profiled();
     traces_are_refused();
     printf("%u passed, %u failed\n", passed, failed);

@@ -151,7 +151,7 @@ static void put_trace(Trace *t, Input *in) {
 
 /* ---- what holds ---- */
 
-static Pages of_trace, of_scratch, of_marks, of_rows, of_answer, of_frame, of_out, of_written;
+static Pages of_trace, of_scratch, of_marks, of_rows, of_answer, of_frame, of_out, of_text, of_written;
 
 static void reserve(void) {
     make_rubbish();
@@ -161,7 +161,8 @@ static void reserve(void) {
     of_rows = pages_of(8 * NYO_ROWS(NYO_MOST_SITES));
     of_answer = pages_of(8 * NYO_ANSWER);
     of_frame = pages_of(8 * NYO_FRAME);
-    of_out = pages_of(NYO_REPORT_CHARS(NYO_MOST_SITES));
+    of_out = pages_of(NYO_CSV_CHARS(NYO_MOST_SITES));
+    of_text = pages_of(2 * NYO_CSV_CHARS(NYO_MOST_SITES) + 64);
     of_written = pages_of(8);
 }
 
@@ -231,6 +232,70 @@ static void print_report(const uint64_t *rows, size_t rows_len, uint64_t sites, 
     MUST(numbers(&written)[0] == NYO_REPORT_CHARS(sites) && kept_from(&written, 8) && kept_from(&out, NYO_REPORT_CHARS(sites)));
 }
 
+/* The rows as comma-separated text, by the C library. */
+static size_t expected_sheet(char *text, const uint64_t *rows, uint64_t sites) {
+    size_t n = (size_t)sprintf(text, "row,calls,work,span,local,onspan\r\n");
+    for (size_t row = 0; row <= sites; row++) {
+        n += (size_t)sprintf(text + n, "%zu", row);
+        for (size_t k = 0; k < NYO_COLUMNS; k++) n += (size_t)sprintf(text + n, ",%llu", (unsigned long long)rows[NYO_COLUMNS * row + k]);
+        n += (size_t)sprintf(text + n, "\r\n");
+    }
+    return n;
+}
+
+/* A text, whatever it is, read: what is accepted is what the writer writes of it, but for quotes and the last line end. */
+static void read_sheet(const uint8_t *chars, size_t len, size_t near, Input *in) {
+    static char again[NYO_CSV_CHARS(NYO_MOST_SITES) + 1], bare[2 * NYO_CSV_CHARS(NYO_MOST_SITES) + 64];
+    Room text = lend(&of_text, len, in), rows = lend(&of_rows, enough(near, 8, in), in), sites = lend(&of_written, enough(1, 8, in), in);
+    memcpy(text.at, chars, len);
+    uint64_t given = nyo_csv_read(text.at, len, numbers(&rows), rows.bytes / 8, numbers(&sites), sites.bytes / 8);
+    count(48 + NYO_NUMBER(given), NYO_LINE(given));
+    MUST(!memcmp(text.at, chars, len));
+    if (given) {
+        MUST(NYO_NUMBER(given) == 15 || given == 4 || given == 16);
+        MUST(NYO_LINE(given) <= NYO_MOST_SITES + 2 && kept_from(&rows, 0) && kept_from(&sites, 0));
+        return;
+    }
+    MUST(numbers(&sites)[0] <= NYO_MOST_SITES && kept_from(&sites, 8) && kept_from(&rows, 8 * NYO_ROWS(numbers(&sites)[0])));
+    size_t n = 0;
+    for (size_t i = 0; i < len; i++)
+        if (chars[i] != '"') bare[n++] = (char)chars[i];
+    if (n < 2 || bare[n - 1] != '\n') memcpy(bare + n, "\r\n", 2), n += 2;
+    MUST(n == expected_sheet(again, numbers(&rows), numbers(&sites)[0]) && !memcmp(bare, again, n));
+}
+
+/* The rows written as comma-separated text and read again, as it is, with quotes, and with some characters changed. */
+static void sheet(const uint64_t *rows, size_t rows_len, uint64_t sites, Input *in) {
+    static char expected[NYO_CSV_CHARS(NYO_MOST_SITES) + 1];
+    static uint8_t text[2 * NYO_CSV_CHARS(NYO_MOST_SITES) + 64];
+    size_t len = expected_sheet(expected, rows, sites), n = 0;
+    Room out = lend(&of_out, enough(len, 1, in), in), written = lend(&of_written, enough(1, 8, in), in);
+    uint64_t given = nyo_csv_write(rows, rows_len, sites, out.at, out.bytes, numbers(&written), written.bytes / 8);
+    count(6, given);
+    MUST(len <= NYO_CSV_CHARS(sites));
+    if (given) {
+        MUST((given == 4 || given == 16) && kept_from(&out, 0) && kept_from(&written, 0));
+    } else {
+        MUST(numbers(&written)[0] == len && kept_from(&written, 8));
+        MUST(!memcmp(out.at, expected, len) && kept_from(&out, len));
+    }
+    unsigned quotes = next(in);
+    for (size_t i = 0, open = 0; i < len; i++) {
+        int field = expected[i] != ',' && expected[i] != '\r' && expected[i] != '\n';
+        if (field && !open && (quotes & 1 << i % 8)) text[n++] = '"', open = 1;
+        if (!field && open) text[n++] = '"', open = 0;
+        text[n++] = (uint8_t)expected[i];
+        if (!field) open = 0;
+    }
+    if (quotes & 1) n -= 2;
+    read_sheet(text, n, NYO_ROWS(sites), in);
+    for (unsigned changes = next(in) % 4; changes > 0; changes--) {
+        size_t place = ((size_t)next(in) << 8 | next(in)) % n;
+        text[place] = next(in) % 2 ? (uint8_t)next(in) : (uint8_t)"\",\r\n0 "[next(in) % 6];
+    }
+    read_sheet(text, n, NYO_ROWS(sites), in);
+}
+
 static int all_zero(const Room *r) {
     for (size_t i = 0; i < r->bytes; i++)
         if (r->at[i]) return 0;
@@ -270,6 +335,7 @@ static void profile(const Room *trace, Input *in) {
         count(32, first_answer[0] - first_answer[1]);
         count(33, first_answer[2]);
         print_report(first_rows, NYO_ROWS(first_answer[2]), first_answer[2], in);
+        sheet(first_rows, NYO_ROWS(first_answer[2]), first_answer[2], in);
     }
 
     scratch = lend(&of_scratch, enough(NYO_MARKS_SCRATCH(d), 8, in), in), rows = lend(&of_rows, enough(NYO_ROWS(m), 8, in), in);
@@ -310,5 +376,6 @@ int LLVMFuzzerTestOneInput(const uint8_t *data, size_t size) {
     read_and_write(trace.at, written.len < NYO_LINE_CHARS || next(&head) > 250 ? written.len : NYO_LINE_CHARS, &head);
     uint64_t number = next(&head), line = (uint64_t)next(&head) << (next(&head) % 48);
     print_refusal(number + (next(&head) > 250) * 256, line, &head);
+    read_sheet(data, size < MOST_CHARS ? size : MOST_CHARS, NYO_ROWS(next(&head)), &head);
     return 0;
 }

@@ -13,7 +13,7 @@
  *
  * Every function answers 0 where it accepts, and otherwise a refusal: its number + 256 times its line, lines numbered
  * from 0. A refusal changes nothing that was lent. Where several refusals apply, the one with the smallest number is
- * given, except that refusals 5 and above of a trace are those of its first faulty line.
+ * given, except that refusals 5 to 14 of a trace are those of its first faulty line.
  *
  * All memory is the caller's: no function allocates, keeps a pointer, prints, or has state. Calls on memory that
  * does not overlap may run at the same time. Every slice passes as a pointer and the number of its elements. A pointer
@@ -60,6 +60,12 @@ enum { NYO_CALLS, NYO_WORK, NYO_SPAN, NYO_LOCAL, NYO_ON_SPAN };
 #define NYO_ROWS(sites) (NYO_COLUMNS * ((size_t)(sites) + 1))
 #define NYO_REPORT_CHARS(count) (NYO_ROW_CHARS * ((size_t)(count) + 1))
 
+/* Characters of comma-separated text: of its header, of a record at most (numbers of 20 digits, each with a comma or CR
+ * behind it, and a LF), and of the text of count sites at most. */
+#define NYO_CSV_HEADER_CHARS 34
+#define NYO_CSV_ROW_CHARS (21 * (1 + NYO_COLUMNS) + 1)
+#define NYO_CSV_CHARS(count) (NYO_CSV_HEADER_CHARS + NYO_CSV_ROW_CHARS * ((size_t)(count) + 1))
+
 /* The refusals. */
 enum {
     NYO_LIMITS = 1,      /* depth, sites, count, number or line outside its range */
@@ -75,7 +81,9 @@ enum {
     NYO_UNDECLARED = 11, /* call or spawn of site 0 or of one not declared */
     NYO_DEPTH = 12,      /* more invocations open than the depth limit */
     NYO_OVERFLOW = 13,   /* total work or a row number beyond 64 bits: never within the limits above */
-    NYO_UNFINISHED = 14  /* lines end before the root's return; the line is the number of lines */
+    NYO_UNFINISHED = 14, /* lines end before the root's return; the line is the number of lines */
+    NYO_CSV_RECORD = 15, /* a record of comma-separated text is not good or is missing; the line is its number, header 0 */
+    NYO_CSV_ROOM = 16    /* output shorter than comma-separated text, or room for fewer rows than it has */
 };
 
 /* Profiles a trace with the table engine.
@@ -124,6 +132,26 @@ uint64_t nyo_report(const uint64_t *rows, size_t rows_len, uint64_t count, uint8
  * Refusals, each with line 0: 1 for a number above 255 or a line above 4,294,967,295, then 4. */
 uint64_t nyo_refusal(uint64_t number, uint64_t line, uint8_t *out, size_t out_len, uint64_t *written,
                      size_t written_len);
+
+/* Writes the rows of the root and count sites as comma-separated text (RFC 4180): the header
+ * row,calls,work,span,local,onspan, then a record for each row, in decimal, without quotes, each record ended by CR LF;
+ * and into written[0] how many characters they are.
+ *   rows     NYO_ROWS(count)
+ *   out      the text's own length; NYO_CSV_CHARS(count) is always enough
+ *   written  1
+ * Refusals, each with line 0: 1 for a count above 255, 4 for rows or written too short, then 16 for output too short. */
+uint64_t nyo_csv_write(const uint64_t *rows, size_t rows_len, uint64_t count, uint8_t *out, size_t out_len,
+                       uint64_t *written, size_t written_len);
+
+/* Reads such text back: the rows, and into count[0] how many sites they are besides the root. Any field may be in double
+ * quotes, and the last record may lack its line end. Good text is the header, then 1 to 256 records of six decimal
+ * numbers of 64 bits without a leading zero, the first of them 0, 1, 2 and on.
+ *   rows     NYO_COLUMNS for each record; NYO_ROWS(NYO_MOST_SITES) is always enough
+ *   count    1
+ * Refusals: 4 with line 0 for count too short, then 15 with the number of the first record (the header is 0) that is not
+ * good or is missing, then 16 with line 0 for rows too short. */
+uint64_t nyo_csv_read(const uint8_t *text, size_t text_len, uint64_t *rows, size_t rows_len, uint64_t *count,
+                      size_t count_len);
 
 #ifdef __cplusplus
 }

@@ -6,6 +6,7 @@ pub mod fixed;
 pub mod generate;
 pub mod rng;
 pub mod shapes;
+pub mod sheets;
 pub mod shrink;
 pub mod tell;
 

@@ -22,6 +22,7 @@ pub mod refusal;
 pub mod report;
 pub mod rows;
 pub mod shape;
+pub mod sheet;
 #[cfg(nyolifuwe)]
 pub mod sys;
 pub mod trace;

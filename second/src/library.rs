@@ -1,8 +1,8 @@
-//! The six functions of the C interface, and the second program behind them.
+//! The eight functions of the C interface, and the second program behind them.
 //!
 //! Each answers 0 for accepted and otherwise number + 256 · line, and a refusal leaves everything lent as it was. The
-//! interface lends some slices that the rules do not speak of: the answer, the frame, the count of characters written.
-//! One that is too short is refusal 4, in the order of the numbers: after 1, 2 and 3, before 5 and 6.
+//! interface lends some slices that the rules do not speak of: the answer, the frame, the count of characters written
+//! or of sites read. One that is too short is refusal 4, in the order of the numbers: after 1, 2 and 3, before 5 and above.
 
 use crate::chain::{self, Chains};
 use crate::check::{self, Lent, Limits};
@@ -12,6 +12,7 @@ use crate::refusal::{Ground, Refusal};
 use crate::report;
 use crate::rows::{profile, Profile};
 use crate::shape::Shape;
+use crate::sheet;
 
 /// What both programs can be asked. Slices are lent; an answer is total work, total span, sites and lines, a frame is
 /// kind, site, value, file and column.
@@ -36,6 +37,10 @@ pub trait Library {
     fn report(&self, rows: &[u64], count: u64, out: &mut [u8], written: &mut [u64]) -> u64;
     /// The writer of a refusal.
     fn refusal(&self, number: u64, line: u64, out: &mut [u8], written: &mut [u64]) -> u64;
+    /// The writer of comma-separated text.
+    fn csv_write(&self, rows: &[u64], count: u64, out: &mut [u8], written: &mut [u64]) -> u64;
+    /// The reader of comma-separated text.
+    fn csv_read(&self, text: &[u8], rows: &mut [u64], count: &mut [u64]) -> u64;
 }
 
 /// The second program, with the way in which it looks for chains.
@@ -118,6 +123,21 @@ impl Library for Second {
 
     fn refusal(&self, number: u64, line: u64, out: &mut [u8], written: &mut [u64]) -> u64 {
         at_0(report::refusal(number, line, out.len()).and_then(|text| put_text(&text, out, written)))
+    }
+
+    fn csv_write(&self, rows: &[u64], count: u64, out: &mut [u8], written: &mut [u64]) -> u64 {
+        let text = sheet::write(rows, count, out.len(), written.len());
+        at_0(text.and_then(|text| put_text(&text, out, written)))
+    }
+
+    fn csv_read(&self, text: &[u8], rows: &mut [u64], count: &mut [u64]) -> u64 {
+        let Some(sites) = count.first_mut() else {
+            return code(Err(Ground::Room.at(0)));
+        };
+        code(sheet::read(text, rows.len()).map(|numbers| {
+            *sites = numbers.len() as u64 / 5 - 1;
+            put(rows, &numbers);
+        }))
     }
 }
 

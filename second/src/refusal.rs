@@ -32,6 +32,10 @@ pub enum Ground {
     Beyond64Bits = 13,
     /// "lines end before the root's return"
     Unfinished = 14,
+    /// "the first record (the header is 0) that isn't good or is missing"
+    Record = 15,
+    /// "output shorter than the text", "room below five numbers a row"
+    SheetRoom = 16,
 }
 
 /// "Refused: a number and a line."

@@ -51,6 +51,23 @@ extern "C" {
         written_len: usize,
     ) -> u64;
     fn nyo_refusal(number: u64, line: u64, out: *mut u8, out_len: usize, written: *mut u64, written_len: usize) -> u64;
+    fn nyo_csv_write(
+        rows: *const u64,
+        rows_len: usize,
+        count: u64,
+        out: *mut u8,
+        out_len: usize,
+        written: *mut u64,
+        written_len: usize,
+    ) -> u64;
+    fn nyo_csv_read(
+        text: *const u8,
+        text_len: usize,
+        rows: *mut u64,
+        rows_len: usize,
+        count: *mut u64,
+        count_len: usize,
+    ) -> u64;
 }
 
 /// The proved library.
@@ -122,5 +139,17 @@ impl Library for Proved {
     fn refusal(&self, number: u64, line: u64, out: &mut [u8], written: &mut [u64]) -> u64 {
         let (out_len, written_len) = (out.len(), written.len());
         unsafe { nyo_refusal(number, line, out.as_mut_ptr(), out_len, written.as_mut_ptr(), written_len) }
+    }
+
+    fn csv_write(&self, rows: &[u64], count: u64, out: &mut [u8], written: &mut [u64]) -> u64 {
+        let (out_len, written_len) = (out.len(), written.len());
+        let (out, written) = (out.as_mut_ptr(), written.as_mut_ptr());
+        unsafe { nyo_csv_write(rows.as_ptr(), rows.len(), count, out, out_len, written, written_len) }
+    }
+
+    fn csv_read(&self, text: &[u8], rows: &mut [u64], count: &mut [u64]) -> u64 {
+        let (rows_len, count_len) = (rows.len(), count.len());
+        let (rows, count) = (rows.as_mut_ptr(), count.as_mut_ptr());
+        unsafe { nyo_csv_read(text.as_ptr(), text.len(), rows, rows_len, count, count_len) }
     }
 }

@@ -145,11 +145,12 @@ fn a_long_trace_shrinks_as_far() {
 struct Wrong {
     before: fn(&mut Vec<u8>),
     after: fn(code: u64, scratch: &mut [u64], rows: &mut [u64], answer: &mut [u64]),
+    sheet: fn(&mut Vec<u8>),
 }
 
 impl Default for Wrong {
     fn default() -> Wrong {
-        Wrong { before: |_| (), after: |_, _, _, _| () }
+        Wrong { before: |_| (), after: |_, _, _, _| (), sheet: |_| () }
     }
 }
 
@@ -188,6 +189,16 @@ impl Library for Wrong {
 
     fn refusal(&self, number: u64, line: u64, out: &mut [u8], written: &mut [u64]) -> u64 {
         Second::by_paths().refusal(number, line, out, written)
+    }
+
+    fn csv_write(&self, rows: &[u64], count: u64, out: &mut [u8], written: &mut [u64]) -> u64 {
+        Second::by_paths().csv_write(rows, count, out, written)
+    }
+
+    fn csv_read(&self, text: &[u8], rows: &mut [u64], count: &mut [u64]) -> u64 {
+        let mut text = text.to_vec();
+        (self.sheet)(&mut text);
+        Second::by_paths().csv_read(&text, rows, count)
     }
 }
 
@@ -240,4 +251,31 @@ fn an_answer_written_with_a_refusal() {
     };
     let told = first_difference(&Wrong { after, ..Wrong::default() }).to_string();
     assert!(told.contains("table engine's answer, number 0: second "), "{told}");
+}
+
+/// What the first difference on a sheet says, where the stand-in reads another text than was lent.
+fn sheet_difference(sheet: fn(&mut Vec<u8>)) -> String {
+    let told = first_difference(&Wrong { sheet, ..Wrong::default() }).to_string();
+    assert!(told.contains("sheet reader: second") || told.contains("rows, number"), "{told}");
+    told
+}
+
+#[test]
+fn a_sheet_read_without_its_quotes() {
+    let told = sheet_difference(|text| text.retain(|c| *c != b'"'));
+    assert!(told.contains("the stand-in accepted"), "{told}");
+}
+
+#[test]
+fn a_sheet_whose_last_line_is_not_looked_at() {
+    sheet_difference(|text| text.truncate(text.len().saturating_sub(1)));
+}
+
+#[test]
+fn a_number_with_a_leading_zero() {
+    sheet_difference(|text| {
+        let zero = (1..text.len().max(2) - 1)
+            .find(|&n| text[n - 1] == b',' && text[n] == b'0' && text[n + 1].is_ascii_digit());
+        zero.map(|n| text.remove(n));
+    });
 }

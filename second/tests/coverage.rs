@@ -28,6 +28,20 @@ fn every_verdict_is_reached() {
 }
 
 #[test]
+fn every_verdict_on_a_sheet_is_reached() {
+    let cases = || (0..20_000).map(|number| generate::case(1, number));
+    let writes = verdicts(cases().filter(|case| matches!(case.question, Question::WriteSheet { .. })));
+    let reads = verdicts(cases().filter(|case| matches!(case.question, Question::ReadSheet { .. })));
+    println!("{writes:?} {reads:?}");
+    for verdict in [0, 1, 4, 16] {
+        assert!(writes.get(&verdict).is_some_and(|&times| times >= 30), "{verdict}: {writes:?}");
+    }
+    for verdict in [0, 4, 15, 16] {
+        assert!(reads.get(&verdict).is_some_and(|&times| times >= 30), "{verdict}: {reads:?}");
+    }
+}
+
+#[test]
 fn good_traces_reach_the_limits() {
     let wide = Limits { depth: 64, sites: 255 };
     let room: Lent = wide.for_tables();

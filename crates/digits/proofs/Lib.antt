@@ -1,3 +1,6 @@
+pub mod Figures
+mod FiguresRead
+mod FiguresWritten
 pub mod Joined
 pub mod Lanes
 pub mod Laws

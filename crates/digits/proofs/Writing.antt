@@ -15,7 +15,7 @@ digits-length zero x = refl
 digits-length (suc n) x = length-append (digits n (x / 16)) (digit (x % 16) ∷ []) ∙ ap (λ (m : ℕ). m + 1) (digits-length n (x / 16)) ∙ add-one n
 
 -- a store at j, and the rest from j on
-stored : (p : List ℕ) (j v : ℕ) → j < length p → drop j (set p j v) ≡ v ∷ drop (suc j) p
+pub stored : (p : List ℕ) (j v : ℕ) → j < length p → drop j (set p j v) ≡ v ∷ drop (suc j) p
 stored p j v h =
     let h′ : j < length (set p j v) = simp length-set h in
     drop-cons (set p j v) j 0 h′

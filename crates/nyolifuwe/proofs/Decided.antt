@@ -152,7 +152,7 @@ pub tells : (d : Decision) {r : Wrote} {given : ℕ} {text text′ written writt
 tells (write s) {written = written} w g n = record { answered = g ∙ ap told (w .answered); text-left = w .left; count-left = n ∙ ap (λ (r : Wrote). noted r written) (w .answered) }
 tells (refuse number line) {written = written} w g n = record { answered = g ∙ ap told (w .answered); text-left = w .left; count-left = n ∙ ap (λ (r : Wrote). noted r written) (w .answered) }
 
-pub fitting-at-0 : (s : List ℕ) (room : ℕ) {r : Wrote} → r ≡ answer (fitting s room) → lineOf r ≤ 65536
+pub fitting-at-0 : (s : List ℕ) (room : ℕ) {r : Wrote} → r ≡ answer (fitting 4 s room) → lineOf r ≤ 65536
 fitting-at-0 s room e = let z = ap lineOf e ∙ go (ltb room (length s)) in omega arith
   where
     go : (b : Bool) → lineOf (answer (cond b (refuse 4 0) (write s))) ≡ 0

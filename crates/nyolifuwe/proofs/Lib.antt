@@ -1,3 +1,4 @@
 mod Front
 mod Decided
 mod Profiled
+mod Sheets

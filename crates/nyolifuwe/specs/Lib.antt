@@ -3,3 +3,5 @@ pub mod Lines
 pub mod Texts
 pub mod Inside
 pub mod Engines
+pub mod Sheets
+pub mod InsideSheets

@@ -4,6 +4,7 @@
 use line::Frame;
 use line::Read;
 use line::Wrote;
+use sheet::Counted;
 use trace::Answer;
 ghost use mathlib.Core.Path.{_≡_};
 ghost use Prim.Native.Nat.{_≤_};
@@ -17,6 +18,8 @@ ghost use Rattle.nyolifuwe.specs.Lines.{numbers, readFrame, writeFrame};
 ghost use Rattle.nyolifuwe.specs.Texts.{counted, Tells};
 ghost use Rattle.trace.specs.Promise.{Engine};
 ghost use Rattle.nyolifuwe.specs.Engines.{numbered, Profiles};
+ghost use Rattle.nyolifuwe.specs.Sheets.{csvWrite, csvRead, Takes};
+ghost use Rattle.nyolifuwe.specs.InsideSheets.{toldSites, recordIn, notedSites};
 ghost use Rattle.nyolifuwe.specs.Inside.{framedBy, told, lineOf, noted, lineIn, unroomy};
 
 // "kind, site, value, file, column"
@@ -248,4 +251,51 @@ pub extern "C" fn nyo_marks(
     }
     let found = marks::profile(trace, depth as usize, sites as usize, scratch, marks, rows);
     hand_over(found, answer)
+}
+
+// Writes the rows of `count` sites as comma-separated text: it goes to `out`, or refusal 1, 4 or 16.
+#[no_mangle]
+pub extern "C" fn nyo_csv_write(
+    rows: &[u64],
+    count: u64,
+    out: &mut [u8],
+    written: &mut [u64],
+) -> u64
+    ensures { λ r. ⌜ Tells
+        (csvWrite (now (rows .entry)) count (length (now (out .entry))) (length (now (written .entry)))) r
+        (now (out .entry)) (now (out .exit)) (now (written .entry)) (now (written .exit)) ⌝ }
+{
+    if 255 < count {
+        return 1;
+    }
+    if written.len() < 1 {
+        return 4;
+    }
+    tell(sheetout::write_sheet(rows, count as usize, out), written)
+}
+
+// What the reader of comma-separated text answered, in one number; the site count goes to `count`.
+fn tell_sites(found: Counted, count: &mut [u64]) -> u64
+    requires { ⌜ (recordIn found ≤ 65536) × (1 ≤ length (now count)) ⌝ }
+    ensures { λ r. ⌜ (r ≡ toldSites found) × (now (count .exit) ≡ notedSites found (now (count .entry))) ⌝ }
+{
+    match found {
+        Counted::Sites(n) => {
+            count[0] = n as u64;
+            0
+        }
+        Counted::Refused(number, at) => code(number, at),
+    }
+}
+
+// Reads comma-separated text: its rows go to `rows` and how many sites they are to `count`, or refusal 4, 15 or 16.
+#[no_mangle]
+pub extern "C" fn nyo_csv_read(text: &[u8], rows: &mut [u64], count: &mut [u64]) -> u64
+    ensures { λ r. ⌜ Takes (csvRead (now (text .entry)) (length (now (rows .entry))) (length (now (count .entry)))) r
+        (now (rows .entry)) (now (rows .exit)) (now (count .entry)) (now (count .exit)) ⌝ }
+{
+    if count.len() < 1 {
+        return 4;
+    }
+    tell_sites(sheetin::read_sheet(text, rows), count)
 }

@@ -28,11 +28,11 @@ written s before after n e l f =
 pub one-outcome : {d : Decision} {r q : Wrote} {before after other : List ℕ} → Writes d r before after → Writes d q before other → (r ≡ q) × (after ≡ other)
 one-outcome w v = (w .answered ∙ sym (v .answered), w .left ∙ sym (v .left))
 
-module _ (s : List ℕ) (room : ℕ) where
-  pub fitting-4 : room < length s → fitting s room ≡ refuse 4 0
-  fitting-4 h = simp (lt-ltb _ _ h)
+module _ (number : ℕ) (s : List ℕ) (room : ℕ) where
+  pub fitting-short : room < length s → fitting number s room ≡ refuse number 0
+  fitting-short h = simp (lt-ltb _ _ h)
 
-  pub fitting-text : length s ≤ room → fitting s room ≡ write s
+  pub fitting-text : length s ≤ room → fitting number s room ≡ write s
   fitting-text h = simp (le-ltb _ _ h)
 
 module _ (rows : List ℕ) (count room : ℕ) where
@@ -58,8 +58,8 @@ module _ (number line room : ℕ) where
     pub print-1-line : 4294967295 < line → printRefusal number line room ≡ refuse 1 0
     print-1-line h = simp (le-ltb _ _ fits, lt-ltb _ _ h)
 
-    pub print-fitting : line ≤ 4294967295 → {s : List ℕ} → s ≡ refusalText number line → printRefusal number line room ≡ fitting s room
-    print-fitting fits′ e = simp (le-ltb _ _ fits, le-ltb _ _ fits′) (sym (ap (λ (s : List ℕ). fitting s room) e))
+    pub print-fitting : line ≤ 4294967295 → {s : List ℕ} → s ≡ refusalText number line → printRefusal number line room ≡ fitting 4 s room
+    print-fitting fits′ e = simp (le-ltb _ _ fits, le-ltb _ _ fits′) (sym (ap (λ (s : List ℕ). fitting 4 s room) e))
 
     pub print-text : line ≤ 4294967295 → 13 ≤ room → printRefusal number line room ≡ write (refusalText number line)
     print-text fits′ h = simp (le-ltb _ _ fits, le-ltb _ _ fits′, le-ltb _ _ h)

@@ -1,6 +1,7 @@
 mod Parts
-mod Pieces
+pub mod Pieces
 pub mod Lines
 mod Examples
 pub mod Decisions
+pub mod Laying
 pub mod ReadBack

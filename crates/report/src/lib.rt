@@ -1,4 +1,6 @@
 // The report: a line for each row, and the line of a refusal.
+pub mod lay;
+
 use line::Wrote;
 use trace::COLUMNS;
 ghost use mathlib.Core.Path.{_≡_};
@@ -45,7 +47,7 @@ fn report_line(row: u16, numbers: &[u64]) -> ReportLine
 }
 
 // Copies all of `from` over `to`, which is as long.
-fn copy(to: &mut [u8], from: &[u8])
+pub(crate) fn copy(to: &mut [u8], from: &[u8])
     requires { ⌜ length (now to) ≡ length (now from) ⌝ }
     ensures { λ _. ⌜ now (to .exit) ≡ now (from .entry) ⌝ }
 {
@@ -58,7 +60,7 @@ fn copy(to: &mut [u8], from: &[u8])
 
 // Writes a text to the front of the output, or refuses: 4 for output too short.
 pub fn put_text(text: &[u8], out: &mut [u8]) -> Wrote
-    ensures { λ r. ⌜ Writes (fitting (now (text .entry)) (length (now (out .entry)))) r (now (out .entry))
+    ensures { λ r. ⌜ Writes (fitting 4 (now (text .entry)) (length (now (out .entry)))) r (now (out .entry))
         (now (out .exit)) ⌝ }
 {
     let n = text.len();

@@ -25,6 +25,10 @@ pub enum Question {
     Report { rows: Vec<u64>, count: u64, out: usize, written: usize },
     /// A number and a line, for the writer of a refusal.
     Refusal { number: u64, line: u64, out: usize, written: usize },
+    /// Rows, for the writer of comma-separated text.
+    WriteSheet { rows: Vec<u64>, count: u64, out: usize, written: usize },
+    /// Characters, for the reader of comma-separated text.
+    ReadSheet { text: Vec<u8>, rows: usize, count: usize },
 }
 
 /// How much more than needed is lent to the engines; less than needed where it is negative.
@@ -66,6 +70,10 @@ impl Case {
             Question::Refusal { number, line, out, written } => {
                 lender.refusal(library, [*number, *line], [*out, *written])
             }
+            Question::WriteSheet { rows, count, out, written } => {
+                lender.write_sheet(library, rows, *count, [*out, *written])
+            }
+            Question::ReadSheet { text, rows, count } => lender.read_sheet(library, text, [*rows, *count]),
         }
     }
 }
@@ -131,6 +139,22 @@ impl Lender {
         let mut written = self.numbers("count of characters", written);
         let code = library.refusal(number, line, out.lent(), written.lent());
         Outcome { codes: vec![("writer of a refusal", code)], bytes: vec![out], numbers: vec![written] }
+    }
+
+    fn write_sheet(&mut self, library: &dyn Library, rows: &[u64], count: u64, [out, written]: [usize; 2]) -> Outcome {
+        let mut rows = self.numbers("rows", rows.len()).holding(rows);
+        let mut out = self.bytes("output", out);
+        let mut written = self.numbers("count of characters", written);
+        let code = library.csv_write(rows.lent(), count, out.lent(), written.lent());
+        Outcome { codes: vec![("sheet writer", code)], bytes: vec![out], numbers: vec![rows, written] }
+    }
+
+    fn read_sheet(&mut self, library: &dyn Library, text: &[u8], [rows, count]: [usize; 2]) -> Outcome {
+        let mut text = self.bytes("text", text.len()).holding(text);
+        let mut rows = self.numbers("rows", rows);
+        let mut count = self.numbers("count of sites", count);
+        let code = library.csv_read(text.lent(), rows.lent(), count.lent());
+        Outcome { codes: vec![("sheet reader", code)], bytes: vec![text], numbers: vec![rows, count] }
     }
 
     fn bytes(&mut self, name: &'static str, length: usize) -> Room<u8> {

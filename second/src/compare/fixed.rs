@@ -1,6 +1,8 @@
-//! The traces that the rules name: the twelve, and the further ones that are to be run and compared.
+//! The traces that the rules name: the twelve, and the further ones that are to be run and compared; and the texts that tell
+//! good comma-separated text from any other.
 
 use super::case::{Case, Question, Spare};
+use super::sheets;
 use crate::check::{Limits, MOST_LINES};
 use crate::refusal::{Ground, Refusal};
 use crate::trace::Trace;
@@ -82,13 +84,14 @@ impl Further {
     }
 }
 
-/// Every trace that the rules name, with just the room that it needs.
+/// Every trace that the rules name, with just the room that it needs, and every text with rooms of each length near that.
 pub fn cases() -> Vec<Case> {
     let twelve = TWELVE.iter().map(|named| (named.trace(), TWELVE_LIMITS));
     let further = further().into_iter().map(|further| (further.trace, further.limits));
     let question =
         |(trace, limits): (Trace, Limits)| Question::Engines { trace: trace.chars, limits, spare: Spare::default() };
-    twelve.chain(further).map(|pair| Case { question: question(pair), rubbish: 1 }).collect()
+    let traces = twelve.chain(further).map(|pair| Case { question: question(pair), rubbish: 1 });
+    traces.chain(sheets::cases()).collect()
 }
 
 fn lone_return() -> Trace {

@@ -2,7 +2,7 @@
 
 use super::case::{Case, Question, Spare};
 use super::rng::Rng;
-use super::{damage, shapes};
+use super::{damage, shapes, sheets};
 use crate::check::Limits;
 use crate::line::{chars, Fields, CHARS, WIDTHS};
 use crate::report::{REFUSAL_CHARS, ROW_CHARS};
@@ -12,11 +12,13 @@ use crate::trace::Trace;
 /// The case with a number, of a seed.
 pub fn case(seed: u64, number: u64) -> Case {
     let mut rng = Rng::of_case(seed, number);
-    let question = match rng.below(20) {
+    let question = match rng.below(24) {
         0 => read_line(&mut rng),
         1 => write_line(&mut rng),
         2 => report(&mut rng),
         3 => refusal(&mut rng),
+        4 => sheets::write(&mut rng),
+        5 | 6 => sheets::read(&mut rng),
         _ => engines(&mut rng),
     };
     Case { question, rubbish: rng.number() }
@@ -150,7 +152,7 @@ fn refusal(rng: &mut Rng) -> Question {
 }
 
 /// A length that is mostly enough, sometimes one short or none at all.
-fn near(rng: &mut Rng, need: usize) -> usize {
+pub fn near(rng: &mut Rng, need: usize) -> usize {
     match rng.below(12) {
         0 => need - 1,
         1 => rng.index(need),

@@ -187,6 +187,17 @@ fn lower_questions(question: &Question) -> Vec<Question> {
             let of = |rows: &[u64], count| Question::Report { rows: rows.to_vec(), count, out, written };
             vec![of(&rows[..rows.len() / 2], count / 2), of(rows, count / 2), of(&vec![0; rows.len()], *count)]
         }
+        Question::WriteSheet { rows, count, out, written } => {
+            let (out, written) = (*out, *written);
+            let of = |rows: &[u64], count| Question::WriteSheet { rows: rows.to_vec(), count, out, written };
+            vec![of(&rows[..rows.len() / 2], count / 2), of(rows, count / 2), of(&vec![0; rows.len()], *count)]
+        }
+        Question::ReadSheet { text, rows, count } => {
+            let of = |text| Question::ReadSheet { text, rows: *rows, count: *count };
+            let lines: Vec<&[u8]> = text.split_inclusive(|c| *c == b'\n').collect();
+            let less = |n: usize| [&lines[..n], &lines[n + 1..]].concat().concat();
+            (0..lines.len()).map(less).map(of).collect()
+        }
     }
 }
 

@@ -37,6 +37,13 @@ impl Display for Case {
             Question::Refusal { number, line, out, written } => {
                 writeln!(f, "print refusal {number} with line {line}; output of {out}, count of {written}")
             }
+            Question::WriteSheet { rows, count, out, written } => {
+                let (given, room) = (rows.len(), format!("output of {out}, count of {written}"));
+                writeln!(f, "sheet of {count} sites from {given} row numbers; {room}\nrows: {rows:?}")
+            }
+            Question::ReadSheet { text, rows, count } => {
+                writeln!(f, "read a sheet into {rows} row numbers, count of {count}:\n{}", text.escape_ascii())
+            }
         }
     }
 }

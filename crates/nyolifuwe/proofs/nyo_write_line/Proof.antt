@@ -86,8 +86,8 @@ returns-4 c =
     let s = c .before .before .before .before .before .before .before .before .before .before .write-line .result .chars in
     let is : s ≡ writeChars f = c .before .before .before .before .before .before .before .before .before .before .write-line .ensures .1 in
     let fit : length s ≤ length (a .out .now) = omega (arith, ap length is, chars-length f) in
-    rw (decided ∙ ap write (sym is) ∙ sym (fitting-text s (length (a .out .now)) fit))
-    (tells (fitting s (length (a .out .now))) (c .before .before .before .before .before .before .put-text .ensures) (c .before .before .tell .ensures .0) (c .before .before .tell .ensures .1))
+    rw (decided ∙ ap write (sym is) ∙ sym (fitting-text 4 s (length (a .out .now)) fit))
+    (tells (fitting 4 s (length (a .out .now))) (c .before .before .before .before .before .before .put-text .ensures) (c .before .before .tell .ensures .0) (c .before .before .tell .ensures .1))
 
 returns-5 : tie.Need-returns-5
 returns-5 c =

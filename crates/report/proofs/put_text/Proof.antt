@@ -4,7 +4,7 @@ use mathlib.Core.List.{List, _++_}
 use mathlib.Core.Path.{refl, ap}
 use native.Mathlib.Nat.{sub-zero}
 use lib.ListN.{length, drop}
-use Rattle.report.proofs.Decisions.{refused, written, fitting-4, fitting-text}
+use Rattle.report.proofs.Decisions.{refused, written, fitting-short, fitting-text}
 use borrow.Author.Needs.{needs}
 use Rattle.report.proofs.put_text.Statement.{statement}
 use Rattle.report.proofs.put_text.Tie as tie
@@ -12,7 +12,7 @@ use Rattle.report.proofs.put_text.Tie as tie
 returns : tie.Need-returns
 returns c =
     let a = c .before .before .before .args in
-    refused 4 0 (a .out .now) (fitting-4 (a .text .now) (length (a .out .now)) (c .if1 .taken))
+    refused 4 0 (a .out .now) (fitting-short 4 (a .text .now) (length (a .out .now)) (c .if1 .taken))
 
 sub-copy : tie.Need-sub-copy
 sub-copy c = search needs
@@ -33,7 +33,7 @@ returns-2 : tie.Need-returns-2
 returns-2 c =
     let a = c .before .before .before .before .before .before .before .args in
     let s = a .text .now in
-    written s (a .out .now) _ (length s) (fitting-text s (length (a .out .now)) (c .before .before .before .before .if1 .left)) refl (simp sub-zero (ap (λ (t : List ℕ). t ++ drop (length s) (a .out .now)) (c .before .before .copy .ensures)))
+    written s (a .out .now) _ (length s) (fitting-text 4 s (length (a .out .now)) (c .before .before .before .before .if1 .left)) refl (simp sub-zero (ap (λ (t : List ℕ). t ++ drop (length s) (a .out .now)) (c .before .before .copy .ensures)))
 
 pub put-text-spec : {M : Type 1} → statement M
 put-text-spec =

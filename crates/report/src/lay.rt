@@ -1,0 +1,36 @@
+// A piece of text laid into lent room at a place. Each leaf answers the place behind its piece.
+use crate::copy;
+ghost use mathlib.Core.List.{[], _∷_};
+ghost use Prim.Native.Nat.{_+_, _≤_, _<_};
+ghost use lib.ListN.{length};
+ghost use Rattle.digits.specs.Decimal.{decimal};
+ghost use Rattle.report.specs.Room.{Lays};
+
+// One character.
+pub fn character(out: &mut [u8], at: usize, c: u8) -> usize
+    requires { ⌜ at < length (now out) ⌝ }
+    ensures { λ r. ⌜ Lays at (c ∷ []) (now (out .entry)) r (now (out .exit)) ⌝ }
+{
+    out[at] = c;
+    at + 1
+}
+
+// A text as it stands.
+pub fn text(out: &mut [u8], at: usize, piece: &[u8]) -> usize
+    requires { ⌜ at + length (now piece) ≤ length (now out) ⌝ }
+    ensures { λ r. ⌜ Lays at (now (piece .entry)) (now (out .entry)) r (now (out .exit)) ⌝ }
+{
+    let end = at + piece.len();
+    copy(&mut out[at..end], piece);
+    end
+}
+
+// A number in decimal.
+pub fn decimal(out: &mut [u8], at: usize, x: u64) -> usize
+    requires { ⌜ at + length (decimal x) ≤ length (now out) ⌝ }
+    ensures { λ r. ⌜ Lays at (decimal x) (now (out .entry)) r (now (out .exit)) ⌝ }
+{
+    let end = at + digits::decimal::size(x);
+    digits::decimal::put_figures(&mut out[at..end], x);
+    end
+}

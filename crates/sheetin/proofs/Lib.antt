@@ -1,0 +1,6 @@
+mod Scan
+mod Front
+mod Head
+mod Rows
+mod Stores
+mod Whole
