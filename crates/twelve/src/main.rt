@@ -2,6 +2,13 @@
 // its work, its span and the on-span numbers of rows 0, 1 and 2, four digits each; the marks engine's line goes on
 // with a mark for each line of the trace.
 
+// D and M, and the row numbers that they ask for.
+const DEPTH: usize = 4;
+
+const SITES: usize = 2;
+
+const ROWS: usize = trace::COLUMNS * (SITES + 1);
+
 // Writes a space and a number as four digits.
 fn print(x: u64) {
     let mut text = [b'0'; 4];
@@ -11,14 +18,14 @@ fn print(x: u64) {
 }
 
 // Writes what an engine answered and the on-span column of three rows.
-fn print_answer(answer: trace::Answer, rows: &[u64; 15]) {
+fn print_answer(answer: trace::Answer, rows: &[u64; ROWS]) {
     match answer {
         trace::Answer::Accepted(work, span, _, _) => {
             print(work);
             print(span);
-            print(rows[4]);
-            print(rows[9]);
-            print(rows[14]);
+            print(rows[trace::ON_SPAN]);
+            print(rows[trace::COLUMNS + trace::ON_SPAN]);
+            print(rows[2 * trace::COLUMNS + trace::ON_SPAN]);
         }
         trace::Answer::Refused(_, _) => {
             io::write_all(1, b" refused");
@@ -28,9 +35,9 @@ fn print_answer(answer: trace::Answer, rows: &[u64; 15]) {
 
 // A trace through the table engine.
 fn by_tables(text: &[u8]) {
-    let mut scratch = [7u64; 80];
-    let mut rows = [7u64; 15];
-    let answer = tables::profile(text, 4, 2, &mut scratch, &mut rows);
+    let mut scratch = [7u64; 4 * DEPTH * (SITES + 3)];
+    let mut rows = [7u64; ROWS];
+    let answer = tables::profile(text, DEPTH, SITES, &mut scratch, &mut rows);
     io::write_all(1, b"tables");
     print_answer(answer, &rows);
     io::write_all(1, b"\n");
@@ -38,10 +45,10 @@ fn by_tables(text: &[u8]) {
 
 // A trace through the marks engine.
 fn by_marks(text: &[u8]) {
-    let mut scratch = [7u64; 32];
+    let mut scratch = [7u64; 8 * DEPTH];
     let mut marks = [7u8; 16];
-    let mut rows = [7u64; 15];
-    let answer = marks::profile(text, 4, 2, &mut scratch, &mut marks, &mut rows);
+    let mut rows = [7u64; ROWS];
+    let answer = marks::profile(text, DEPTH, SITES, &mut scratch, &mut marks, &mut rows);
     io::write_all(1, b"marks ");
     print_answer(answer, &rows);
     print_marks(&marks, text.len() / 23);
