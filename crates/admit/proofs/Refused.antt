@@ -1,8 +1,9 @@
 -- A refusal's line is one of the lines, or their number: at most 65,536.
 use Prim.Native.Nat.{ℕ, zero, suc, _+_, _≤_}
-use mathlib.Core.Bool.{Bool, true, false, not, cond}
+use mathlib.Core.Logic.{inl, inr}
+use mathlib.Core.Bool.{Bool, true, false, cond}
 use mathlib.Core.List.{List, [], _∷_, _++_}
-use mathlib.Core.Path.{_≡_, refl, _∙_}
+use mathlib.Core.Path.{_≡_, refl, sym, _∙_}
 use native.Mathlib.Omega.{arith}
 use borrow.Author.Tests.{ltb-false}
 use lib.Dec.{eqb}
@@ -12,8 +13,9 @@ use Rattle.line.specs.declared.Read.{Read}
 use Rattle.line.specs.declared.Read.the-variants.{Line, Refused}
 use Rattle.line.specs.Read.{readAt, lineAt}
 use Rattle.line.proofs.Cases.{Case, long, wrongs, unlisted, listed, line-case, frames}
-use Rattle.trace.specs.Refusals.{accepted, refused, verdict, outOfRange, broken, tooMany, lineCount, afterRoot, fault, judged, scan, reads, readsFrom}
+use Rattle.trace.specs.Refusals.{accepted, refused, verdict, lineCount, afterRoot, fault, judged, scan, readsFrom}
 use Rattle.trace.proofs.Basics.{clash}
+use Rattle.trace.proofs.Checks.{passed, by-checks}
 
 module _ (D M : ℕ) (s : List ℕ) where
   read-line : (n number line : ℕ) → readAt s n ≡ Refused number line → line ≤ n
@@ -48,11 +50,7 @@ module _ (D M : ℕ) (s : List ℕ) where
 
 -- LAW
 pub refused-line : (s : List ℕ) (D M : ℕ) (room : Bool) (number line : ℕ) → verdict s D M room ≡ refused number line → line ≤ 65536
-refused-line s D M room number line e = go (outOfRange D M) (broken s) (tooMany s) (not room) refl e
-  where
-    go : (w x y z : Bool) → tooMany s ≡ y → cond w (refused 1 0) (cond x (refused 2 0) (cond y (refused 3 0) (cond z (refused 4 0) (scan D M [] (reads s))))) ≡ refused number line → line ≤ 65536
-    go true x y z h i = let k : line ≡ 0 = cc in omega arith
-    go false true y z h i = let k : line ≡ 0 = cc in omega arith
-    go false false true z h i = let k : line ≡ 0 = cc in omega arith
-    go false false false true h i = let k : line ≡ 0 = cc in omega arith
-    go false false false false h i = omega (arith, scan-line D M s (lineCount s) 0 [] number line refl i, ltb-false 65536 (lineCount s) h)
+refused-line s D M room number line e = elim (by-checks s D M room) [
+  | inl h ↦ omega (arith, scan-line D M s (lineCount s) 0 [] number line refl (sym (h .1) ∙ e), ltb-false 65536 (lineCount s) (passed (length s) D M room (h .0) .few))
+  | inr h ↦ (let z = sym (h .1) ∙ e in let k : line ≡ 0 = cc in omega arith)
+]

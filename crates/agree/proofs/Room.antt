@@ -1,5 +1,6 @@
 -- What a run gives that lacks room, beside one that does not; and refusal 4 is given on no other ground.
 use mathlib.Core.Path.{_≡_, refl, sym, _∙_, ap}
+use mathlib.Core.Logic.{inl, inr}
 use mathlib.Core.Bool.{Bool, true, false, cond}
 use mathlib.Core.List.{List, [], _∷_, _++_}
 use Prim.Native.Nat.{ℕ, zero, suc, _<_}
@@ -11,9 +12,10 @@ use Rattle.line.specs.declared.Read.{Read}
 use Rattle.line.specs.declared.Read.the-variants.{Line, Refused}
 use Rattle.line.specs.Table.{Entry, frame, none, table}
 use Rattle.line.specs.Read.{fields, wrong, tabled, readLine, lineAt, readAt}
-use Rattle.trace.specs.Refusals.{outOfRange, broken, lineCount, tooMany, afterRoot, misplaced, aboveM, placeAgain, undeclared, tooDeep, beyond, fault, Verdict, accepted, refused, judged, scan, readsFrom, reads, verdict}
+use Rattle.trace.specs.Refusals.{lineCount, afterRoot, misplaced, aboveM, placeAgain, undeclared, tooDeep, beyond, fault, Verdict, accepted, refused, judged, scan, readsFrom, verdict}
 use Rattle.trace.specs.Promise.{Engine, refusal}
-use Rattle.trace.proofs.Basics.{clash}
+use Rattle.trace.proofs.Basics.{clash, no-way}
+use Rattle.trace.proofs.Checks.{passed, room-last, by-checks}
 use Rattle.agree.specs.Demand.{Run, Ran, HasRoom}
 use Rattle.agree.specs.Room.{LacksRoom, refusalFor, WithoutRoom, OneLacksRoom}
 use Rattle.agree.proofs.Demand.{accepts, refuses}
@@ -64,33 +66,27 @@ scan-never D M s before n (suc count) k e = go (λ f. scan-never D M s (before +
 
 module _ (s : List ℕ) (D M : ℕ) where
   lacking : verdict s D M false ≡ refused (refusalFor s D M) 0
-  lacking = go (outOfRange D M) (broken s) (tooMany s)
-    where
-      go : (a b c : Bool) → cond a (refused 1 0) (cond b (refused 2 0) (cond c (refused 3 0) (refused 4 0))) ≡ refused (cond a 1 (cond b 2 (cond c 3 4))) 0
-      go true b c = refl
-      go false true c = refl
-      go false false true = refl
-      go false false false = refl
+  lacking = elim (by-checks s D M false) [ inl h ↦ no-way (passed (length s) D M false (h .0) .roomy) | inr h ↦ h .1 ]
 
   -- checks 1, 2 and 3 come before the room
   early : refusalFor s D M < 4 → verdict s D M true ≡ refused (refusalFor s D M) 0
-  early l = go (outOfRange D M) (broken s) (tooMany s) l
-    where
-      go : (a b c : Bool) → cond a 1 (cond b 2 (cond c 3 4)) < 4 → cond a (refused 1 0) (cond b (refused 2 0) (cond c (refused 3 0) (scan D M [] (reads s)))) ≡ refused (cond a 1 (cond b 2 (cond c 3 4))) 0
-      go true b c l = refl
-      go false true c l = refl
-      go false false true l = refl
-      go false false false l = absurd (omega arith)
+  early l = elim (room-last (length s) D M) [
+    | inl k ↦ absurd (omega (arith, k .1))
+    | inr k ↦ elim (by-checks s D M true) [
+      | inl h ↦ absurd (k .1 .0 (h .0))
+      | inr h ↦ h .1 ∙ ap (λ (n : ℕ). refused n 0) (sym (k .1 .1 false))
+    ]
+  ]
 
   -- LAW: with room the verdict has that number only where it is 1, 2 or 3; it is never 4
   pub never-four : (k : ℕ) → verdict s D M true ≡ refused (refusalFor s D M) k → refusalFor s D M < 4
-  never-four k e = go (outOfRange D M) (broken s) (tooMany s) e
-    where
-      go : (a b c : Bool) → cond a (refused 1 0) (cond b (refused 2 0) (cond c (refused 3 0) (scan D M [] (reads s)))) ≡ refused (cond a 1 (cond b 2 (cond c 3 4))) k → cond a 1 (cond b 2 (cond c 3 4)) < 4
-      go true b c q = omega arith
-      go false true c q = omega arith
-      go false false true q = omega arith
-      go false false false q = absurd (scan-never D M s [] 0 (lineCount s) k q)
+  never-four k e = elim (room-last (length s) D M) [
+    | inl c ↦ elim (by-checks s D M true) [
+      | inl h ↦ absurd (scan-never D M s [] 0 (lineCount s) k (sym (h .1) ∙ e ∙ ap (λ (n : ℕ). refused n k) (c .1)))
+      | inr h ↦ absurd (h .0 (c .0))
+    ]
+    | inr c ↦ omega (arith, c .0, c .1 .1 false)
+  ]
 
 -- LAW: what a run gives that lacks room
 pub lacks-room : (e : Engine) (s : List ℕ) (D M : ℕ) (x : Run) → Ran e s D M x → LacksRoom e s D M x → WithoutRoom s D M x

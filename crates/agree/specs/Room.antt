@@ -2,10 +2,11 @@
 use Prim.Native.Nat.{ℕ, _<_}
 use mathlib.Core.Path.{_≡_}
 use mathlib.Core.Logic.{_↔_}
-use mathlib.Core.Bool.{true, false, cond}
+use mathlib.Core.Bool.{true, false}
 use mathlib.Core.List.{List}
+use lib.ListN.{length}
 use Rattle.line.specs.declared.Frame.{Frame}
-use Rattle.trace.specs.Refusals.{outOfRange, broken, tooMany, accepted, refused, verdict}
+use Rattle.trace.specs.Refusals.{checks, accepted, refused, verdict}
 use Rattle.trace.specs.Promise.{Engine, enough, refusal, Profile}
 use Rattle.agree.specs.Demand.{Run}
 
@@ -15,7 +16,7 @@ LacksRoom e s D M x = enough e s D M (x .lent) ≡ false
 
 -- "Checks 1 to 4 run in that order": the refusal of a run that lacks room
 abbrev pub refusalFor : List ℕ → ℕ → ℕ → ℕ
-refusalFor s D M = cond (outOfRange D M) 1 (cond (broken s) 2 (cond (tooMany s) 3 4))
+refusalFor s D M = checks (length s) D M false
 
 -- a run that lacks room is refused, with line 0, and changes nothing
 pub record WithoutRoom (s : List ℕ) (D M : ℕ) (x : Run) : Type 0 where

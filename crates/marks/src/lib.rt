@@ -389,10 +389,12 @@ fn accepted(
 {
     walk::zero(scratch, scratch.len());
     walk::zero(rows, trace::COLUMNS * (count + 1));
-    wipe_lines(marks, 0, count);
-    let f = body(text, count, 0, depth - 1, scratch, marks, rows);
+    // the line at which the root's body begins: behind the sites
+    let first = count;
+    wipe_lines(marks, 0, first);
+    let f = body(text, first, 0, depth - 1, scratch, marks, rows);
     walk::returned(rows, 0, f.work, f.prefix);
-    column(text, count, lines, scratch, marks, rows);
+    column(text, first, lines, scratch, marks, rows);
     trace::Answer::Accepted(f.work, f.prefix, count, lines)
 }
 

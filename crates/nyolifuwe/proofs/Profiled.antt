@@ -1,18 +1,20 @@
 -- The engines' promises carried to the interface, with and without room for the answer; and that they leave one
 -- outcome. Assumes nothing.
 use Prim.Native.Nat.{ℕ, _≤_, _<_}
-use mathlib.Core.Bool.{Bool, true, false, cond, _&&_}
+use mathlib.Core.Logic.{inl, inr}
+use mathlib.Core.Bool.{Bool, true, false, _&&_}
 use mathlib.Core.List.{List}
 use mathlib.Core.Path.{_≡_, refl, ap, _∙_, sym, subst}
 use native.Mathlib.Omega.{arith}
 use borrow.Author.Tests.{lt-leb, le-leb}
-use lib.Dec.{eqb, leb}
+use lib.Dec.{leb}
 use lib.ListN.{length}
 use Rattle.line.specs.declared.Frame.{Frame}
 use Rattle.trace.specs.declared.Answer.{Answer}
-use Rattle.trace.specs.Refusals.{Verdict, accepted, refused, verdict, outOfRange, broken, tooMany}
+use Rattle.trace.specs.Refusals.{Verdict, accepted, refused, verdict}
 use Rattle.trace.specs.Promise.{Engine, Lent, enough, Profile, Promise}
-use Rattle.trace.proofs.Basics.{clash}
+use Rattle.trace.proofs.Basics.{clash, no-way}
+use Rattle.trace.proofs.Checks.{passed, by-checks}
 use Rattle.trace.proofs.Scan.{accepted-is}
 use Rattle.trace.proofs.Outcome.{promise-unique}
 use Rattle.digits.proofs.Laws.{and-left}
@@ -32,13 +34,7 @@ answer-line e s D M before after r p = go (verdict s D M (enough e s D M before)
 
 -- without room for the answer
 roomless : (s : List ℕ) (D M : ℕ) → verdict s D M false ≡ refused (unroomy (length s) D M) 0
-roomless s D M = go (outOfRange D M) (broken s) (tooMany s)
-  where
-    go : (a b c : Bool) → cond a (refused 1 0) (cond b (refused 2 0) (cond c (refused 3 0) (refused 4 0))) ≡ refused (cond (eqb (cond a 1 (cond b 2 (cond c 3 0))) 0) 4 (cond a 1 (cond b 2 (cond c 3 0)))) 0
-    go true b c = refl
-    go false true c = refl
-    go false false true = refl
-    go false false false = refl
+roomless s D M = elim (by-checks s D M false) [ inl h ↦ no-way (passed (length s) D M false (h .0) .roomy) | inr h ↦ h .1 ]
 
 and-false : (a : Bool) → (a && false) ≡ false
 and-false true = refl

@@ -1,8 +1,7 @@
 -- For proofs, not for the reader of the interface: what its private functions give.
 use Prim.Native.Nat.{ℕ}
-use mathlib.Core.Bool.{cond}
+use mathlib.Core.Bool.{cond, false}
 use mathlib.Core.List.{List, _∷_}
-use lib.Dec.{eqb}
 use lib.ListN.{drop}
 use Rattle.line.specs.declared.Read.{Read}
 use Rattle.line.specs.declared.Read.the-variants.{Refused as Unread}
@@ -14,7 +13,7 @@ use Rattle.line.specs.Write.{narrow}
 use Rattle.trace.specs.declared.Answer.{Answer}
 use Rattle.trace.specs.declared.Answer.the-variants.{Accepted}
 use Rattle.trace.specs.declared.Answer.the-variants.{Refused as Turned}
-use Rattle.admit.specs.Answer.{opening}
+use Rattle.trace.specs.Refusals.{checks}
 use Rattle.nyolifuwe.specs.Code.{coded}
 
 -- the frame that five fields are, refusal 6 where one has no room in its digits or they are not as the table has them
@@ -41,4 +40,4 @@ lineIn (Turned number line) = line
 
 -- the number of the first of checks 1 to 3 that fails, else 4
 abbrev pub unroomy : ℕ → ℕ → ℕ → ℕ
-unroomy bytes D M = cond (eqb (opening bytes D M) 0) 4 (opening bytes D M)
+unroomy bytes D M = checks bytes D M false

@@ -268,9 +268,11 @@ fn accepted(
 {
     walk::zero(scratch, scratch.len());
     walk::zero(rows, trace::COLUMNS * (count + 1));
+    // the line at which the root's body begins: behind the sites
+    let first = count;
     let f = body(
         text,
-        count,
+        first,
         0,
         depth - 1,
         scratch,

@@ -1,7 +1,7 @@
 -- Lines pass exactly where they are sites in order and then the lines of a body within the limits; and the same on
 -- characters.
 use mathlib.Core.Path.{_≡_, refl, sym, _∙_, ap, subst}
-use mathlib.Core.Logic.{_↔_}
+use mathlib.Core.Logic.{_↔_, inl, inr}
 use mathlib.Core.Bool.{Bool, true, false, not, cond, _||_}
 use mathlib.Core.List.{List, [], _∷_, _++_, append-assoc, append-nil}
 use Prim.Native.Nat.{ℕ, suc, _+_, _%_, _≤_, _<_}
@@ -14,10 +14,11 @@ use Rattle.line.specs.declared.Frame.{Frame}
 use Rattle.line.specs.declared.Frame.the-variants.{Return}
 use Rattle.line.specs.declared.Read.{Read}
 use Rattle.trace.specs.Shape.{root, step, sites}
-use Rattle.trace.specs.Refusals.{lineCount, openNow, empty, allSites, lastSite, misplaced, aboveM, placed, placeAgain, declared, undeclared, tooDeep, fault, accepted, refused, judged, scan, reads, verdict}
+use Rattle.trace.specs.Refusals.{lineCount, checks, openNow, empty, allSites, lastSite, misplaced, aboveM, placed, placeAgain, declared, undeclared, tooDeep, fault, accepted, refused, judged, scan, reads, verdict}
 use Rattle.trace.specs.Tree.{Way, call, spawn, opening, Leaf, spend, sync, lineOf, LeafWithin, Body, done, leaf, child, linesOf, Within, AllSites}
 use Rattle.trace.proofs.Cases.{IsSite, NotSite, other, at-site, site-step}
 use Rattle.trace.proofs.Tree.{leaf-not-site, opening-not-site, no-sites-lines, leaf-step, opening-step, leaf-makes, opening-makes}
+use Rattle.trace.proofs.Checks.{by-checks}
 use Rattle.trace.proofs.Scan.{InTable, Clean, Reads, reads-length, reads-from-length, Fine, Accepts, accepted-is, faultless, fault-zero, now}
 use Rattle.trace.proofs.Sites.{sites-none, sites-append, declared-same, Numbered, numbered-start, upto-declared, numbered-snoc, clean-sites}
 use Rattle.trace.proofs.Parse.{parts}
@@ -221,8 +222,8 @@ pub accepts-accepted : (s : List ℕ) (D M : ℕ) (t : List Frame) → Accepts s
 accepts-accepted s D M t h =
     let f = h .fine in
     let n : lineCount s ≤ 65536 = omega (arith, f .lines-most, reads-length 0 (reads s) t (h .reads-as), reads-from-length s 0 (lineCount s)) in
-    simp (le-leb 1 D (f .least), le-leb D 64 (f .most), le-leb M 255 (f .sites-most), eq-eqb (length s % 23) 0 (h .whole-lines), le-ltb 65536 (lineCount s) n)
-    (clean-accepted D M 0 [] (reads s) t (h .reads-as) (f .clean))
+    let pass : checks (length s) D M true ≡ 0 = simp (le-leb 1 D (f .least), le-leb D 64 (f .most), le-leb M 255 (f .sites-most), eq-eqb (length s % 23) 0 (h .whole-lines), le-ltb 65536 (lineCount s) n) in
+    elim (by-checks s D M true) [ inl k ↦ k .1 ∙ clean-accepted D M 0 [] (reads s) t (h .reads-as) (f .clean) | inr k ↦ absurd (k .0 pass) ]
 
 pub accepted-iff : (s : List ℕ) (D M : ℕ) (t : List Frame) → (verdict s D M true ≡ accepted t) ↔ Accepts s D M t
 accepted-iff s D M t = (λ e. accepted-is s D M true t e .1, accepts-accepted s D M t)

@@ -2,6 +2,7 @@ pub mod Basics
 pub mod Cases
 pub mod Slots
 pub mod Tree
+pub mod Checks
 pub mod Scan
 pub mod Levels
 pub mod Apart

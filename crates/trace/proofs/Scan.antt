@@ -1,6 +1,7 @@
 -- What acceptance says of each line, apart from its characters.
 use mathlib.Core.Path.{_≡_, refl, sym, _∙_, ap, subst}
-use mathlib.Core.Bool.{Bool, true, false, not, cond, _&&_}
+use mathlib.Core.Logic.{inl, inr}
+use mathlib.Core.Bool.{Bool, true, false, cond, _&&_}
 use mathlib.Core.List.{List, [], _∷_, _++_, append-assoc, append-nil}
 use Prim.Native.Nat.{ℕ, zero, suc, _+_, _%_, _≤_}
 use native.Mathlib.Omega.{arith}
@@ -15,8 +16,9 @@ use Rattle.line.specs.declared.Read.the-variants.{Line, Refused}
 use Rattle.line.specs.Table.{Entry, frame, none, only, table}
 use Rattle.line.specs.Read.{fields, wrong, tabled, readLine, lineAt, readAt}
 use Rattle.trace.specs.Shape.{Is, step, walk}
-use Rattle.trace.specs.Refusals.{outOfRange, broken, lineCount, tooMany, openNow, afterRoot, misplaced, aboveM, placeAgain, undeclared, tooDeep, beyond, fault, accepted, refused, judged, scan, readsFrom, reads, verdict}
+use Rattle.trace.specs.Refusals.{outOfRange, lineCount, openNow, afterRoot, misplaced, aboveM, placeAgain, undeclared, tooDeep, beyond, fault, accepted, refused, judged, scan, readsFrom, reads, verdict}
 use Rattle.trace.proofs.Basics.{clash, both}
+use Rattle.trace.proofs.Checks.{Passed, passed, by-checks}
 
 -- what the table says of a frame's numbers
 abbrev pub InTable : Frame → Type 0
@@ -160,33 +162,30 @@ in-range D M e =
     let y = both (leb 1 D) (leb D 64) (x .0) in
     (leb-true 1 D (y .0), leb-true D 64 (y .1), leb-true M 255 (x .1))
 
--- LAW: a text that is accepted, check by check
 -- a verdict accepts one trace
 pub accepted-same : (t u : List Frame) → accepted t ≡ accepted u → t ≡ u
 accepted-same t u e = cc
 
+-- LAW: a text that is accepted, check by check
 pub accepted-is : (s : List ℕ) (D M : ℕ) (room : Bool) (t : List Frame) → verdict s D M room ≡ accepted t → (room ≡ true) × Accepts s D M t
-accepted-is s D M room t e = go (outOfRange D M) (broken s) (tooMany s) room refl refl refl e
+accepted-is s D M room t e = elim (by-checks s D M room) [
+  | inl h ↦ go (passed (length s) D M room (h .0)) (took D M s [] 0 (lineCount s) t (sym (h .1) ∙ e))
+  | inr h ↦ clash (let z = sym (h .1) ∙ e in cc)
+]
   where
-    go : (a b c d : Bool) → outOfRange D M ≡ a → broken s ≡ b → tooMany s ≡ c
-        → cond a (refused 1 0) (cond b (refused 2 0) (cond c (refused 3 0) (cond (not d) (refused 4 0) (scan D M [] (reads s))))) ≡ accepted t → (d ≡ true) × Accepts s D M t
-    go true b c d ha hb hc q = clash (cc)
-    go false true c d ha hb hc q = clash (cc)
-    go false false true d ha hb hc q = clash (cc)
-    go false false false false ha hb hc q = clash (cc)
-    go false false false true ha hb hc q =
-        let k = took D M s [] 0 (lineCount s) t q in
-        let x = in-range D M ha in (
-          refl,
+    go : Passed (length s) D M room → Took D M [] t 0 (reads s) → (room ≡ true) × Accepts s D M t
+    go p k =
+        let x = in-range D M (p .in-range) in (
+          p .roomy,
           record {
-            whole-lines = eqb-true (length s % 23) 0 (not-false (eqb (length s % 23) 0) hb);
+            whole-lines = eqb-true (length s % 23) 0 (not-false (eqb (length s % 23) 0) (p .whole));
             reads-as = subst (Reads 0 (reads s)) (sym (k .whole)) (k .reads);
             fine = record {
               clean = subst (Clean D M []) (sym (k .whole)) (k .clean);
               least = x .0;
               most = x .1;
               sites-most = x .2;
-              lines-most = omega (arith, ap length (k .whole), reads-length 0 (reads s) (k .rest) (k .reads), reads-from-length s 0 (lineCount s), ltb-false 65536 (lineCount s) hc);
+              lines-most = omega (arith, ap length (k .whole), reads-length 0 (reads s) (k .rest) (k .reads), reads-from-length s 0 (lineCount s), ltb-false 65536 (lineCount s) (p .few));
             };
           },
         )

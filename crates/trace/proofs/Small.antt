@@ -1,6 +1,7 @@
 -- Within the limits total work and all five columns stay below 2 ^ 54, so no sum wraps and refusal 13 is never given.
-use mathlib.Core.Path.{_≡_, refl, sym, subst}
-use mathlib.Core.Bool.{Bool, true, false, not, cond}
+use mathlib.Core.Path.{_≡_, refl, sym, _∙_, subst}
+use mathlib.Core.Logic.{inl, inr}
+use mathlib.Core.Bool.{Bool, true, false, cond}
 use mathlib.Core.List.{List, [], _∷_, _++_, append-nil}
 use Prim.Native.Nat.{ℕ, zero, suc, _+_, _≤_, _<_}
 use native.Mathlib.Omega.{arith}
@@ -14,8 +15,9 @@ use Rattle.line.specs.declared.Read.the-variants.{Line, Refused}
 use Rattle.line.specs.Table.{Entry, frame, none, table}
 use Rattle.line.specs.Read.{fields, wrong, tabled, readLine, lineAt, readAt}
 use Rattle.trace.specs.Rows.{total, calls, work, Spans, local, onSpan}
-use Rattle.trace.specs.Refusals.{outOfRange, broken, lineCount, tooMany, afterRoot, misplaced, aboveM, placeAgain, undeclared, tooDeep, beyond, fault, accepted, refused, judged, scan, readsFrom, reads, verdict}
+use Rattle.trace.specs.Refusals.{lineCount, checks, afterRoot, misplaced, aboveM, placeAgain, undeclared, tooDeep, beyond, fault, accepted, refused, judged, scan, readsFrom, reads, verdict}
 use Rattle.trace.proofs.Basics.{clash, no-way}
+use Rattle.trace.proofs.Checks.{Passed, passed, at-most-four, by-checks}
 use Rattle.trace.proofs.Scan.{read-line, Clean, Fine, in-range, faultless}
 use Rattle.trace.proofs.AtMost.{spans-le, on-span-le}
 use Rattle.trace.proofs.Bounds.{Tame, Safe, total-small, calls-small, work-small, local-small, thirteen-never, safe-snoc, safe-start}
@@ -103,17 +105,12 @@ scan-never D M most least s before n (suc count) k safe l e =
 
 -- LAW: the verdict is never 13
 pub never-thirteen : (s : List ℕ) (D M : ℕ) (room : Bool) (k : ℕ) → verdict s D M room ≡ refused 13 k → ⊥
-never-thirteen s D M room k e = go (outOfRange D M) (broken s) (tooMany s) room refl refl e
+never-thirteen s D M room k e = elim (by-checks s D M room) [
+  | inl h ↦ go (passed (length s) D M room (h .0)) (sym (h .1) ∙ e)
+  | inr h ↦ (let z = sym (h .1) ∙ e in let y : checks (length s) D M room ≡ 13 = cc in omega (arith, at-most-four (length s) D M room))
+]
   where
-    other : (n : ℕ) → (n ≡ 13 → ⊥) → refused n 0 ≡ refused 13 k → ⊥
-    other n h q = (let y : n ≡ 13 = cc in h y)
-
-    go : (a b c d : Bool) → outOfRange D M ≡ a → tooMany s ≡ c
-        → cond a (refused 1 0) (cond b (refused 2 0) (cond c (refused 3 0) (cond (not d) (refused 4 0) (scan D M [] (reads s))))) ≡ refused 13 k → ⊥
-    go true b c d h l q = other 1 (λ r. omega arith) q
-    go false true c d h l q = other 2 (λ r. omega arith) q
-    go false false true d h l q = other 3 (λ r. omega arith) q
-    go false false false false h l q = other 4 (λ r. omega arith) q
-    go false false false true h l q =
-        let x = in-range D M h in
-        scan-never D M (x .1) (x .0) s [] 0 (lineCount s) k (safe-start D (x .1) (x .0)) (omega (arith, ltb-false 65536 (lineCount s) l)) q
+    go : Passed (length s) D M room → scan D M [] (reads s) ≡ refused 13 k → ⊥
+    go p q =
+        let x = in-range D M (p .in-range) in
+        scan-never D M (x .1) (x .0) s [] 0 (lineCount s) k (safe-start D (x .1) (x .0)) (omega (arith, ltb-false 65536 (lineCount s) (p .few))) q

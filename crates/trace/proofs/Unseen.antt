@@ -3,7 +3,7 @@ use mathlib.Core.Path.{_≡_, refl, sym, _∙_, ap, subst}
 use mathlib.Core.Logic.{inl, inr}
 use mathlib.Core.Bool.{Bool, true, false, not, cond, _||_}
 use mathlib.Core.List.{List, [], _∷_, _++_}
-use Prim.Native.Nat.{ℕ, zero, suc, _+_, _/_, _%_, _≤_, _<_}
+use Prim.Native.Nat.{ℕ, zero, suc, _+_, _/_, _≤_, _<_}
 use native.Mathlib.Omega.{arith}
 use lib.ListN.{length}
 use lib.Dec.{eqb, ltb}
@@ -16,7 +16,7 @@ use Rattle.line.specs.Read.{readAt}
 use Rattle.trace.specs.Shape.{ifSite, ifMakes, root, step, walk, openAt, has, firstIs, sites}
 use Rattle.trace.specs.Series.{value}
 use Rattle.trace.specs.Rows.{makes, made, ofRow, sumOf, costsWhere, total, sum, calls, work, local}
-use Rattle.trace.specs.Refusals.{outOfRange, broken, lineCount, tooMany, openNow, empty, afterRoot, allSites, lastSite, misplaced, aboveM, placeAgain, declared, undeclared, tooDeep, wide, wideRows, beyond, fault, Verdict, accepted, refused, judged, scan, readsFrom, reads, verdict}
+use Rattle.trace.specs.Refusals.{lineCount, checks, openNow, empty, afterRoot, allSites, lastSite, misplaced, aboveM, placeAgain, declared, undeclared, tooDeep, wide, wideRows, beyond, fault, Verdict, accepted, refused, judged, scan, readsFrom, reads, verdict}
 use Rattle.trace.specs.Places.{Alike, OnlyPlaces}
 use Rattle.trace.proofs.Basics.{no-way}
 use Rattle.trace.proofs.Cases.{by-site, other, both-ways, makes-same}
@@ -293,34 +293,22 @@ scan-same D M s z t u n (suc count) d l h i =
     (snoc-alike D M t u f g d e) (λ j a b. l j (omega arith) (omega arith)))
     (readAt s n) (readAt z n) (alike-same s z n (l n (omega arith) (omega arith))) h i
 
--- checks 1 to 4, by what applies, before the lines
-abbrev checks : Bool → Bool → Bool → Bool → Verdict → Verdict
-checks a b c room v =
-    cond a (refused 1 0)
-    (cond b (refused 2 0)
-    (cond c (refused 3 0)
-    (cond (not room) (refused 4 0)
-    v)))
-
-checks-same : (a b c room : Bool) (v w : Verdict) → (NotTen v → NotTen w → SameVerdict v w)
-    → NotTen (checks a b c room v) → NotTen (checks a b c room w)
-    → SameVerdict (checks a b c room v) (checks a b c room w)
-checks-same true b c room v w k h i = (refl, refl)
-checks-same false true c room v w k h i = (refl, refl)
-checks-same false false true room v w k h i = (refl, refl)
-checks-same false false false false v w k h i = (refl, refl)
-checks-same false false false true v w k h i = k h i
+-- the lines decide, or the checks gave n
+decided-same : (b : Bool) (n : ℕ) (v w : Verdict) → (NotTen v → NotTen w → SameVerdict v w)
+    → NotTen (cond b v (refused n 0)) → NotTen (cond b w (refused n 0))
+    → SameVerdict (cond b v (refused n 0)) (cond b w (refused n 0))
+decided-same true n v w k h i = k h i
+decided-same false n v w k h i = (refl, refl)
 
 -- LAW: two texts that differ only in places have one verdict, unless one is refused with 10
 pub verdict-same : (s z : List ℕ) (D M : ℕ) (room : Bool) → OnlyPlaces s z
     → NotTen (verdict s D M room) → NotTen (verdict z D M room) → SameVerdict (verdict s D M room) (verdict z D M room)
 verdict-same s z D M room d h =
     subst (λ (v : Verdict). NotTen v → SameVerdict (verdict s D M room) v) (ap of-length (d .same-length))
-    (checks-same (outOfRange D M) (broken s) (tooMany s) room
+    (decided-same (eqb (checks (length s) D M room) 0) (checks (length s) D M room)
     (scan D M [] (reads s)) (scan D M [] (readsFrom z 0 (lineCount s)))
     (scan-same D M s z [] [] 0 (lineCount s) refl (λ n a b. d .lines n (omega arith))) h)
   where
     -- the verdict on z, were it of this length
     of-length : ℕ → Verdict
-    of-length k =
-        checks (outOfRange D M) (not (eqb (k % 23) 0)) (ltb 65536 (k / 23)) room (scan D M [] (readsFrom z 0 (k / 23)))
+    of-length k = cond (eqb (checks k D M room) 0) (scan D M [] (readsFrom z 0 (k / 23))) (refused (checks k D M room) 0)

@@ -37,9 +37,12 @@ marksRoom marks s = lineCount s
 abbrev pub rowsRoom : ℕ → ℕ
 rowsRoom M = columns * (M + 1)
 
--- no lent slice is "shorter than stated"
+-- no lent slice is "shorter than stated", by their lengths
+abbrev pub roomy : Engine → List ℕ → ℕ → ℕ → ℕ → ℕ → ℕ → Bool
+roomy e s D M scratch rows bytes = leb (scratchRoom e D M) scratch && leb (rowsRoom M) rows && leb (marksRoom e s) bytes
+
 abbrev pub enough : Engine → List ℕ → ℕ → ℕ → Lent → Bool
-enough e s D M lent = leb (scratchRoom e D M) (length (lent .scratch)) && leb (rowsRoom M) (length (lent .rows)) && leb (marksRoom e s) (length (lent .marks))
+enough e s D M lent = roomy e s D M (length (lent .scratch)) (length (lent .rows)) (length (lent .marks))
 
 -- "Accepted: total work, total span, number of sites, number of lines."
 abbrev pub acceptance : List Frame → ℕ → Answer

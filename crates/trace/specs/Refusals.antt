@@ -18,16 +18,26 @@ abbrev pub outOfRange : ℕ → ℕ → Bool
 outOfRange D M = not (leb 1 D && leb D 64 && leb M 255)
 
 -- 2: "length not a multiple of 23"
-abbrev pub broken : List ℕ → Bool
-broken s = not (eqb (length s % width) 0)
+abbrev pub broken : ℕ → Bool
+broken bytes = not (eqb (bytes % width) 0)
 
 -- the number of lines of a text
 abbrev pub lineCount : List ℕ → ℕ
 lineCount s = length s / width
 
 -- 3: "more than 65,536 lines"
-abbrev pub tooMany : List ℕ → Bool
-tooMany s = ltb 65536 (lineCount s)
+abbrev pub tooMany : ℕ → Bool
+tooMany bytes = ltb 65536 (bytes / width)
+
+-- "Checks 1 to 4 run in that order": the number of the first that fails, 0 where none does, for a text of so many
+-- characters. 4: "any lent slice shorter than stated"; room: none is
+abbrev pub checks : ℕ → ℕ → ℕ → Bool → ℕ
+checks bytes D M room =
+    cond (outOfRange D M) 1
+    (cond (broken bytes) 2
+    (cond (tooMany bytes) 3
+    (cond (not room) 4
+    0)))
 
 -- the invocations open behind the last of the lines
 abbrev pub openNow : List Frame → List ℕ
@@ -132,12 +142,6 @@ readsFrom s n (suc count) = readAt s n ∷ readsFrom s (suc n) count
 abbrev pub reads : List ℕ → List Read
 reads s = readsFrom s 0 (lineCount s)
 
--- "Checks 1 to 4 run in that order. Then the first faulty line decides". 4: "any lent slice shorter than stated";
--- room: none is
+-- "Checks 1 to 4 run in that order. Then the first faulty line decides"
 abbrev pub verdict : List ℕ → ℕ → ℕ → Bool → Verdict
-verdict s D M room =
-    cond (outOfRange D M) (refused 1 0)
-    (cond (broken s) (refused 2 0)
-    (cond (tooMany s) (refused 3 0)
-    (cond (not room) (refused 4 0)
-    (scan D M [] (reads s)))))
+verdict s D M room = cond (eqb (checks (length s) D M room) 0) (scan D M [] (reads s)) (refused (checks (length s) D M room) 0)

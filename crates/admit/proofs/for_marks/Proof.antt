@@ -4,8 +4,7 @@ use Prim.Native.Nat.{_≤_, _<_}
 use native.Mathlib.Omega.{arith}
 use borrow.Author.Needs.{needs}
 use borrow.Author.Tests.{le-leb, lt-leb}
-use Rattle.trace.specs.Promise.{marks, rowsRoom}
-use Rattle.admit.specs.Answer.{roomy}
+use Rattle.trace.specs.Promise.{marks, rowsRoom, roomy}
 use Rattle.admit.proofs.Entry.{failed, passed, limits, short, decided}
 use Rattle.admit.proofs.for_marks.Statement.{statement}
 use Rattle.admit.proofs.for_marks.Tie as tie

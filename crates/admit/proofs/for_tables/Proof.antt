@@ -4,8 +4,7 @@ use Prim.Native.Nat.{_≤_, _<_}
 use native.Mathlib.Omega.{arith}
 use borrow.Author.Needs.{needs}
 use borrow.Author.Tests.{le-leb, lt-leb}
-use Rattle.trace.specs.Promise.{tables, rowsRoom}
-use Rattle.admit.specs.Answer.{roomy}
+use Rattle.trace.specs.Promise.{tables, rowsRoom, roomy}
 use Rattle.admit.proofs.Entry.{failed, passed, limits, short, decided, scratch-small}
 use Rattle.admit.proofs.for_tables.Statement.{statement}
 use Rattle.admit.proofs.for_tables.Tie as tie
