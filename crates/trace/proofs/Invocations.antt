@@ -181,10 +181,10 @@ module _ (t : List Frame) (s : ℕ) (p : ℕ → ℕ → Type 0) (h : Body → �
   one-more true F a q l x y = (a, q, x, y, refl)
   one-more false F a q l x y = let e : q ≡ 0 + q = omega arith in subst (Sum p l) e y
 
-  made-leaf : (l : Leaf) (n : ℕ) (u : List Frame) → made n (lineOf l ∷ u) s ≡ made (suc n) u s
+  pub made-leaf : (l : Leaf) (n : ℕ) (u : List Frame) → made n (lineOf l ∷ u) s ≡ made (suc n) u s
   made-leaf l n u = ap (λ (b : Bool). cond b (suc n ∷ made (suc n) u s) (made (suc n) u s)) (leaf-makes (λ i. eqb i s) false l)
 
-  made-opening : (w : Way) (i n : ℕ) (u : List Frame) → made n (opening w i ∷ u) s ≡ cond (eqb i s) (suc n ∷ made (suc n) u s) (made (suc n) u s)
+  pub made-opening : (w : Way) (i n : ℕ) (u : List Frame) → made n (opening w i ∷ u) s ≡ cond (eqb i s) (suc n ∷ made (suc n) u s) (made (suc n) u s)
   made-opening w i n u = ap (λ (b : Bool). cond b (suc n ∷ made (suc n) u s) (made (suc n) u s)) (opening-makes (λ i. eqb i s) false w i)
 
   adds : (b : Body) → Adds b
