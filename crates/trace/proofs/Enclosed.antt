@@ -10,18 +10,20 @@ use borrow.Author.Tests.{eq-eqb, ne-eqb}
 use Rattle.line.specs.declared.Frame.{Frame}
 use Rattle.line.specs.declared.Frame.the-variants.{Site, Call, Spawn, Sync, Return, Cost}
 use Rattle.chain.specs.Over.{Each}
-use Rattle.trace.specs.Shape.{root, step, walk, openAt, has, firstIs, Open, Directly}
+use Rattle.trace.specs.Shape.{root, step, walk, openAt, has, firstIs, Open, Contains, Directly}
 use Rattle.trace.specs.Series.{Span}
 use Rattle.trace.specs.Rows.{ofRow, inside, sum, Sum, work, Spans}
 use Rattle.trace.specs.Outermost.{hasOf, enclosed, unenclosed, outermost, outerWork, OuterSpans, RowOneOfK}
-use Rattle.trace.specs.Tree.{Way, Body, done, leaf, child, linesOf, spanOf, madeSum, outerSum, outerRow}
+use Rattle.trace.specs.Tree.{Way, Body, done, leaf, child, linesOf, Parts, workOf, spanOf, madeSum, rowSum, spansIn, outerSum, outerRow}
 use Rattle.trace.specs.Twelve.{K}
 use Rattle.trace.proofs.Basics.{both}
 use Rattle.trace.proofs.Tree.{parts-one}
 use Rattle.trace.proofs.Sums.{same-or-not}
 use Rattle.trace.proofs.Open.{has-cases, has-later, first-eq}
 use Rattle.trace.proofs.Parse.{accepted-parts}
-use Rattle.trace.proofs.Outermost.{outer-spans}
+use Rattle.trace.proofs.Unique.{spans-unique}
+use Rattle.trace.proofs.Columns.{work-tree, spans-tree}
+use Rattle.trace.proofs.Outermost.{outer-work, outer-spans}
 use Rattle.trace.proofs.Twelve.{heads, K-tree}
 
 -- ── enclosed, in words ──
@@ -99,7 +101,7 @@ module _ (t : List Frame) (s : ℕ) where
 pub root-outermost : (t : List Frame) → outermost t 0 ≡ root ∷ []
 root-outermost t = refl
 
--- ── siblings, as parallel branches are ──
+-- ── siblings ──
 
 -- what is open around an invocation is what is open at the line that makes it
 abbrev around : List Frame → ℕ → List ℕ
@@ -120,7 +122,8 @@ module _ (t : List Frame) where
   stacked-step n Return (c ∷ o) q h = h .1
   stacked-step n (Cost v) o q h = h
 
-  stacked-walk : (n : ℕ) (o : List ℕ) (u : List Frame) (j : ℕ) → ((k : ℕ) → openAt t (n + k) ≡ walk n o u k) → Stacked t o → Stacked t (walk n o u j)
+  stacked-walk : (n : ℕ) (o : List ℕ) (u : List Frame) (j : ℕ) → ((k : ℕ) → openAt t (n + k) ≡ walk n o u k) → Stacked t o
+      → Stacked t (walk n o u j)
   stacked-walk n o [] j q h = h
   stacked-walk n o (e ∷ u) zero q h = h
   stacked-walk n o (e ∷ u) (suc j) q h =
@@ -148,10 +151,33 @@ module _ (t : List Frame) where
       let x = both (has (suc i) (ofRow t s)) (not (enclosed t s (suc i))) (sym (outermost-is t s (suc i)) ∙ h) in
       outermost-is t s (suc j) ∙ ap₂ (λ (x y : Bool). x && not y) r (ap (hasOf t s) (siblings F j i b a)) ∙ x .1
 
+-- ── branches of which neither has the other's lines, as parallel ones ──
+
+module _ (t : List Frame) where
+  inside-too : (F G : ℕ) (o : List ℕ) → T (has F o) → T (has G (around t F)) → Stacked t o → T (has G o)
+  inside-too F G [] h k w = absurd h
+  inside-too F G (c ∷ o) h k w = elim (has-cases F c o h) [
+    | inl e ↦ has-later G c o (subst (λ (l : List ℕ). T (has G l)) (ap (around t) e ∙ sym (w .0)) k)
+    | inr m ↦ has-later G c o (inside-too F G o m k (w .1))
+  ]
+
+  -- LAW: an invocation that is open at the line that makes another contains all lines of that one
+  pub contains-too : (G g i : ℕ) → Open t G g → Contains t (suc g) i → Contains t G i
+  contains-too G g i h k = inside-too (suc g) G (openAt t i) k h (stacked t i)
+
+  -- LAW: of two invocations that each contain a line that the other does not, neither encloses the other
+  pub neither-around : (f g i j : ℕ) → Contains t (suc f) i → ¬ Contains t (suc f) j → Contains t (suc g) j → ¬ Contains t (suc g) i
+      → (¬ Open t (suc f) g) × (¬ Open t (suc g) f)
+  neither-around f g i j a b c d = (λ h. b (contains-too (suc f) g j h c), λ h. d (contains-too (suc g) f i h a))
+
 -- LAW: by the tree, two made one after the other
 pub both-added : (h : Body → ℕ) (s : ℕ) (v w : Way) (a b r : Body) → outerSum h s (child v s a (child w s b r)) ≡ h a + (h b + outerSum h s r)
 both-added h s v w a b r =
-    omega (arith, ap (λ (x : Bool). cond x (h a) (outerSum h s a)) (eq-eqb s s refl), ap (λ (x : Bool). cond x (h b) (outerSum h s b)) (eq-eqb s s refl))
+    omega (
+      arith,
+      ap (λ (x : Bool). cond x (h a) (outerSum h s a)) (eq-eqb s s refl),
+      ap (λ (x : Bool). cond x (h b) (outerSum h s b)) (eq-eqb s s refl),
+    )
 
 -- ── where none is enclosed, the columns are those of all ──
 
@@ -199,8 +225,8 @@ none-none h s done e = refl
 none-none h s (leaf l r) e = none-none h s r e
 none-none h s (child w i g r) e = go (eqb i s) e (none-none h s g) (none-none h s r)
   where
-    go : (b : Bool) → cond b 1 0 + (madeSum (λ b. 1) s g + madeSum (λ b. 1) s r) ≡ 0 → (madeSum (λ b. 1) s g ≡ 0 → madeSum h s g ≡ 0) → (madeSum (λ b. 1) s r ≡ 0 → madeSum h s r ≡ 0)
-        → cond b (h g) 0 + (madeSum h s g + madeSum h s r) ≡ 0
+    go : (b : Bool) → cond b 1 0 + (madeSum (λ b. 1) s g + madeSum (λ b. 1) s r) ≡ 0 → (madeSum (λ b. 1) s g ≡ 0 → madeSum h s g ≡ 0)
+        → (madeSum (λ b. 1) s r ≡ 0 → madeSum h s r ≡ 0) → cond b (h g) 0 + (madeSum h s g + madeSum h s r) ≡ 0
     go true e f k = absurd (omega arith)
     go false e f k = omega (arith, f (omega arith), k (omega arith))
 
@@ -218,6 +244,19 @@ alone-all h s (child w i g r) a = elim (same-or-not i s) [
       let y : cond (eqb i s) (h g) 0 ≡ 0 = ap (λ (b : Bool). cond b (h g) 0) (ne-eqb i s n) in
       omega (arith, alone-all h s g (a .1), alone-all h s r (a .2)))
 ]
+
+row-alone : (h : Body → ℕ) (s : ℕ) (b : Body) → Alone s b → outerRow h s b ≡ rowSum h s b
+row-alone h zero b a = refl
+row-alone h (suc s) b a = alone-all h (suc s) b a
+
+module _ (D : ℕ) (t : List Frame) (p : Parts D t) (s : ℕ) (a : Alone s (p .body)) where
+  -- LAW: columns 2 and 3 of such a site are the same over the outermost and over all
+  pub alone-work : outerWork t s ≡ work t s
+  alone-work = outer-work D t p s ∙ row-alone workOf s (p .body) a ∙ sym (work-tree D t p s)
+
+  pub alone-spans : (n : ℕ) → Spans t s n → OuterSpans t s n
+  alone-spans n h =
+      subst (OuterSpans t s) (row-alone spanOf s (p .body) a ∙ spans-unique t s (spansIn s (p .body)) n (spans-tree D t p s) h) (outer-spans D t p s)
 
 -- ── computed ──
 

@@ -15,7 +15,7 @@ use Rattle.trace.specs.Tree.{Way, opening, Body, done, leaf, child, line
 use Rattle.trace.proofs.Sums.{not-made, has-made}
 use Rattle.trace.proofs.Recurrence.{Paid}
 use Rattle.trace.proofs.Context.{Ctx, at-open}
-use Rattle.trace.proofs.Invocations.{Inv, inner, ctx-leaf, ctx-child, ctx-skip, root-ctx, root-inv, root-paid, whole, made-leaf, made-opening, made-heads}
+use Rattle.trace.proofs.Invocations.{Inv, inner, ctx-leaf, ctx-child, ctx-skip, root-ctx, root-inv, root-paid, made-leaf, made-opening, made-whole}
 use Rattle.trace.proofs.Stretches.{span-is, inside-is}
 use Rattle.trace.proofs.Parse.{accepted-parts}
 use Rattle.trace.proofs.Columns.{sum-from, makes-at, first-is, total-tree}
@@ -81,24 +81,25 @@ module _ (t : List Frame) (s : ℕ) (p : ℕ → ℕ → Type 0) (h : Body → �
       let rest = cond z 0 (outerSum h row r) + q in
       let of-row = of-site t n i row m (first-is t n (c ∷ o) (opening m i) v x) in
       let around = ap (hasOf t row) (open-here t n (c ∷ o) (opening m i) v x) ∙ k in
-      let a = adds r (suc n + size g) c o u q z (pd .1) k (ctx-skip t g (suc n) (suc n) (c ∷ o) (linesOf r ++ u) y) (move (n + suc (size g + size r)) (suc n + size g + size r) u q (omega arith) w) in
+      let a = adds r (suc n + size g) c o u q z (pd .1) k (ctx-skip t g (suc n) (suc n) (c ∷ o) (linesOf r ++ u) y)
+      (move (n + suc (size g + size r)) (suc n + size g + size r) u q (omega arith) w) in
       let b = adds g (suc n) (suc n) (c ∷ o) (linesOf r ++ u) rest (eqb i row || z) (pd .0) (ap₂ (λ (v w : Bool). v || w) of-row k) y a in
-      let d = subst (λ (l : List Frame). Outer (suc n) l (cond (eqb i row || z) 0 (outerSum h row g) + rest)) (sym (append-assoc (linesOf g) (linesOf r) u)) b in
+      let d = subst (λ (l : List Frame). Outer (suc n) l (cond (eqb i row || z) 0 (outerSum h row g) + rest))
+      (sym (append-assoc (linesOf g) (linesOf r) u)) b in
       subst (λ (l : List ℕ). Sum p (unenclosed t row l) (cond z 0 (outerSum h row (child m i g r)) + q)) (sym (made-opening t row p h is m i n v))
-      (subst (Sum p (unenclosed t row (cond (eqb i row) (suc n ∷ made (suc n) v row) (made (suc n) v row)))) (together (eqb i row) z (h g) (outerSum h row g) (outerSum h row r) q)
-      (one-more (eqb i row) z (suc n) (h g) (cond (eqb i row || z) 0 (outerSum h row g) + rest) (made (suc n) v row) around (is (suc n) (suc n) g (inner t n (c ∷ o) g (linesOf r ++ u) y (pd .0))) d))
+      (subst (Sum p (unenclosed t row (cond (eqb i row) (suc n ∷ made (suc n) v row) (made (suc n) v row))))
+      (together (eqb i row) z (h g) (outerSum h row g) (outerSum h row r) q)
+      (one-more (eqb i row) z (suc n) (h g) (cond (eqb i row || z) 0 (outerSum h row g) + rest) (made (suc n) v row) around
+      (is (suc n) (suc n) g (inner t n (c ∷ o) g (linesOf r ++ u) y (pd .0))) d))
 
 -- LAW: what is said of each invocation by its body adds up over the outermost of a row as it does over those of the tree
-pub outer-sum : (D : ℕ) (t : List Frame) (x : Parts D t) (p : ℕ → ℕ → Type 0) (h : Body → ℕ) → ((F n : ℕ) (g : Body) → Inv t F n g → p F (h g)) → (s : ℕ)
-    → Sum p (outermost t s) (outerRow h s (x .body))
+pub outer-sum : (D : ℕ) (t : List Frame) (x : Parts D t) (p : ℕ → ℕ → Type 0) (h : Body → ℕ)
+    → ((F n : ℕ) (g : Body) → Inv t F n g → p F (h g)) → (s : ℕ) → Sum p (outermost t s) (outerRow h s (x .body))
 outer-sum D t x p h is zero = (h (x .body), 0, is root (rootAt x) (x .body) (root-inv D t x), refl, omega arith)
 outer-sum D t x p h is (suc s) =
-    let e : 0 + rootAt x ≡ rootAt x = omega arith in
     let f : outerSum h (suc s) (x .body) + 0 ≡ outerSum h (suc s) (x .body) = omega arith in
-    let l : made 0 t (suc s) ≡ made (rootAt x) (linesOf (x .body) ++ []) (suc s) =
-    ap (λ (z : List Frame). made 0 z (suc s)) (whole D t x) ∙ made-heads (x .heads) (linesOf (x .body) ++ []) 0 (suc s) (x .all-sites) ∙ ap (λ (m : ℕ). made m (linesOf (x .body) ++ []) (suc s)) e in
     let k : hasOf t (suc s) (root ∷ []) ≡ false = ap (λ (b : Bool). b || false) (not-made 0 t (suc s) root (omega arith)) in
-    subst (λ (z : List ℕ). Sum p (unenclosed t (suc s) z) (outerSum h (suc s) (x .body))) (sym l)
+    subst (λ (z : List ℕ). Sum p (unenclosed t (suc s) z) (outerSum h (suc s) (x .body))) (sym (made-whole D t x (suc s)))
     (subst (Sum p (unenclosed t (suc s) (made (rootAt x) (linesOf (x .body) ++ []) (suc s)))) f
     (adds t s p h is (x .body) (rootAt x) root [] [] 0 false (root-paid D t x) k (root-ctx D t x) refl))
 
@@ -121,7 +122,9 @@ row-above (suc s) b = work-above (suc s) b
 module _ (D : ℕ) (t : List Frame) (p : Parts D t) (s : ℕ) where
   -- LAW
   pub outer-work : outerWork t s ≡ outerRow workOf s (p .body)
-  outer-work = sum-from (inside t) (outermost t s) (outerRow workOf s (p .body)) (outer-sum D t p (λ F a. inside t F ≡ a) workOf (λ F n g i. inside-is t F n g i) s)
+  outer-work =
+      sum-from (inside t) (outermost t s) (outerRow workOf s (p .body))
+      (outer-sum D t p (λ F a. inside t F ≡ a) workOf (λ F n g i. inside-is t F n g i) s)
 
   -- LAW
   pub outer-spans : OuterSpans t s (outerRow spanOf s (p .body))
