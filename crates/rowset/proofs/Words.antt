@@ -1,6 +1,6 @@
 -- Rows in the word that has them, and in the others.
 use Prim.Native.Nat.{ℕ, _+_, _-_, _%_, _^_, _≤_, _<_}
-use mathlib.Core.Bool.{Bool, true, false, _&&_, _||_}
+use mathlib.Core.Bool.{Bool, true, false, _&&_, _||_, or-false}
 use mathlib.Core.Path.{_≡_, refl, ap, ap₂, _∙_, sym}
 use native.Mathlib.Nat.{zero-div}
 use native.Mathlib.Omega.{arith}
@@ -111,31 +111,19 @@ module _ (x : RowSet) (r : ℕ) where
   in-first h =
       sym (made (bit (x .a) r) false false false
       (let z : r - 0 ≡ r = omega arith in here 0 (x .a) r (omega arith) (omega arith) ∙ ap (bit (x .a)) z) (lower 64 (x .b) r h) (lower 128 (x .c) r (omega arith)) (lower 192 (x .d) r (omega arith))
-      ∙ end (bit (x .a) r))
-    where
-      end : (b : Bool) → (b || (false || (false || false))) ≡ b
-      end true = refl
-      end false = refl
+      ∙ or-false (bit (x .a) r))
 
   pub in-second : 64 ≤ r → r < 128 → bit (x .b) (r - 64) ≡ member x r
   in-second l h =
       sym (made false (bit (x .b) (r - 64)) false false
       (higher 0 (x .a) r (omega arith)) (here 64 (x .b) r l (omega arith)) (lower 128 (x .c) r (omega arith)) (lower 192 (x .d) r (omega arith))
-      ∙ end (bit (x .b) (r - 64)))
-    where
-      end : (b : Bool) → (b || (false || false)) ≡ b
-      end true = refl
-      end false = refl
+      ∙ or-false (bit (x .b) (r - 64)))
 
   pub in-third : 128 ≤ r → r < 192 → bit (x .c) (r - 128) ≡ member x r
   in-third l h =
       sym (made false false (bit (x .c) (r - 128)) false
       (higher 0 (x .a) r (omega arith)) (higher 64 (x .b) r (omega arith)) (here 128 (x .c) r l (omega arith)) (lower 192 (x .d) r (omega arith))
-      ∙ end (bit (x .c) (r - 128)))
-    where
-      end : (b : Bool) → (b || false) ≡ b
-      end true = refl
-      end false = refl
+      ∙ or-false (bit (x .c) (r - 128)))
 
   pub in-fourth : 192 ≤ r → r < 256 → bit (x .d) (r - 192) ≡ member x r
   in-fourth l h =

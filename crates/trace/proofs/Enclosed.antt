@@ -1,7 +1,7 @@
 -- Which invocations of a row are outermost: whom one is enclosed by, siblings, rows of which none is enclosed, and K.
 use mathlib.Core.Path.{_≡_, refl, sym, _∙_, ap, ap₂, subst}
 use mathlib.Core.Logic.{inl, inr}
-use mathlib.Core.Bool.{Bool, true, false, not, cond, _&&_, _||_}
+use mathlib.Core.Bool.{Bool, true, false, not, cond, _&&_, _||_, and-false}
 use mathlib.Core.List.{List, [], _∷_, _++_}
 use Prim.Native.Nat.{ℕ, zero, suc, _+_, _≤_}
 use native.Mathlib.Omega.{arith}
@@ -16,10 +16,9 @@ use Rattle.trace.specs.Rows.{ofRow, inside, sum, Sum, work, Spans}
 use Rattle.trace.specs.Outermost.{hasOf, enclosed, unenclosed, outermost, outerWork, OuterSpans, RowOneOfK}
 use Rattle.trace.specs.Tree.{Way, Body, done, leaf, child, linesOf, Parts, workOf, spanOf, madeSum, rowSum, spansIn, outerSum, outerRow}
 use Rattle.trace.specs.Twelve.{K}
-use Rattle.trace.proofs.Basics.{both}
 use Rattle.trace.proofs.Tree.{parts-one}
 use Rattle.trace.proofs.Sums.{same-or-not}
-use Rattle.trace.proofs.Open.{has-cases, has-later, first-eq}
+use Rattle.trace.proofs.Open.{or-cases, or-right, has-cases, has-later, has-here, first-eq}
 use Rattle.trace.proofs.Parse.{accepted-parts}
 use Rattle.trace.proofs.Unique.{spans-unique}
 use Rattle.trace.proofs.Columns.{work-tree, spans-tree}
@@ -38,23 +37,21 @@ or-left : (a b : Bool) → T a → T (a || b)
 or-left true b h = tt
 or-left false b h = absurd h
 
-or-right : (a b : Bool) → T b → T (a || b)
-or-right true b h = tt
-or-right false b h = h
+and-right : (a b : Bool) → T (a && b) → T b
+and-right true b h = h
+and-right false b h = absurd h
 
-and-false : (a : Bool) → (a && false) ≡ false
-and-false true = refl
-and-false false = refl
+and-both : (a b : Bool) → T a → T b → T (a && b)
+and-both true b h k = k
+and-both false b h k = absurd h
 
 module _ (t : List Frame) (s : ℕ) where
   found : (o : List ℕ) → T (hasOf t s o) → (G : ℕ) × T (has G (ofRow t s)) × T (has G o)
   found [] h = absurd h
-  found (G ∷ o) h = go (has G (ofRow t s)) refl h (found o)
-    where
-      go : (b : Bool) → has G (ofRow t s) ≡ b → T (b || hasOf t s o) → (T (hasOf t s o) → (H : ℕ) × T (has H (ofRow t s)) × T (has H o))
-          → (H : ℕ) × T (has H (ofRow t s)) × T (has H (G ∷ o))
-      go true e k f = (G, subst T (sym e) tt, or-left (eqb G G) (has G o) (subst T (sym (eq-eqb G G refl)) tt))
-      go false e k f = let w = f k in (w .0, w .1, has-later (w .0) G o (w .2))
+  found (G ∷ o) h = elim (or-cases (has G (ofRow t s)) (hasOf t s o) h) [
+    | inl e ↦ (G, subst T (sym e) tt, has-here G G o refl)
+    | inr k ↦ (let w = found o k in (w .0, w .1, has-later (w .0) G o (w .2)))
+  ]
 
   find : (G : ℕ) (o : List ℕ) → T (has G (ofRow t s)) → T (has G o) → T (hasOf t s o)
   find G [] r h = absurd h
@@ -145,11 +142,12 @@ module _ (t : List Frame) where
   siblings F i j a b = open-in F (openAt t i) a (stacked i) ∙ sym (open-in F (openAt t j) b (stacked j))
 
   -- LAW: of two invocations of a row that are made directly in one invocation, where one is outermost, so is the other
-  pub both-outermost : (s F i j : ℕ) → Directly t F i → Directly t F j → has (suc j) (ofRow t s) ≡ true → has (suc i) (outermost t s) ≡ true
-      → has (suc j) (outermost t s) ≡ true
+  pub both-outermost : (s F i j : ℕ) → Directly t F i → Directly t F j → T (has (suc j) (ofRow t s)) → T (has (suc i) (outermost t s))
+      → T (has (suc j) (outermost t s))
   both-outermost s F i j a b r h =
-      let x = both (has (suc i) (ofRow t s)) (not (enclosed t s (suc i))) (sym (outermost-is t s (suc i)) ∙ h) in
-      outermost-is t s (suc j) ∙ ap₂ (λ (x y : Bool). x && not y) r (ap (hasOf t s) (siblings F j i b a)) ∙ x .1
+      let x = and-right (has (suc i) (ofRow t s)) (not (enclosed t s (suc i))) (subst T (outermost-is t s (suc i)) h) in
+      subst T (sym (outermost-is t s (suc j)))
+      (and-both (has (suc j) (ofRow t s)) (not (enclosed t s (suc j))) r (subst (λ (o : List ℕ). T (not (hasOf t s o))) (siblings F i j a b) x))
 
 -- ── branches of which neither has the other's lines, as parallel ones ──
 
@@ -180,6 +178,23 @@ both-added h s v w a b r =
     )
 
 -- ── where none is enclosed, the columns are those of all ──
+
+each-of : (p : ℕ → Type 0) (l : List ℕ) → ((F : ℕ) → T (has F l) → p F) → Each p l
+each-of p [] h = tt
+each-of p (x ∷ l) h =
+    (h x (has-here x x l refl), each-of p l (λ F k. h F (has-later F x l k)))
+
+-- LAW: none is enclosed where no invocation of the row is open at a line that makes one of it
+pub none-enclosed : (t : List Frame) (s : ℕ) → ((g : ℕ) → T (has (suc g) (ofRow t s)) → Around t s g → ⊥) → Each (λ F. enclosed t s F ≡ false) (ofRow t s)
+none-enclosed t s h = each-of (λ F. enclosed t s F ≡ false) (ofRow t s) not-enclosed
+  where
+    not-enclosed : (F : ℕ) → T (has F (ofRow t s)) → enclosed t s F ≡ false
+    not-enclosed zero k = refl
+    not-enclosed (suc g) k = go (enclosed t s (suc g)) refl
+      where
+        go : (b : Bool) → enclosed t s (suc g) ≡ b → b ≡ false
+        go true e = absurd (h g k (enclosed-by t s g (subst T (sym e) tt)))
+        go false e = refl
 
 plain : (t : List Frame) (s : ℕ) (l : List ℕ) → Each (λ F. enclosed t s F ≡ false) l → unenclosed t s l ≡ l
 plain t s [] h = refl

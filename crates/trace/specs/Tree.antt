@@ -121,6 +121,7 @@ outerSum h s done = 0
 outerSum h s (leaf l r) = outerSum h s r
 outerSum h s (child w i g r) = cond (eqb i s) (h g) (outerSum h s g) + outerSum h s r
 
+-- the sum of h over those of row s, where b is the root's body
 abbrev pub outerRow : (Body → ℕ) → ℕ → Body → ℕ
 outerRow h zero b = h b
 outerRow h (suc s) b = outerSum h (suc s) b
