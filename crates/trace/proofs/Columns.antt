@@ -25,7 +25,7 @@ use Rattle.trace.proofs.Stretches.{sum-append, all-costs, heads-sum, sp
 
 -- ── columns 1, 2 and 3 ──
 
-sum-from : (f : ℕ → ℕ) (l : List ℕ) (n : ℕ) → Sum (λ F a. f F ≡ a) l n → sum f l ≡ n
+pub sum-from : (f : ℕ → ℕ) (l : List ℕ) (n : ℕ) → Sum (λ F a. f F ≡ a) l n → sum f l ≡ n
 sum-from f [] n h = sym h
 sum-from f (x ∷ l) n h = omega (arith, h .2, h .4, sum-from f l (h .1) (h .3))
 
@@ -78,7 +78,7 @@ known-root t zero v b = omega (arith, ap (λ (x : Bool). cond (x && b) v 0) (eq-
 known-root t (suc s) v b =
     sum-made 0 t (suc s) root v b ∙ ap (λ (x : Bool). cond (x && b) v 0) (not-made 0 t (suc s) root (omega arith)) ∙ sym (ap (λ (x : Bool). cond (x && b) v 0) (ne-eqb 0 (suc s) (λ q. omega arith)))
 
-makes-at : (t : List Frame) (k i s : ℕ) (w : Way) → Is t k (opening w i) → makesAt t k s ≡ eqb i s
+pub makes-at : (t : List Frame) (k i s : ℕ) (w : Way) → Is t k (opening w i) → makesAt t k s ≡ eqb i s
 makes-at [] k i s w h = absurd h
 makes-at (e ∷ t) zero i s w h = ap (makes s) h ∙ opening-makes (λ j. eqb j s) false w i
 makes-at (e ∷ t) (suc k) i s w h = makes-at t k i s w h

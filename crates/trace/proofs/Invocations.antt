@@ -181,10 +181,10 @@ module _ (t : List Frame) (s : ℕ) (p : ℕ → ℕ → Type 0) (h : Body → �
   one-more true F a q l x y = (a, q, x, y, refl)
   one-more false F a q l x y = let e : q ≡ 0 + q = omega arith in subst (Sum p l) e y
 
-  made-leaf : (l : Leaf) (n : ℕ) (u : List Frame) → made n (lineOf l ∷ u) s ≡ made (suc n) u s
+  pub made-leaf : (l : Leaf) (n : ℕ) (u : List Frame) → made n (lineOf l ∷ u) s ≡ made (suc n) u s
   made-leaf l n u = ap (λ (b : Bool). cond b (suc n ∷ made (suc n) u s) (made (suc n) u s)) (leaf-makes (λ i. eqb i s) false l)
 
-  made-opening : (w : Way) (i n : ℕ) (u : List Frame) → made n (opening w i ∷ u) s ≡ cond (eqb i s) (suc n ∷ made (suc n) u s) (made (suc n) u s)
+  pub made-opening : (w : Way) (i n : ℕ) (u : List Frame) → made n (opening w i ∷ u) s ≡ cond (eqb i s) (suc n ∷ made (suc n) u s) (made (suc n) u s)
   made-opening w i n u = ap (λ (b : Bool). cond b (suc n ∷ made (suc n) u s) (made (suc n) u s)) (opening-makes (λ i. eqb i s) false w i)
 
   adds : (b : Body) → Adds b
@@ -212,13 +212,16 @@ made-heads (f ∷ h) u n s k =
     let e : suc n + length h ≡ n + suc (length h) = omega arith in
     at-site (λ g. made n (g ∷ (h ++ u)) s ≡ made (suc n) (h ++ u) s) (λ i p. refl) f (k .0) ∙ made-heads h u (suc n) s (k .1) ∙ ap (λ (m : ℕ). made m u s) e
 
+-- so a site's invocations are made in the root's body
+pub made-whole : (D : ℕ) (t : List Frame) (x : Parts D t) (s : ℕ) → made 0 t s ≡ made (rootAt x) (linesOf (x .body) ++ []) s
+made-whole D t x s =
+    let e : 0 + rootAt x ≡ rootAt x = omega arith in
+    ap (λ (z : List Frame). made 0 z s) (whole D t x) ∙ made-heads (x .heads) (linesOf (x .body) ++ []) 0 s (x .all-sites) ∙ ap (λ (m : ℕ). made m (linesOf (x .body) ++ []) s) e
+
 -- LAW: what is said of each invocation by its body adds up over a row as it does over the tree
 pub row-sum : (D : ℕ) (t : List Frame) (x : Parts D t) (p : ℕ → ℕ → Type 0) (h : Body → ℕ) → ((F n : ℕ) (g : Body) → Inv t F n g → p F (h g)) → (s : ℕ) → Sum p (ofRow t s) (rowSum h s (x .body))
 row-sum D t x p h is zero = (h (x .body), 0, is root (rootAt x) (x .body) (root-inv D t x), refl, omega arith)
 row-sum D t x p h is (suc s) =
-    let e : 0 + rootAt x ≡ rootAt x = omega arith in
     let f : madeSum h (suc s) (x .body) + 0 ≡ madeSum h (suc s) (x .body) = omega arith in
-    let l : made 0 t (suc s) ≡ made (rootAt x) (linesOf (x .body) ++ []) (suc s) =
-    ap (λ (z : List Frame). made 0 z (suc s)) (whole D t x) ∙ made-heads (x .heads) (linesOf (x .body) ++ []) 0 (suc s) (x .all-sites) ∙ ap (λ (m : ℕ). made m (linesOf (x .body) ++ []) (suc s)) e in
-    subst (λ (z : List ℕ). Sum p z (madeSum h (suc s) (x .body))) (sym l)
+    subst (λ (z : List ℕ). Sum p z (madeSum h (suc s) (x .body))) (sym (made-whole D t x (suc s)))
     (subst (Sum p (made (rootAt x) (linesOf (x .body) ++ []) (suc s))) f (adds t (suc s) p h is (x .body) (rootAt x) root [] [] 0 (root-paid D t x) (root-ctx D t x) refl))

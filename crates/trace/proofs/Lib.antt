@@ -23,6 +23,7 @@ pub mod Root
 pub mod Columns
 pub mod OnChain
 pub mod AtMost
+pub mod Outermost
 pub mod Small
 pub mod Outcome
 pub mod Unseen
@@ -31,3 +32,4 @@ pub mod Declared
 pub mod Interval
 pub mod Twelve
 pub mod Further
+pub mod Enclosed

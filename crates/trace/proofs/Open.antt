@@ -16,11 +16,11 @@ use Rattle.trace.proofs.Levels.{climb, never, Near}
 
 -- ── membership ──
 
-or-cases : (a b : Bool) → T (a || b) → (a ≡ true) ⊎ T b
+pub or-cases : (a b : Bool) → T (a || b) → (a ≡ true) ⊎ T b
 or-cases true b h = inl refl
 or-cases false b h = inr h
 
-or-right : (a b : Bool) → T b → T (a || b)
+pub or-right : (a b : Bool) → T b → T (a || b)
 or-right true b h = tt
 or-right false b h = h
 

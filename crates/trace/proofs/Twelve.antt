@@ -114,7 +114,7 @@ all-hold (c ∷ cs) (b ∷ bs) e =
     let k : map expected cs ≡ map computed bs = cc in
     (holds c b h, all-hold cs bs k)
 
-abbrev K-tree : Body
+abbrev pub K-tree : Body
 K-tree = child call 1 (leaf (spend 1) (child call 1 (leaf (spend 2) done) done)) done
 
 K-row : RowOne K 2 5 5 3

@@ -115,6 +115,17 @@ abbrev pub rowSum : (Body → ℕ) → ℕ → Body → ℕ
 rowSum h zero b = h b
 rowSum h (suc s) b = madeSum h (suc s) b
 
+-- the sum of h over those of them that stand in no other from site s: inside one from site s none is looked for
+abbrev pub outerSum : (Body → ℕ) → ℕ → Body → ℕ
+outerSum h s done = 0
+outerSum h s (leaf l r) = outerSum h s r
+outerSum h s (child w i g r) = cond (eqb i s) (h g) (outerSum h s g) + outerSum h s r
+
+-- the sum of h over those of row s, where b is the root's body
+abbrev pub outerRow : (Body → ℕ) → ℕ → Body → ℕ
+outerRow h zero b = h b
+outerRow h (suc s) b = outerSum h (suc s) b
+
 -- columns 1 to 4 of row s
 abbrev pub callsIn : ℕ → Body → ℕ
 callsIn s b = rowSum (λ g. 1) s b

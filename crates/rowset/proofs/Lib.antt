@@ -1,0 +1,3 @@
+pub mod Bits
+pub mod Words
+pub mod Unique
