@@ -56,7 +56,7 @@ static int refuse(uint64_t answer) {
         [NYO_LENGTH] = "the length is not a multiple of 23: a line is cut or has characters too many",
         [NYO_TOO_MANY] = "there are more than 65,536 lines",
         [NYO_ROOM] = "a lent slice is too short",
-        [NYO_CHARACTER] = "a character is not 0-9 or a-f, or the line feed is not the 23rd",
+        [NYO_CHARACTER] = "a character is not 0-9, a-f or A-F, or the line feed is not the 23rd",
         [NYO_TABLE] = "the kind is unknown, an unused field is not zero, or a value is outside the table",
         [NYO_AFTER_END] = "the root has returned before this line",
         [NYO_SITE_ORDER] = "site lines come first and are numbered 1, 2, 3 and on",

@@ -85,10 +85,12 @@ static void lines_are_read(void) {
     CHECK(numbers_are(&frame, (const uint64_t[]){1, 2, 20, 1, 9}, 5));
     CHECK(read_line(TEXT("060000ffffffff00000000\n"), 9) == 0);
     CHECK(numbers_are(&frame, (const uint64_t[]){6, 0, 4294967295, 0, 0}, 5));
+    CHECK(read_line(TEXT("060000aBcDeF0100000000\n"), 5) == 0);
+    CHECK(numbers_are(&frame, (const uint64_t[]){6, 0, 0xabcdef01, 0, 0}, 5));
     CHECK(read_line(TEXT("0500000000000000000000"), 5) == 2 && numbers_unchanged(&frame));
     CHECK(read_line(TEXT("0500000000000000000000\n\n"), 0) == 2 && numbers_unchanged(&frame));
     CHECK(read_line(TEXT("0g00000000000000000000\n"), 4) == 4 && numbers_unchanged(&frame));
-    CHECK(read_line(TEXT("0A00000000000000000000\n"), 5) == 5 && numbers_unchanged(&frame));
+    CHECK(read_line(TEXT("0G00000000000000000000\n"), 5) == 5 && numbers_unchanged(&frame));
     CHECK(read_line(TEXT("0700000000000000000000\n"), 5) == 6 && numbers_unchanged(&frame));
     CHECK(read_line(TEXT("0600000000000000000000\n"), 5) == 6 && numbers_unchanged(&frame));
 }

@@ -173,7 +173,10 @@ static size_t enough(size_t elements, size_t size, Input *in) {
     return how > 250 && elements > 0 ? (elements - 1) * size : elements * size;
 }
 
-/* A line that is read is written as it stood, and a refused one leaves the frame alone. */
+/* A capital digit as the small one; any other character as it is. */
+static uint8_t small(uint8_t c) { return c >= 'A' && c <= 'F' ? (uint8_t)(c + 'a' - 'A') : c; }
+
+/* A line that is read is written as it stood, in small letters, and a refused one leaves the frame alone. */
 static uint64_t read_and_write(const uint8_t *line, size_t len, Input *in) {
     Room frame = lend(&of_frame, enough(NYO_FRAME, 8, in), in), out = lend(&of_out, enough(NYO_LINE_CHARS, 1, in), in);
     Room written = lend(&of_written, enough(1, 8, in), in);
@@ -194,7 +197,7 @@ static uint64_t read_and_write(const uint8_t *line, size_t len, Input *in) {
         MUST(given || back == 4);
     } else {
         MUST(numbers(&written)[0] == NYO_LINE_CHARS && kept_from(&written, 8) && kept_from(&out, NYO_LINE_CHARS));
-        MUST(given || !memcmp(out.at, line, NYO_LINE_CHARS));
+        for (unsigned i = 0; !given && i < NYO_LINE_CHARS; i++) MUST(out.at[i] == small(line[i]));
     }
     return !given && numbers(&frame)[0] == 6 ? numbers(&frame)[2] : 0;
 }

@@ -1,6 +1,6 @@
 /* Nyolifuwe: work, span and the chosen chain of a fork-join trace, by a proved library.
  *
- * A trace is text: lines of 23 characters, each 22 digits (0-9, a-f) and a line feed. The digits are five fields, most
+ * A trace is text: lines of 23 characters, each 22 digits (0-9, a-f, A-F) and a line feed. The digits are five fields, most
  * significant digit first: kind (2), site (4), value (8), file (4), column (4). Unused fields are zero.
  *
  *     kind  meaning  used fields

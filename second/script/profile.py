@@ -14,7 +14,7 @@ SITE, CALL, SPAWN, SYNC, RETURN, COST = 1, 2, 3, 4, 5, 6
 CHARS = 23
 MOST_LINES = 65_536
 NOTHING = {"calls": 0, "work": 0, "span": 0, "local": 0, "on span": 0}
-LINE = re.compile(rb"([0-9a-f]{2})([0-9a-f]{4})([0-9a-f]{8})([0-9a-f]{4})([0-9a-f]{4})\n")
+LINE = re.compile(rb"([\da-fA-F]{2})([\da-fA-F]{4})([\da-fA-F]{8})([\da-fA-F]{4})([\da-fA-F]{4})\n")
 
 
 class Refusal(Exception):

@@ -3,7 +3,7 @@
 use crate::refusal::Ground;
 use std::ops::RangeInclusive;
 
-/// "23 characters: 22 digits from `0`-`9`, `a`-`f`, then a line feed."
+/// "23 characters: 22 digits", in both cases, "then a line feed."
 pub const CHARS: usize = 23;
 
 /// The digits of each field: "kind (2 digits), site (4), value (8), file (4), column (4)".
@@ -135,11 +135,12 @@ fn fields_of(chars: &[u8]) -> Option<Fields> {
     (*feed == b'\n').then_some(fields)
 }
 
-/// What a digit is worth: "digits from `0`-`9`, `a`-`f`".
+/// What a digit is worth: "digits from `0`-`9`, `a`-`f`"; "Reading a digit now takes both cases everywhere, mixed too."
 fn digit(c: u8) -> Option<u64> {
     match c {
         b'0'..=b'9' => Some(u64::from(c - b'0')),
         b'a'..=b'f' => Some(u64::from(c - b'a') + 10),
+        b'A'..=b'F' => Some(u64::from(c - b'A') + 10),
         _ => None,
     }
 }
@@ -170,9 +171,19 @@ mod tests {
     }
 
     #[test]
-    fn the_last_character_is_a_line_feed_and_capitals_are_no_digits() {
+    fn capitals_are_read_mixed_too_and_their_neighbours_are_not() {
+        assert_eq!(read(b"060000aBcDeF0100000000\n").map(|line| line.value), Ok(0xabcd_ef01));
+        assert_eq!(read(b"0100020000001A0001000B\n").map(|line| line.fields()), Ok([1, 2, 26, 1, 11]));
+        for neighbour in b"/:@G[`g" {
+            let mut line = *b"0600000000000x00000000\n";
+            line[13] = *neighbour;
+            assert_eq!(read(&line), Err(Ground::Character), "{neighbour}");
+        }
+    }
+
+    #[test]
+    fn the_last_character_is_a_line_feed() {
         assert_eq!(read(b"05000000000000000000000"), Err(Ground::Character));
-        assert_eq!(read(b"0600000000000A00000000\n"), Err(Ground::Character));
         assert_eq!(read(b"050000000000000000000\n\n"), Err(Ground::Character));
     }
 

@@ -35,6 +35,7 @@ const WORTH: [u8; 256] = {
     let mut digit = 0;
     while digit < 16 {
         worth[b"0123456789abcdef"[digit] as usize] = digit as u8;
+        worth[b"0123456789ABCDEF"[digit] as usize] = digit as u8;
         digit += 1;
     }
     worth

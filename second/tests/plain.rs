@@ -22,7 +22,7 @@ fn alike(cases: impl IntoIterator<Item = Case>) -> usize {
 
 #[test]
 fn on_the_traces_that_the_rules_name() {
-    assert_eq!(alike(fixed::cases()), 33);
+    assert_eq!(alike(fixed::cases()), 39);
 }
 
 #[test]

@@ -3,20 +3,44 @@
 use Prim.Native.Nat.{ℕ, _+_, _*_, _%_, _^_, _≤_, _<_}
 use mathlib.Core.Bool.{Bool, true, false, cond, _&&_, and-assoc, and-true}
 use mathlib.Core.List.{List, [], _∷_}
-use mathlib.Core.Path.{_≡_, refl, ap, _∙_, sym}
+use mathlib.Core.Path.{_≡_, refl, ap, ap₂, _∙_, sym}
 use native.Mathlib.Nat.{pow-suc, pow-le-pow-right, one-le-pow}
 use native.Mathlib.Numerals.{add-one}
 use native.Mathlib.Omega.{arith}
-use borrow.Author.Tests.{lt-ltb, le-leb, lt-leb}
-use lib.Dec.{ltb, leb}
+use borrow.Author.Tests.{eqb-true, lt-ltb, le-ltb, le-leb, lt-leb}
+use lib.Bits.{bitOr, or-lt}
+use lib.Dec.{eqb, ltb, leb}
 use lib.ListN.{length, drop, getD, drop-of-length-le}
 use lib.Seq.{drop-cons}
 use Rattle.digits.specs.declared.read.Numeral.{Numeral}
 use Rattle.digits.specs.Digits.{isDigit, worth, allDigits, behind, number}
 use Rattle.digits.specs.Read.{worthOf, reading}
-use Rattle.digits.proofs.Laws.{figure, letter, neither, worth-good, and-left, and-right, number-below}
+use Rattle.digits.proofs.Laws.{figure, worth-good, and-left, and-right, number-below}
+use Rattle.digits.proofs.Lanes.{of-each}
 
--- d and l are c less 48 and c less 97, wrapped
+-- a byte's worth by two differences that wrap: of it and `0`, and of it with the bit of 32 and `a`
+abbrev byDifferences : ℕ → ℕ → ℕ
+byDifferences d l = cond (ltb d 10) d (cond (ltb l 6) (10 + l) 16)
+
+worth-by : (c : ℕ) → c < 256 → worthOf c ≡ byDifferences ((c + 208) % 256) ((bitOr c 32 + 159) % 256)
+worth-by c h =
+    eqb-true (worthOf c) (byDifferences ((c + 208) % 256) ((bitOr c 32 + 159) % 256))
+    (of-each 256 (λ x. eqb (worthOf x) (byDifferences ((x + 208) % 256) ((bitOr x 32 + 159) % 256))) refl c h)
+
+-- d and l are those differences
+module _ (c d l : ℕ) (h : c < 256) (e : (d + 48) % 2 ^ 8 ≡ c) (f : (l + 97) % 2 ^ 8 ≡ bitOr c 32) (hd : d < 256) (hl : l < 256) where
+  worth-is : worthOf c ≡ byDifferences d l
+  worth-is =
+      let x : (c + 208) % 256 ≡ d = omega arith in
+      let y : (bitOr c 32 + 159) % 256 ≡ l = omega (arith, or-lt 8 c 32 h (omega arith)) in
+      worth-by c h ∙ ap₂ byDifferences x y
+
+  pub worth-letter : 10 ≤ d → l < 6 → worthOf c ≡ 10 + l
+  worth-letter g k = worth-is ∙ simp (le-ltb d 10 g, lt-ltb l 6 k)
+
+  pub worth-neither : 10 ≤ d → 6 ≤ l → worthOf c ≡ 16
+  worth-neither g k = worth-is ∙ simp (le-ltb d 10 g, le-ltb l 6 k)
+
 module _ (c : ℕ) where
   worth-of : (b : Bool) → isDigit c ≡ b → worthOf c ≡ cond b (worth c) 16
   worth-of b e = ap (λ (t : Bool). cond t (worth c) 16) e
@@ -25,14 +49,6 @@ module _ (c : ℕ) where
   worth-figure d e h =
       let f = figure c (omega arith) (omega arith) in
       worth-of true (f .0) ∙ f .1 ∙ omega arith
-
-  pub worth-letter : (l : ℕ) → (l + 97) % 2 ^ 8 ≡ c → l < 6 → worthOf c ≡ 10 + l
-  worth-letter l e h =
-      let f = letter c (omega arith) (omega arith) in
-      worth-of true (f .0) ∙ f .1 ∙ omega arith
-
-  pub worth-neither : (d l : ℕ) → (d + 48) % 2 ^ 8 ≡ c → (l + 97) % 2 ^ 8 ≡ c → d < 256 → l < 256 → 10 ≤ d → 6 ≤ l → worthOf c ≡ 16
-  worth-neither d l e f hd hl g h = worth-of false (neither c (λ x y. omega arith) (λ x y. omega arith))
 
   -- 16 tells a digit from any other character
   pub worth-tells : ltb (worthOf c) 16 ≡ isDigit c

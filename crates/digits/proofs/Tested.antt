@@ -22,12 +22,13 @@ tops = 0x8080_8080_8080_8080
 top : (c : ℕ) → c < 256 → bitAnd c 128 ≡ c / 128 * 128
 top c h = eqb-true (bitAnd c 128) (c / 128 * 128) (of-each 256 (λ x. eqb (bitAnd x 128) (x / 128 * 128)) refl c h)
 
--- the two tests of a character with no top bit: it is at least `0` and not past `9`, or at least `a` and not past `f`
+-- the two tests of a character with no top bit: it is at least `0` and not past `9`; or, with the bit of 32, at least `a`
+-- and not past `f`
 abbrev figureTest : ℕ → ℕ
 figureTest c = bitXor (c + 80) (c + 70)
 
 abbrev letterTest : ℕ → ℕ
-letterTest c = bitXor (c + 31) (c + 25)
+letterTest c = bitXor (bitOr c 32 + 31) (bitOr c 32 + 25)
 
 -- the two tests together say whether it is a digit
 told : (c : ℕ) → c < 128 → bitAnd (bitOr (figureTest c) (letterTest c)) 128 ≡ cond (isDigit c) 128 0
@@ -40,18 +41,20 @@ no-tops : (s : List ℕ) → allDigits s ≡ true → each (λ c. c / 128 * 128)
 no-tops [] e = refl
 no-tops (c ∷ s) e = go (digit-cases c (and-left (isDigit c) (allDigits s) e)) (no-tops s (and-right (isDigit c) (allDigits s) e))
   where
-    go : ((48 ≤ c) × (c ≤ 57)) ⊎ ((97 ≤ c) × (c ≤ 102)) → each (λ x. x / 128 * 128) s ≡ 0 → c / 128 * 128 + 256 * each (λ x. x / 128 * 128) s ≡ 0
+    go : ((48 ≤ c) × (c ≤ 57)) ⊎ (((97 ≤ c) × (c ≤ 102)) ⊎ ((65 ≤ c) × (c ≤ 70))) → each (λ x. x / 128 * 128) s ≡ 0
+        → c / 128 * 128 + 256 * each (λ x. x / 128 * 128) s ≡ 0
     go (inl (a, b)) r = omega arith
-    go (inr (a, b)) r = omega arith
+    go (inr (inl (a, b))) r = omega arith
+    go (inr (inr (a, b))) r = omega arith
 
--- with no top bit each character is below 128, and the word at most as if each were 127
+-- with no top bit each character is below 128, and a word of lanes below 128 at most as if each were 127
 low : (s : List ℕ) → each (λ c. c / 128 * 128) s ≡ 0 → Below 128 s
 low [] e = tt
 low (c ∷ s) e = (omega arith, low s (omega arith))
 
-at-most : (s : List ℕ) → Below 128 s → each (λ c. c) s ≤ each (λ c. 127) s
-at-most [] b = omega arith
-at-most (c ∷ s) b = let r = at-most s (b .1) in omega (arith, b .0)
+at-most : (f : ℕ → ℕ) → ((c : ℕ) → c < 128 → f c < 128) → (s : List ℕ) → Below 128 s → each f s ≤ each (λ c. 127) s
+at-most f h [] b = omega arith
+at-most f h (c ∷ s) b = let r = at-most f h s (b .1) in let l = h c (b .0) in omega arith
 
 -- all lanes say yes exactly where all characters are digits
 all-told : (s : List ℕ) → eqb (each (λ c. cond (isDigit c) 128 0) s) (each (λ c. 128) s) ≡ allDigits s
@@ -91,21 +94,39 @@ module _ (w : ℕ) (h : w < 2 ^ 64) where
     lows : Below 128 (chars w)
     lows = low (chars w) (sym top-bits ∙ z)
 
+    -- the bit of 32 in each lane
+    smalls : bitOr w 0x2020_2020_2020_2020 ≡ each (λ c. bitOr c 32) (chars w)
+    smalls =
+        ap (λ (x : ℕ). bitOr x 0x2020_2020_2020_2020) (sym whole)
+        ∙ each-or 256 (λ c. c) (λ c. 32) (λ c l. l) (λ c l. omega arith) (chars w) (bytes-below 8 w)
+
+    small-low : (c : ℕ) → c < 128 → bitOr c 32 < 128
+    small-low c l = or-lt 7 c 32 l (omega arith)
+
     -- the sums have room
     pub room : w ≤ 0x7f7f_7f7f_7f7f_7f7f
-    room = omega (arith, whole, at-most (chars w) lows)
+    room = omega (arith, whole, at-most (λ c. c) (λ c l. l) (chars w) lows)
 
-    -- one number more in each lane, and two such words against each other
-    plus : (k : ℕ) → w + each (λ c. k) (chars w) ≡ each (λ c. c + k) (chars w)
-    plus k = ap (λ (x : ℕ). x + each (λ c. k) (chars w)) (sym whole) ∙ each-add (λ c. c) (λ c. k) (chars w)
+    pub small-room : bitOr w 0x2020_2020_2020_2020 ≤ 0x7f7f_7f7f_7f7f_7f7f
+    small-room = omega (arith, smalls, at-most (λ c. bitOr c 32) small-low (chars w) lows)
 
-    differs : (j k : ℕ) → j ≤ 128 → k ≤ 128 → bitXor (w + each (λ c. j) (chars w)) (w + each (λ c. k) (chars w)) ≡ each (λ c. bitXor (c + j) (c + k)) (chars w)
-    differs j k hj hk = ap₂ bitXor (plus j) (plus k) ∙ each-xor 128 (λ c. c + j) (λ c. c + k) (λ c l. omega arith) (λ c l. omega arith) (chars w) lows
+    -- a word x of lanes below 128: one number more in each lane, and two such words against each other
+    differs : (x : ℕ) (f : ℕ → ℕ) → x ≡ each f (chars w) → ((c : ℕ) → c < 128 → f c < 128) → (j k : ℕ) → j ≤ 128 → k ≤ 128
+        → bitXor (x + each (λ c. j) (chars w)) (x + each (λ c. k) (chars w)) ≡ each (λ c. bitXor (f c + j) (f c + k)) (chars w)
+    differs x f e h j k hj hk =
+        ap₂ bitXor (plus j) (plus k)
+        ∙ each-xor 128 (λ c. f c + j) (λ c. f c + k) (λ c l. (let q = h c l in omega arith)) (λ c l. (let q = h c l in omega arith)) (chars w) lows
+      where
+        plus : (i : ℕ) → x + each (λ c. i) (chars w) ≡ each (λ c. f c + i) (chars w)
+        plus i = ap (λ (y : ℕ). y + each (λ c. i) (chars w)) e ∙ each-add f (λ c. i) (chars w)
 
     -- all eight lanes at once
-    pub all-tested : eqb (bitAnd (bitOr (bitXor (w + 0x5050_5050_5050_5050) (w + 0x4646_4646_4646_4646)) (bitXor (w + 0x1f1f_1f1f_1f1f_1f1f) (w + 0x1919_1919_1919_1919))) tops) tops ≡ allDigits (chars w)
+    pub all-tested : eqb (bitAnd (bitOr (bitXor (w + 0x5050_5050_5050_5050) (w + 0x4646_4646_4646_4646))
+        (bitXor (bitOr w 0x2020_2020_2020_2020 + 0x1f1f_1f1f_1f1f_1f1f) (bitOr w 0x2020_2020_2020_2020 + 0x1919_1919_1919_1919))) tops) tops ≡ allDigits (chars w)
     all-tested =
-        ap₂ (λ (x y : ℕ). eqb (bitAnd (bitOr x y) tops) tops) (differs 80 70 (omega arith) (omega arith)) (differs 31 25 (omega arith) (omega arith))
+        ap₂ (λ (x y : ℕ). eqb (bitAnd (bitOr x y) tops) tops)
+        (differs w (λ c. c) (sym whole) (λ c l. l) 80 70 (omega arith) (omega arith))
+        (differs (bitOr w 0x2020_2020_2020_2020) (λ c. bitOr c 32) smalls small-low 31 25 (omega arith) (omega arith))
         ∙ ap (λ (x : ℕ). eqb (bitAnd x tops) tops) (each-or 128 figureTest letterTest figure-fits letter-fits (chars w) lows)
         ∙ ap (λ (x : ℕ). eqb x tops) (each-and 128 (λ c. bitOr (figureTest c) (letterTest c)) (λ c. 128) (λ c l. or-lt 8 (figureTest c) (letterTest c) (figure-fits c l) (letter-fits c l)) (λ c l. omega arith) (chars w) lows)
         ∙ ap (λ (x : ℕ). eqb x tops) (each-same 128 (λ c. bitAnd (bitOr (figureTest c) (letterTest c)) 128) (λ c. cond (isDigit c) 128 0) told (chars w) lows)
@@ -115,4 +136,6 @@ module _ (w : ℕ) (h : w < 2 ^ 64) where
         figure-fits c l = xor-lt 8 (c + 80) (c + 70) (omega arith) (omega arith)
 
         letter-fits : (c : ℕ) → c < 128 → letterTest c < 256
-        letter-fits c l = xor-lt 8 (c + 31) (c + 25) (omega arith) (omega arith)
+        letter-fits c l =
+            let q = small-low c l in
+            xor-lt 8 (bitOr c 32 + 31) (bitOr c 32 + 25) (omega arith) (omega arith)

@@ -11,7 +11,7 @@ use borrow.Author.Tests.{eq-eqb}
 use lib.ListN.{length, drop, getD, replicate}
 use Rattle.digits.specs.Digits.{isDigit, worth, allDigits, behind, number}
 use Rattle.digits.specs.Word.{plain, plainBehind, plainly, packed, bytes, chars, eightOf, fourOf}
-use Rattle.digits.proofs.Laws.{and-left, and-right, digit-cases, figure, letter}
+use Rattle.digits.proofs.Laws.{and-left, and-right, digit-cases, figure, letter, capital}
 
 -- every character is a byte, as those of a lent slice of bytes are
 abbrev pub Bytes : List ℕ → Type 0
@@ -29,9 +29,10 @@ plain-worth c e = go (digit-cases c e)
     lane : (x y z : ℕ) → c % 16 ≡ x → c / 64 ≡ y → x + 9 * y ≡ z → z < 16 → plain c ≡ z
     lane x y z e f g h = ap₂ (λ (m n : ℕ). (m + 9 * n) % 16) e f ∙ ap (λ (n : ℕ). n % 16) g ∙ mod-eq-of-lt h
 
-    go : ((48 ≤ c) × (c ≤ 57)) ⊎ ((97 ≤ c) × (c ≤ 102)) → plain c ≡ worth c
+    go : ((48 ≤ c) × (c ≤ 57)) ⊎ (((97 ≤ c) × (c ≤ 102)) ⊎ ((65 ≤ c) × (c ≤ 70))) → plain c ≡ worth c
     go (inl (a, b)) = lane (c - 48) 0 (c - 48) (omega arith) (omega arith) (omega arith) (omega arith) ∙ sym (figure c a b .1)
-    go (inr (a, b)) = lane (c - 96) 1 (c - 87) (omega arith) (omega arith) (omega arith) (omega arith) ∙ sym (letter c a b .1)
+    go (inr (inl (a, b))) = lane (c - 96) 1 (c - 87) (omega arith) (omega arith) (omega arith) (omega arith) ∙ sym (letter c a b .1)
+    go (inr (inr (a, b))) = lane (c - 64) 1 (c - 55) (omega arith) (omega arith) (omega arith) (omega arith) ∙ sym (capital c a b .1)
 
 -- digits, each taken for one, are the number that they are
 plain-behind : (n : ℕ) (s : List ℕ) → allDigits s ≡ true → plainBehind n s ≡ behind n s

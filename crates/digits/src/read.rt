@@ -9,7 +9,7 @@ pub struct Numeral {
 }
 
 // What a character is worth as a digit, and 16 where it is none. Both tests are of a difference that wraps, so they
-// compile without a branch.
+// compile without a branch; with the bit of 32 a capital letter is the small one.
 pub fn worth(c: u8) -> u8
     ensures { λ r. ⌜ r ≡ worthOf c ⌝ }
 {
@@ -17,7 +17,7 @@ pub fn worth(c: u8) -> u8
     if figure < 10 {
         return figure;
     }
-    let letter = std::num::wrapping_sub_u8(c, b'a');
+    let letter = std::num::wrapping_sub_u8(c | 0x20, b'a');
     if letter < 6 {
         return 10 + letter;
     }

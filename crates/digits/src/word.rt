@@ -31,7 +31,7 @@ pub fn four(s: &[u8]) -> u64
     0x3030_3030 | (wide(s[0]) << 32) | (wide(s[1]) << 40) | (wide(s[2]) << 48) | (wide(s[3]) << 56)
 }
 
-// Whether all eight characters of a word are digits.
+// Whether all eight characters of a word are digits. With the bit of 32 in each, capital letters are small ones.
 pub fn all_digits(w: u64) -> bool
     ensures { λ r. ⌜ r ≡ allDigits (chars w) ⌝ }
 {
@@ -39,7 +39,8 @@ pub fn all_digits(w: u64) -> bool
         return false;
     }
     let figure = (w + 0x5050_5050_5050_5050) ^ (w + 0x4646_4646_4646_4646);
-    let letter = (w + 0x1f1f_1f1f_1f1f_1f1f) ^ (w + 0x1919_1919_1919_1919);
+    let small = w | 0x2020_2020_2020_2020;
+    let letter = (small + 0x1f1f_1f1f_1f1f_1f1f) ^ (small + 0x1919_1919_1919_1919);
     ((figure | letter) & 0x8080_8080_8080_8080) == 0x8080_8080_8080_8080
 }
 

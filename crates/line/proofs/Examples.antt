@@ -3,7 +3,7 @@
 use Prim.Native.Nat.{ℕ}
 use mathlib.Core.List.{List, [], _∷_, _++_, map}
 use mathlib.Core.Path.{_≡_, refl}
-use lib.ListN.{take, set}
+use lib.ListN.{take, set, replicate}
 use Rattle.digits.specs.Digits.{digits}
 use Rattle.line.specs.declared.Frame.{Frame}
 use Rattle.line.specs.declared.Frame.the-variants.{Site, Call, Spawn, Return, Cost}
@@ -56,12 +56,17 @@ listed-nowhere : map (λ (x : ℕ). readLine (printed x) 0)
     ≡ Refused 6 0 ∷ Refused 6 0 ∷ Refused 6 0 ∷ Refused 6 0 ∷ Refused 6 0 ∷ Refused 6 0 ∷ []
 listed-nowhere = refl
 
--- 5: a capital letter, `g`, no line feed; before 6, as the kinds here are 00
-wrong-character : map (λ (c : ℕ). readLine (set (printed 0) 1 c) 0) (65 ∷ 103 ∷ []) ≡ Refused 5 0 ∷ Refused 5 0 ∷ []
+-- 5: the neighbours `/` and `:`, `@` and `G`, a backquote and `g`, `[`, no line feed; before 6, as the kinds here are 00
+wrong-character : map (λ (c : ℕ). readLine (set (printed 0) 1 c) 0) (47 ∷ 58 ∷ 64 ∷ 71 ∷ 96 ∷ 103 ∷ 91 ∷ []) ≡ replicate 7 (Refused 5 0)
 wrong-character = refl
 
 no-line-feed : readLine (set (printed 0) 22 48) 0 ≡ Refused 5 0
 no-line-feed = refl
+
+-- both cases, mixed within a field and within a line: case I's second line with capitals, and a cost of 0xaBcDeF01
+capitals : map (λ (s : List ℕ). readLine s 0) (set (printed 0x0100020000001a00010009) 13 65 ∷ set (set (set (printed 0x060000abcdef0100000000) 7 66) 9 68) 11 70 ∷ [])
+    ≡ map (λ (x : ℕ). readLine (printed x) 0) (0x0100020000001a00010009 ∷ 0x060000abcdef0100000000 ∷ [])
+capitals = refl
 
 -- 2: a character less, and one more; before 5
 other-length : map (λ (s : List ℕ). readLine s 0) (take 22 (printed 0) ∷ (65 ∷ printed 0) ∷ []) ≡ Refused 2 0 ∷ Refused 2 0 ∷ []

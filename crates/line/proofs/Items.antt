@@ -13,6 +13,7 @@ use Rattle.digits.proofs.Words.{plain-number}
 use Rattle.line.proofs.At.{at-long}
 use Rattle.line.proofs.Cases.{frames}
 use Rattle.line.specs.Write.{chars}
+use Rattle.line.proofs.Small.{small-kind}
 use Rattle.line.proofs.RoundTrip.{table-fields, good-parts, chars-back}
 
 -- the kind in a frame's characters
@@ -31,7 +32,7 @@ module _ (s : List ℕ) (n k : ℕ) (f : Frame) (e : readAt s n ≡ Line k f) wh
       let x = sym (table-fields (fields (lineAt s n)) f t) in
       let p = good-parts (lineAt s n) h w in
       let l = at-long s n h in (
-        ap kindIn (l ∙ sym (ap chars (sym x) ∙ chars-back (lineAt s n) h w)) ∙ low f,
+        ap kindIn l ∙ sym (small-kind (lineAt s n)) ∙ ap kindIn (sym (ap chars (sym x) ∙ chars-back (lineAt s n) h w)) ∙ low f,
         ap siteIn l ∙ plain-number (part (lineAt s n) 2 4) (p .site) ∙ ap (λ (y : Fields). y .site) x,
         ap valueIn l ∙ plain-number (part (lineAt s n) 6 8) (p .value) ∙ ap (λ (y : Fields). y .value) x,
       )

@@ -4,6 +4,7 @@ pub mod At
 pub mod Filled
 pub mod Writable
 pub mod RoundTrip
+pub mod Small
 pub mod Items
 mod Examples
 pub mod Zero

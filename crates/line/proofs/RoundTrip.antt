@@ -9,8 +9,8 @@ use borrow.Author.Tests.{eqb-true, lt-ltb, ltb-true, not-false}
 use lib.Dec.{eqb, leb, ltb}
 use lib.ListN.{length, getD, take, drop, replicate, take-append-drop, drop-of-length-le}
 use lib.Seq.{drop-cons}
-use Rattle.digits.specs.Digits.{allDigits, number, digits}
-use Rattle.digits.proofs.Laws.{and-left, and-right, digits-good, digits-number, number-digits, number-below}
+use Rattle.digits.specs.Digits.{allDigits, smallForm, number, digits}
+use Rattle.digits.proofs.Laws.{and-left, and-right, digits-good, digits-number, number-digits, number-below, small-append}
 use Rattle.line.specs.declared.Frame.{Frame}
 use Rattle.line.specs.declared.Frame.the-variants.{Site, Call, Spawn, Sync, Return, Cost}
 use Rattle.line.specs.declared.Read.the-variants.{Line}
@@ -194,7 +194,7 @@ module _ (s : List ℕ) (h : length s ≡ 23) (w : wrong s ≡ false) where
         column = and-right (allDigits (part s 14 4)) _ third;
       }
 
-  -- one field: its number has room in it, and its digits are those of its number
+  -- one field: its number has room in it, and the digits of its number are it in small letters
   module _ (from size : ℕ) (fit : from + size ≤ 23) (d : allDigits (part s from size) ≡ true) where
     size-is : length (part s from size) ≡ size
     size-is = part-length s from size (omega arith)
@@ -202,7 +202,7 @@ module _ (s : List ℕ) (h : length s ≡ 23) (w : wrong s ≡ false) where
     part-below : number (part s from size) < 16 ^ size
     part-below = let p = ap (λ (n : ℕ). 16 ^ n) size-is in omega (arith, number-below (part s from size) d)
 
-    part-digits : digits size (number (part s from size)) ≡ part s from size
+    part-digits : digits size (number (part s from size)) ≡ smallForm (part s from size)
     part-digits = ap (λ (n : ℕ). digits n (number (part s from size))) (sym size-is) ∙ number-digits (part s from size) d
 
   pub fields-narrow : Narrow (fields s)
@@ -219,20 +219,25 @@ module _ (s : List ℕ) (h : length s ≡ 23) (w : wrong s ≡ false) where
   end : drop 22 s ≡ 10 ∷ []
   end = drop-cons s 22 0 (omega arith) ∙ ap (λ (c : ℕ). c ∷ drop 23 s) feed ∙ ap (λ (l : List ℕ). 10 ∷ l) (drop-of-length-le s {i = 23} (omega arith))
 
-  pub chars-back : chars (fields s) ≡ s
+  pub chars-back : chars (fields s) ≡ smallForm s
   chars-back =
       let p = good-parts in
       joined (part-digits 0 2 (omega arith) (p .kind)) (part-digits 2 4 (omega arith) (p .site)) (part-digits 6 8 (omega arith) (p .value)) (part-digits 14 4 (omega arith) (p .file)) (part-digits 18 4 (omega arith) (p .column))
-      ∙ ap (λ (l : List ℕ). l ++ 10 ∷ []) (sym (parts s))
-      ∙ ap (λ (l : List ℕ). take 22 s ++ l) (sym end)
-      ∙ take-append-drop 22 s
+      ∙ ap (λ (l : List ℕ). l ++ 10 ∷ []) (small-five (part s 0 2) (part s 2 4) (part s 6 8) (part s 14 4) (part s 18 4))
+      ∙ ap (λ (l : List ℕ). smallForm l ++ 10 ∷ []) (sym (parts s))
+      ∙ sym (small-append (take 22 s) (10 ∷ []))
+      ∙ ap (λ (l : List ℕ). smallForm (take 22 s ++ l)) (sym end)
+      ∙ ap smallForm (take-append-drop 22 s)
     where
       joined : {a b c d e a′ b′ c′ d′ e′ : List ℕ} → a ≡ a′ → b ≡ b′ → c ≡ c′ → d ≡ d′ → e ≡ e′
           → a ++ (b ++ (c ++ (d ++ (e ++ 10 ∷ [])))) ≡ (a′ ++ (b′ ++ (c′ ++ (d′ ++ e′)))) ++ 10 ∷ []
       joined {a′ = a′} {b′ = b′} {c′ = c′} {d′ = d′} {e′ = e′} ha hb hc hd he = rw (ha, hb, hc, hd, he) (simp append-assoc)
 
--- a line that reads as a frame is what that frame is written to
-pub read-write : (s : List ℕ) (n k : ℕ) (f : Frame) → readLine s n ≡ Line k f → (k ≡ n) × (writable f ≡ true) × (writeChars f ≡ s)
+      small-five : (a b c d e : List ℕ) → smallForm a ++ (smallForm b ++ (smallForm c ++ (smallForm d ++ smallForm e))) ≡ smallForm (a ++ (b ++ (c ++ (d ++ e))))
+      small-five a b c d e = sym (rw (small-append a (b ++ (c ++ (d ++ e))), small-append b (c ++ (d ++ e)), small-append c (d ++ e), small-append d e))
+
+-- LAW: "an accepted line is from now on rewritten as its small-letter form"
+pub read-write : (s : List ℕ) (n k : ℕ) (f : Frame) → readLine s n ≡ Line k f → (k ≡ n) × (writable f ≡ true) × (writeChars f ≡ smallForm s)
 read-write s n k f e =
     let (same, h, w, t) = frames s n k f e in
     let x = table-fields (fields s) f t in
@@ -240,3 +245,7 @@ read-write s n k f e =
     let is : isFrame (table (fieldsOf f)) ≡ true = ap (λ (y : Fields). isFrame (table y)) x ∙ ap isFrame t in
     let u : writable f ≡ true = ap (λ (b : Bool). b && isFrame (table (fieldsOf f))) fits ∙ is in
     (same, u, written f u ∙ ap chars x ∙ chars-back s h w)
+
+-- LAW: a line already in small letters is rewritten unchanged
+pub rewritten-same : (s : List ℕ) (n k : ℕ) (f : Frame) → readLine s n ≡ Line k f → smallForm s ≡ s → writeChars f ≡ s
+rewritten-same s n k f e h = read-write s n k f e .2 ∙ h

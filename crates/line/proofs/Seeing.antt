@@ -9,7 +9,7 @@ use native.Mathlib.Omega.{arith}
 use borrow.Author.Tests.{ne-eqb, eqb-true, le-leb, leb-true, not-true}
 use lib.Dec.{eqb, leb}
 use lib.ListN.{length, getD}
-use Rattle.digits.specs.Digits.{allDigits, number, digits}
+use Rattle.digits.specs.Digits.{smallForm, allDigits, number, digits}
 use Rattle.digits.specs.Read.{reading}
 use Rattle.digits.proofs.Laws.{digits-good, digits-number, number-digits}
 use Rattle.line.specs.declared.Frame.{Frame}
@@ -27,6 +27,7 @@ use Rattle.digits.proofs.Words.{plain-number}
 use Rattle.line.proofs.Lines.{part-length}
 use Rattle.line.proofs.Cases.{Case, long, wrongs, unlisted, listed, line-case}
 use Rattle.line.proofs.RoundTrip.{table-fields, fields-narrow, chars-back}
+use Rattle.line.proofs.Small.{small-is, zeros, part-digits, part-zeros}
 use Rattle.line.proofs.Zero.{zero-number}
 use Rattle.line.proofs.Short.{five, six, cost-line, call-line, spawn-line, sync-line, return-line}
 
@@ -46,8 +47,8 @@ positive p h d z = go (number p) refl
   where
     go : (x : ℕ) → number p ≡ x → 1 ≤ number p
     go zero e =
-        let q : digits 8 0 ≡ p = ap (λ (n : ℕ). digits n 0) (sym h) ∙ ap (digits (length p)) (sym e) ∙ number-digits p d in
-        absurd (let t : true ≡ false = ap allZero q ∙ z in let b : _≡_ {A = ℕ} 0 1 = ap (λ (x : Bool). cond x 0 1) t in omega arith)
+        let q : digits 8 0 ≡ smallForm p = ap (λ (n : ℕ). digits n 0) (sym h) ∙ ap (digits (length p)) (sym e) ∙ number-digits p d in
+        absurd (let t : true ≡ false = ap allZero q ∙ zeros p ∙ z in let b : _≡_ {A = ℕ} 0 1 = ap (λ (x : Bool). cond x 0 1) t in omega arith)
     go (suc x) e = omega arith
 
 -- the characters of a cost are right for it
@@ -79,15 +80,33 @@ right-frame Sync h = inr refl
 right-frame Return h = inr refl
 right-frame (Cost v) h = inr (right-cost v (h v refl .0) (h v refl .1))
 
+-- the small-letter form of a line is right where the line is
+right-small : (s : List ℕ) → rightFor (getD (smallForm s) 1 0) (smallForm s) ≡ rightFor (getD s 1 0) s
+right-small s =
+    rw (
+      small-is s 1 54 (omega arith),
+      small-is s 1 53 (omega arith),
+      small-is s 1 52 (omega arith),
+      small-is s 1 51 (omega arith),
+      small-is s 1 50 (omega arith),
+      small-is s 0 48 (omega arith),
+      small-is s 22 10 (omega arith),
+      part-zeros s 14 8,
+      part-zeros s 2 4,
+      part-zeros s 6 8,
+      part-digits s 2 4,
+      part-digits s 6 8,
+    )
+
 module _ (s : List ℕ) (n : ℕ) where
   -- what is not right is not seen
   pub unseen : rightFor (getD s 1 0) s ≡ false → Other ≡ glanced (readLine s n)
   unseen e = go (line-case s n)
     where
-      not-right : (f : Frame) → chars (fieldsOf f) ≡ s → (seenOf f ≡ Other) ⊎ (rightFor (getD (chars (fieldsOf f)) 1 0) (chars (fieldsOf f)) ≡ true) → seenOf f ≡ Other
+      not-right : (f : Frame) → chars (fieldsOf f) ≡ smallForm s → (seenOf f ≡ Other) ⊎ (rightFor (getD (chars (fieldsOf f)) 1 0) (chars (fieldsOf f)) ≡ true) → seenOf f ≡ Other
       not-right f q (inl o) = o
       not-right f q (inr r) =
-          absurd (let t : true ≡ false = sym r ∙ ap (λ (l : List ℕ). rightFor (getD l 1 0) l) q ∙ e in let b : _≡_ {A = ℕ} 0 1 = ap (λ (x : Bool). cond x 0 1) t in omega arith)
+          absurd (let t : true ≡ false = sym r ∙ ap (λ (l : List ℕ). rightFor (getD l 1 0) l) q ∙ right-small s ∙ e in let b : _≡_ {A = ℕ} 0 1 = ap (λ (x : Bool). cond x 0 1) t in omega arith)
 
       go : Case s n (readLine s n) → Other ≡ glanced (readLine s n)
       go (long h r) = sym (ap glanced r)

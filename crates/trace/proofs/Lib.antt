@@ -28,6 +28,7 @@ pub mod Small
 pub mod Outcome
 pub mod Unseen
 pub mod Places
+pub mod Letters
 pub mod Declared
 pub mod Interval
 pub mod Twelve

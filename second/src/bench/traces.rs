@@ -1,4 +1,4 @@
-//! Traces to time: four shapes, each with exactly so many lines and sites.
+//! Traces to time: four shapes, one of them with capital digits as well, each with exactly so many lines and sites.
 
 use crate::compare::rng::Rng;
 use crate::trace::Trace;
@@ -6,18 +6,21 @@ use crate::trace::Trace;
 /// The depth limit of every trace here, that of the report program.
 pub const DEPTH: u64 = 32;
 
-/// A shape by its name, and how some more of it is made.
+/// A shape by its name, how some more of it is made, and how its letters are written.
 #[derive(Clone, Copy)]
 pub struct Shape {
     pub name: &'static str,
     more: fn(&mut Maker),
+    letters: fn(&mut [u8]),
 }
 
-pub const SHAPES: [Shape; 4] = [
-    Shape { name: "deep", more: deep },
-    Shape { name: "wide", more: wide },
-    Shape { name: "fib", more: |maker| fib(maker, 24) },
-    Shape { name: "pipeline", more: pipeline },
+pub const SHAPES: [Shape; 6] = [
+    Shape { name: "deep", more: deep, letters: small },
+    Shape { name: "wide", more: wide, letters: small },
+    Shape { name: "fib", more: fib_24, letters: small },
+    Shape { name: "pipeline", more: pipeline, letters: small },
+    Shape { name: "capitals", more: fib_24, letters: <[u8]>::make_ascii_uppercase },
+    Shape { name: "mixed", more: fib_24, letters: mixed },
 ];
 
 impl Shape {
@@ -29,7 +32,9 @@ impl Shape {
             before = maker.trace.lines();
             (self.more)(&mut maker);
         }
-        maker.finish()
+        let mut trace = maker.finish();
+        (self.letters)(&mut trace);
+        trace
     }
 }
 
@@ -102,6 +107,18 @@ fn wide(maker: &mut Maker) {
     if maker.rng.once_in(32) {
         maker.sync();
     }
+}
+
+/// Letters as the writers have them.
+fn small(_: &mut [u8]) {}
+
+/// Every other letter a capital one.
+fn mixed(trace: &mut [u8]) {
+    trace.iter_mut().filter(|c| c.is_ascii_alphabetic()).step_by(2).for_each(|c| c.make_ascii_uppercase());
+}
+
+fn fib_24(maker: &mut Maker) {
+    fib(maker, 24);
 }
 
 /// Fibonacci as Cilk writes it: spawn one, call the other, sync, add.

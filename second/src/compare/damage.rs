@@ -35,8 +35,8 @@ pub fn character(rng: &mut Rng, chars: &mut [u8]) {
     }
     let place = rng.index(chars.len());
     chars[place] = match rng.below(3) {
-        0 => rng.pick(b"0123456789abcdef"),
-        1 => rng.pick(b"/:@AF`gG \n\r\0\xff"),
+        0 => rng.pick(b"0123456789abcdefABCDEF"),
+        1 => rng.pick(b"/:@AFG[`afg\x10\x19 \n\r\0\xff"),
         _ => rng.number() as u8,
     };
 }
@@ -116,8 +116,14 @@ fn wrong_kind(rng: &mut Rng, trace: &mut [u8]) {
 fn wrong_field(rng: &mut Rng, trace: &mut [u8]) {
     if let Some(line) = any_line(rng, trace) {
         let place = line.start + rng.index(CHARS - 1);
-        trace[place] = rng.pick(b"0123456789abcdef");
+        trace[place] = rng.pick(b"0123456789abcdefABCDEF");
     }
+}
+
+/// Capital letters for small ones: for all of them, or here and there.
+pub fn capitals(rng: &mut Rng, chars: &mut [u8]) {
+    let mixed = rng.once_in(2);
+    chars.iter_mut().filter(|_| !mixed || rng.once_in(2)).for_each(|c| c.make_ascii_uppercase());
 }
 
 /// Zero for the site, the value, the file or the column of a line.

@@ -52,7 +52,7 @@ pub struct Further {
 }
 
 /// "the empty file (14, line 0), a lone return (accepted), a well-formed line after it (7), call 2 with one site (11),
-/// D = 1 and a call (12), M and M+1 sites, 65,536 and 65,537 lines, cost 0 (6)"
+/// D = 1 and a call (12), M and M+1 sites, 65,536 and 65,537 lines, cost 0 (6)"; and the neighbours of the capital digits
 pub fn further() -> Vec<Further> {
     let plain = Limits { depth: 4, sites: 2 };
     let mut all = vec![
@@ -67,6 +67,18 @@ pub fn further() -> Vec<Further> {
         Further::new("65,536 lines", lines(MOST_LINES), plain, None),
         Further::new("65,537 lines", lines(MOST_LINES + 1), plain, Some(Ground::Lines.at(0))),
     ];
+    for (name, c, refusal) in [
+        ("a capital A", b'A', None),
+        ("a capital F", b'F', None),
+        ("a capital G", b'G', Some(Ground::Character.at(0))),
+        ("@, before A", b'@', Some(Ground::Character.at(0))),
+        ("[, behind Z", b'[', Some(Ground::Character.at(0))),
+        ("a backquote, before a", b'`', Some(Ground::Character.at(0))),
+    ] {
+        let mut trace = Trace::from_events(0, "10");
+        trace.chars[13] = c;
+        all.push(Further::new(name, trace, plain, refusal));
+    }
     let shallow = Limits { depth: 1, sites: 1 };
     all.push(Further::new("D = 1 and a call", Trace::from_events(1, "call 1 {}"), shallow, Some(Ground::Depth.at(1))));
     for sites in [0, 1, 2, 31, 255] {

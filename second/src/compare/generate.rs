@@ -54,6 +54,9 @@ fn engines(rng: &mut Rng) -> Question {
     let mut trace = shapes::trace(rng);
     let mut limits = limits(rng, &trace);
     let mut spare = spare(rng);
+    if rng.once_in(4) {
+        damage::capitals(rng, &mut trace.chars);
+    }
     if rng.once_in(2) {
         damage::some(rng, &mut trace.chars, &mut limits, &mut spare);
     }
@@ -94,6 +97,9 @@ fn spare(rng: &mut Rng) -> Spare {
 /// Characters for the line reader: a good line, a damaged one, or nothing like one.
 fn read_line(rng: &mut Rng) -> Question {
     let mut line = chars(&fields(rng));
+    if rng.once_in(3) {
+        damage::capitals(rng, &mut line);
+    }
     match rng.below(4) {
         0 => (0..rng.between(1, 2)).for_each(|_| damage::character(rng, &mut line)),
         1 => line.resize(rng.index(2 * CHARS), b'0'),

@@ -18,12 +18,14 @@ add-result : tie.Need-add-result
 add-result c = search needs
 
 returns-2 : tie.Need-returns-2
-returns-2 c = sym (worth-letter _ _ (c .before .wrapping-sub-u82 .ensures) (c .if2 .taken))
+returns-2 c =
+    sym
+    (worth-letter _ _ _ (search needs) (c .before .before .before .wrapping-sub-u8 .ensures) (c .before .wrapping-sub-u82 .ensures) (search needs) (search needs) (c .before .before .if1 .left) (c .if2 .taken))
 
 returns-3 : tie.Need-returns-3
 returns-3 c =
     sym
-    (worth-neither _ _ _ (c .before .before .before .wrapping-sub-u8 .ensures) (c .before .wrapping-sub-u82 .ensures) (search needs) (search needs) (c .before .before .if1 .left) (c .if2 .left))
+    (worth-neither _ _ _ (search needs) (c .before .before .before .wrapping-sub-u8 .ensures) (c .before .wrapping-sub-u82 .ensures) (search needs) (search needs) (c .before .before .if1 .left) (c .if2 .left))
 
 pub worth-spec : {M : Type 1} → statement M
 worth-spec =
