@@ -132,6 +132,20 @@ static const char case_i[] =
 
 static const uint64_t case_i_rows[] = {1, 10, 9, 2, 2, 1, 8, 7, 1, 0, 1, 7, 7, 7, 7};
 
+/* Case K: site 1 calls itself, and the inner invocation's 2 are in work and span once. */
+static const char case_k[] =
+    "0100010000000a00010005\n"
+    "0100020000001400010009\n"
+    "0200010000000000000000\n"
+    "0600000000000100000000\n"
+    "0200010000000000000000\n"
+    "0600000000000200000000\n"
+    "0500000000000000000000\n"
+    "0500000000000000000000\n"
+    "0500000000000000000000\n";
+
+static const uint64_t case_k_rows[] = {1, 3, 3, 0, 0, 2, 3, 3, 3, 3, 0, 0, 0, 0, 0};
+
 static const char case_i_report[] =
     "00000000000000000001000000000000000a000000000000000900000000000000020000000000000002\n"
     "000100000000000000010000000000000008000000000000000700000000000000010000000000000000\n"
@@ -256,6 +270,8 @@ static void traces_are_profiled(void) {
     CHECK(tables(case_i, len, 4, 3, enough) == 0 && profile_is(case_i_rows, 15, totals));
     CHECK(marked(case_i, len, 4, 3, enough) == 0 && profile_is(case_i_rows, 15, totals));
     CHECK(chars_are(&marks, "\0\0\0\0\1\0\0\0\1\0", 10));
+    CHECK(tables(case_k, sizeof case_k - 1, 4, 2, enough) == 0 && profile_is(case_k_rows, 15, (const uint64_t[]){3, 3, 2, 9}));
+    CHECK(marked(case_k, sizeof case_k - 1, 4, 2, enough) == 0 && profile_is(case_k_rows, 15, (const uint64_t[]){3, 3, 2, 9}));
     const char lone[] = "0500000000000000000000\n";
     CHECK(tables(lone, 23, 1, 0, enough) == 0 && profile_is((const uint64_t[]){1, 0, 0, 0, 0}, 5, (const uint64_t[]){0, 0, 0, 1}));
     CHECK(marked(lone, 23, 1, 0, enough) == 0 && profile_is((const uint64_t[]){1, 0, 0, 0, 0}, 5, (const uint64_t[]){0, 0, 0, 1}));

@@ -305,10 +305,16 @@ static int all_zero(const Room *r) {
     return 1;
 }
 
-/* Columns 4 and 5 add up to the total work and the total span. */
+/* Columns 4 and 5 add up to the total work and the total span. No row's work is above the total work, and beside it no
+ * span and no local is above the work, no on-span number above the local; a row without calls is zero. */
 static void columns_add_up(const uint64_t *rows, const uint64_t *answer) {
     uint64_t local = 0, on_span = 0;
-    for (size_t row = 0; row <= answer[2]; row++, rows += NYO_COLUMNS) local += rows[NYO_LOCAL], on_span += rows[NYO_ON_SPAN];
+    for (size_t row = 0; row <= answer[2]; row++, rows += NYO_COLUMNS) {
+        MUST(rows[NYO_WORK] <= answer[0] && rows[NYO_SPAN] <= rows[NYO_WORK]);
+        MUST(rows[NYO_LOCAL] <= rows[NYO_WORK] && rows[NYO_ON_SPAN] <= rows[NYO_LOCAL]);
+        MUST(rows[NYO_CALLS] > 0 || rows[NYO_WORK] == 0);
+        local += rows[NYO_LOCAL], on_span += rows[NYO_ON_SPAN];
+    }
     MUST(local == answer[0] && on_span == answer[1] && answer[1] <= answer[0]);
 }
 

@@ -91,9 +91,12 @@ enum {
  * depth and sites are the limits that the caller sets, and decide the room:
  *   scratch  NYO_TABLES_SCRATCH(depth, sites)   all zero afterwards
  *   rows     NYO_ROWS(sites)                    row 0 is the root, row s site s; five numbers each:
- *                                               calls, work, span, local, on span
+ *                                               calls, work, span, local, on span; see below
  *   answer   NYO_ANSWER                         total work, total span, number of sites, number of lines
- * Of rows the numbers of the root and of the declared sites are written.
+ * Of rows the numbers of the root and of the declared sites are written. Calls counts the invocations made from the site;
+ * local is the costs directly in them, and on span the part of it on the chosen chain. Work and span add up, over those of
+ * them that no other invocation from the same site encloses, all costs inside each and the span of each: so a site that
+ * calls itself has no more work, and no more span, than the total work.
  * Refusals: 1 to 4 in that order with line 0, then 5 to 12 of the first faulty line, then 14. */
 uint64_t nyo_tables(const uint8_t *trace, size_t trace_len, uint64_t depth, uint64_t sites, uint64_t *scratch,
                     size_t scratch_len, uint64_t *rows, size_t rows_len, uint64_t *answer, size_t answer_len);

@@ -183,7 +183,7 @@ def the_rules_traces():
         if letter == "I":
             expect("I's lines", trace, CASE_I)
         if letter == "K":
-            expect("K's row 1: calls, work, span, local", [numbers[:4] for numbers in rows[1:2]], [[2, 5, 5, 3]])
+            expect("K's row 1: calls, work, span, local", [numbers[:4] for numbers in rows[1:2]], [[2, 3, 3, 3]])
 
 
 # ---- the examples and their page
@@ -215,9 +215,9 @@ def the_limits():
     expect("call 0", printed((sites(1) + call(0) + RETURN + RETURN).encode()), refusal(11, 1))
     expect("cost 0", printed((cost(0) + RETURN).encode()), refusal(6, 0))
 
-    # 31 calls in one another and the root are 32 open; each call's work is the innermost cost of 5, so row 1 has 155
+    # 31 calls in one another and the root are 32 open; row 1 has the work of the outermost alone, which is the cost of 5
     deepest = sites(1) + 31 * call(1) + cost(5) + 31 * RETURN + RETURN
-    expect("D invocations open", printed(deepest.encode()), row(0, 1, 5, 5, 0, 0) + row(1, 31, 155, 155, 5, 5))
+    expect("D invocations open", printed(deepest.encode()), row(0, 1, 5, 5, 0, 0) + row(1, 31, 5, 5, 5, 5))
     deeper = sites(1) + 32 * call(1) + 32 * RETURN + RETURN
     expect("D + 1 invocations open", printed(deeper.encode()), refusal(12, 32))
 

@@ -85,6 +85,7 @@ class Profile:
         self.places = {}
         self.rows = {0: {**NOTHING, "calls": 1}}
         self.open = [Invocation(0, False, 0)]
+        self.open_of = {0: 1}
 
     def line(self, chars):
         """Takes one line. No number can come near 64 bits, so 13 is never given."""
@@ -136,13 +137,16 @@ class Profile:
         if len(self.open) >= self.depth:
             self.refuse(12)
         self.rows[site]["calls"] += 1
+        self.open_of[site] = self.open_of.get(site, 0) + 1
         self.open.append(Invocation(site, spawned, self.work))
 
     def leave(self):
         own = self.open.pop()
         own.end_block()
-        self.rows[own.row]["work"] += self.work - own.work_before
-        self.rows[own.row]["span"] += own.done.weight
+        self.open_of[own.row] -= 1
+        if not self.open_of[own.row]:  # none of its row is open around it
+            self.rows[own.row]["work"] += self.work - own.work_before
+            self.rows[own.row]["span"] += own.done.weight
         if self.open:
             self.open[-1].take(own)
         else:

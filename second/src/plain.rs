@@ -133,6 +133,8 @@ struct Engine {
     limits: Limits,
     places: Vec<u64>,
     open: Vec<Open>,
+    /// How many of the open invocations are of each row.
+    open_of: [u8; 256],
     steps: Vec<Step>,
     rows: Vec<Row>,
     work: u64,
@@ -152,6 +154,7 @@ impl Engine {
             limits,
             places: Vec::new(),
             open: vec![Open::new(0, 0, 0)],
+            open_of: std::array::from_fn(|row| u8::from(row == 0)),
             steps: Vec::with_capacity(lines),
             rows: vec![row(1)],
             work: 0,
@@ -160,7 +163,7 @@ impl Engine {
     }
 
     /// Takes one line, or gives the smallest number that it is refused with. Refusal 13 needs no test: 65,536 values
-    /// below 2^32, each counted at most 64 times in a row, stay below 2^54.
+    /// below 2^32, each counted at most once in a column of a row, stay below 2^48.
     fn line(&mut self, line: u32, chars: &[u8; CHARS]) -> Result<(), Ground> {
         let fields = Fields::read(chars)?;
         let own = self.open.last_mut().ok_or(Ground::AfterEnd)?;
@@ -208,17 +211,22 @@ impl Engine {
             return Err(Ground::Depth);
         }
         self.rows[usize::from(site)][CALLS] += 1;
+        self.open_of[usize::from(site)] += 1;
         self.open.push(Open::new(site as u8, spawn, self.work));
         Ok(())
     }
 
-    /// Closes the innermost invocation and gives its span to the one around it.
+    /// Closes the innermost invocation and gives its span to the one around it. Columns 2 and 3 take it where none of its
+    /// row is open around it.
     fn leave(&mut self, line: u32) {
         let Some(mut own) = self.open.pop() else { return };
         own.end_block(line, &mut self.steps);
-        let row = &mut self.rows[usize::from(own.row)];
-        row[WORK] += self.work - own.work_before;
-        row[SPAN] += own.done;
+        let row = usize::from(own.row);
+        self.open_of[row] -= 1;
+        if self.open_of[row] == 0 {
+            self.rows[row][WORK] += self.work - own.work_before;
+            self.rows[row][SPAN] += own.done;
+        }
         match self.open.last_mut() {
             None => self.span = own.done,
             Some(around) if own.spawn == 0 => around.along += own.done,

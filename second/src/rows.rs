@@ -41,13 +41,17 @@ fn marks(shape: &Shape, chosen: &[usize]) -> Vec<u8> {
     marks
 }
 
+/// "Columns 2 and 3 from now on count only invocations with no enclosing invocation from the same site. Calls, local and on
+/// span still count all."
 fn rows(shape: &Shape, spans: &[u64], marks: &[u8]) -> Vec<Row> {
     let mut rows = vec![[0; COLUMNS]; shape.sites + 1];
     for (invocation, span) in shape.invocations.iter().zip(spans) {
         let row = &mut rows[invocation.row];
         row[CALLS] += 1;
-        row[WORK] += shape.work(invocation.range());
-        row[SPAN] += span;
+        if shape.outermost(invocation) {
+            row[WORK] += shape.work(invocation.range());
+            row[SPAN] += span;
+        }
     }
     for (line, owner) in shape.directly_in.iter().enumerate() {
         let Some(owner) = *owner else { continue };

@@ -1,6 +1,7 @@
 //! The shape of an accepted trace: invocations as intervals of lines, and which cost lines are parallel.
 
 use crate::line::{Kind, Line};
+use std::iter::successors;
 use std::ops::Range;
 
 /// How an invocation came about.
@@ -57,6 +58,24 @@ impl Shape {
     /// The sum of the costs on some lines.
     pub fn work(&self, lines: Range<usize>) -> u64 {
         self.lines[lines].iter().map(Line::cost).sum()
+    }
+
+    /// The invocations that enclose one, from the one that made it out to the root.
+    pub fn around<'a>(&'a self, own: &Invocation) -> impl Iterator<Item = &'a Invocation> {
+        successors(self.maker(own), |around| self.maker(around))
+    }
+
+    /// The invocation that called or spawned one.
+    fn maker(&self, own: &Invocation) -> Option<&Invocation> {
+        match own.start {
+            Start::Root => None,
+            Start::Called(f) | Start::Spawned(f) => Some(&self.invocations[f]),
+        }
+    }
+
+    /// Whether one has "no enclosing invocation from the same site".
+    pub fn outermost(&self, own: &Invocation) -> bool {
+        self.around(own).all(|around| around.row != own.row)
     }
 
     /// For cost lines i < j: "They are parallel exactly when some spawned invocation G contains i and not j, the

@@ -1,14 +1,14 @@
 //! The comparison finds what it is made to find: wrong stand-ins are told apart, and the case shrinks.
 
 use second::chain::Chains;
-use second::check::Limits;
+use second::check::{self, Limits};
 use second::compare::case::{Case, Question};
 use second::compare::fixed::{self, TWELVE, TWELVE_LIMITS};
 use second::compare::{compare, generate, Difference};
 use second::graph;
 use second::library::{Library, Second};
 use second::line::{Kind, CHARS};
-use second::rows::COLUMNS;
+use second::rows::{COLUMNS, WORK};
 use second::shape::{Invocation, Shape, Start};
 use second::trace::events;
 use std::cmp::Ordering;
@@ -141,16 +141,19 @@ fn a_long_trace_shrinks_as_far() {
     assert!(found.to_string().contains("a trace of 46 characters (1):"), "{found}");
 }
 
+/// What is done to a trace's outcome: its code, scratch, rows and answer.
+type After = fn(trace: &[u8], code: u64, scratch: &mut [u64], rows: &mut [u64], answer: &mut [u64]);
+
 /// The second program with something done wrong before or after it.
 struct Wrong {
     before: fn(&mut Vec<u8>),
-    after: fn(code: u64, scratch: &mut [u64], rows: &mut [u64], answer: &mut [u64]),
+    after: After,
     sheet: fn(&mut Vec<u8>),
 }
 
 impl Default for Wrong {
     fn default() -> Wrong {
-        Wrong { before: |_| (), after: |_, _, _, _| (), sheet: |_| () }
+        Wrong { before: |_| (), after: |_, _, _, _, _| (), sheet: |_| () }
     }
 }
 
@@ -159,7 +162,7 @@ impl Library for Wrong {
         let mut trace = trace.to_vec();
         (self.before)(&mut trace);
         let code = Second::by_paths().tables(&trace, limits, scratch, rows, answer);
-        (self.after)(code, scratch, rows, answer);
+        (self.after)(&trace, code, scratch, rows, answer);
         code
     }
 
@@ -222,7 +225,7 @@ fn refusing_capital_digits() {
 
 #[test]
 fn a_scratch_number_left_over() {
-    let after = |code: u64, scratch: &mut [u64], _: &mut [u64], _: &mut [u64]| {
+    let after = |_: &[u8], code: u64, scratch: &mut [u64], _: &mut [u64], _: &mut [u64]| {
         if let (0, Some(last)) = (code, scratch.last_mut()) {
             *last = 1;
         }
@@ -233,7 +236,7 @@ fn a_scratch_number_left_over() {
 
 #[test]
 fn a_row_cleared_that_no_site_has() {
-    let after = |code: u64, _: &mut [u64], rows: &mut [u64], answer: &mut [u64]| {
+    let after = |_: &[u8], code: u64, _: &mut [u64], rows: &mut [u64], answer: &mut [u64]| {
         if code == 0 {
             rows[COLUMNS * (answer[2] as usize + 1)..].fill(0);
         }
@@ -242,9 +245,38 @@ fn a_row_cleared_that_no_site_has() {
     assert!(told.contains("table engine's rows, number 5: second "), "{told}");
 }
 
+/// Adds to column 2 of an accepted trace's rows the work of the enclosed invocations that a rule counts nonetheless.
+fn count_enclosed(trace: &[u8], code: u64, rows: &mut [u64], counts: fn(&Shape, &Invocation) -> bool) {
+    let limits = Limits { depth: 64, sites: 255 };
+    let Ok(shape) = check::trace(trace, limits, &limits.for_tables()) else { return };
+    for own in shape.invocations.iter().filter(|own| code == 0 && !shape.outermost(own) && counts(&shape, own)) {
+        rows[COLUMNS * own.row + WORK] += shape.work(own.range());
+    }
+}
+
+#[test]
+fn counting_enclosed_invocations() {
+    let after = |trace: &[u8], code: u64, _: &mut [u64], rows: &mut [u64], _: &mut [u64]| {
+        count_enclosed(trace, code, rows, |_, _| true);
+    };
+    let smallest = smallest_events(&Wrong { after, ..Wrong::default() });
+    assert_eq!(smallest.replace("spawn", "call"), "call 1 {call 1 {1}}");
+}
+
+#[test]
+fn counting_those_enclosed_through_another_site() {
+    let after = |trace: &[u8], code: u64, _: &mut [u64], rows: &mut [u64], _: &mut [u64]| {
+        count_enclosed(trace, code, rows, |shape, own| shape.around(own).next().is_some_and(|f| f.row != own.row));
+    };
+    let smallest = smallest_events(&Wrong { after, ..Wrong::default() });
+    let through = |a: u64, b: u64| format!("call {a} {{call {b} {{call {a} {{1}}}}}}");
+    let mut pairs = (1..=4).flat_map(|a| (1..=4).filter(move |&b| b != a).map(move |b| through(a, b)));
+    assert!(pairs.any(|right| right == smallest.replace("spawn", "call")), "{smallest}");
+}
+
 #[test]
 fn an_answer_written_with_a_refusal() {
-    let after = |code: u64, _: &mut [u64], _: &mut [u64], answer: &mut [u64]| {
+    let after = |_: &[u8], code: u64, _: &mut [u64], _: &mut [u64], answer: &mut [u64]| {
         if let (1.., Some(work)) = (code, answer.first_mut()) {
             *work = 0;
         }

@@ -1,9 +1,10 @@
 //! The generated cases reach what they are meant to reach.
 
-use second::check::{Lent, Limits};
+use second::check::{self, Lent, Limits};
 use second::compare::case::{Case, Question};
 use second::compare::generate;
 use second::library::Second;
+use second::shape::{Invocation, Shape, Start};
 use std::collections::BTreeMap;
 
 /// How often each verdict on a trace is given, 0 for accepted.
@@ -55,4 +56,38 @@ fn good_traces_reach_the_limits() {
         reached[2] |= profile.answer[3] >= 65_000;
     }
     assert_eq!(reached, [true; 3], "depth 64, many sites, many lines");
+}
+
+/// The ways in which a good trace's sites call themselves: enclosed directly and by call, directly and by spawn, through
+/// another site and by call, through another and by spawn; and two of one row in parallel branches, both outermost.
+fn recursion(shape: &Shape) -> [bool; 5] {
+    let mut forms = [false; 5];
+    for own in shape.invocations.iter().filter(|own| !shape.outermost(own)) {
+        let through_another = shape.around(own).next().is_some_and(|f| f.row != own.row);
+        let spawned = matches!(own.start, Start::Spawned(_));
+        forms[2 * usize::from(through_another) + usize::from(spawned)] = true;
+    }
+    let costs = shape.cost_lines();
+    let costly = |own: &&Invocation| shape.outermost(own) && costs.iter().any(|&line| own.contains(line));
+    let outer: Vec<&Invocation> = shape.invocations.iter().filter(costly).collect();
+    let first_cost = |own: &Invocation| *costs.iter().find(|&&line| own.contains(line)).expect("a cost");
+    forms[4] = outer.windows(2).any(|pair| {
+        let apart = pair[0].row == pair[1].row && pair[0].last < pair[1].first;
+        apart && shape.parallel(first_cost(pair[0]), first_cost(pair[1]))
+    });
+    forms
+}
+
+#[test]
+fn sites_call_themselves_in_every_form() {
+    let wide = Limits { depth: 64, sites: 255 };
+    let mut times = [0; 5];
+    for number in 0..20_000 {
+        let Question::Engines { trace, .. } = generate::case(1, number).question else { continue };
+        let Ok(shape) = check::trace(&trace, wide, &wide.for_tables()) else { continue };
+        let forms = recursion(&shape);
+        times.iter_mut().zip(forms).for_each(|(times, form)| *times += u32::from(form));
+    }
+    println!("{times:?}");
+    assert!(times.iter().all(|&times| times >= 100), "{times:?}");
 }

@@ -5,8 +5,8 @@ use second::check::{self, Limits};
 use second::compare::rng::Rng;
 use second::compare::shapes;
 use second::graph::{self, Graph};
-use second::rows::{profile, LOCAL, ON_SPAN};
-use second::shape::Shape;
+use second::rows::{profile, Row, CALLS, LOCAL, ON_SPAN, SPAN, WORK};
+use second::shape::{Invocation, Shape};
 use std::cmp::Reverse;
 use std::ops::Range;
 
@@ -109,5 +109,45 @@ fn column_4_adds_up_to_the_total_work_and_column_5_to_the_total_span() {
         let column = |n: usize| profile.rows.iter().map(|row| row[n]).sum::<u64>();
         assert_eq!([column(LOCAL), column(ON_SPAN)], profile.answer[..2]);
         assert_eq!(profile.rows[0][..3], [1, profile.answer[0], profile.answer[1]]);
+    }
+}
+
+/// Whether the lines of one invocation stand among those of another.
+fn encloses(around: &Invocation, own: &Invocation) -> bool {
+    around.first < own.first && own.last <= around.last
+}
+
+/// How many invocations count, and the sums of their work and of their spans.
+fn over(shape: &Shape, spans: &[u64], counts: impl Fn(&Invocation) -> bool) -> [u64; 3] {
+    let mut sums = [0; 3];
+    for (own, span) in shape.invocations.iter().zip(spans).filter(|(own, _)| counts(own)) {
+        sums = [sums[0] + 1, sums[1] + shape.work(own.range()), sums[2] + span];
+    }
+    sums
+}
+
+#[test]
+fn columns_2_and_3_are_over_those_that_no_other_of_the_row_encloses() {
+    let mut enclosed = 0;
+    for shape in some(6, 1000, usize::MAX).filter(|shape| shape.invocations.len() < 300) {
+        let chains = graph::search(&shape);
+        let all = &shape.invocations;
+        for (number, row) in profile(&shape, &chains).rows.iter().enumerate() {
+            let free = |own: &Invocation| !all.iter().any(|other| other.row == own.row && encloses(other, own));
+            let of_row = over(&shape, &chains.spans, |own| own.row == number);
+            let outer = over(&shape, &chains.spans, |own| own.row == number && free(own));
+            assert_eq!([row[CALLS], row[WORK], row[SPAN]], [of_row[0], outer[1], outer[2]]);
+            enclosed += u32::from(of_row != outer);
+        }
+    }
+    assert!(enclosed > 100, "only {enclosed} rows have an enclosed invocation");
+}
+
+#[test]
+fn no_row_is_above_the_total_work_and_on_span_is_not_above_local_nor_local_above_work() {
+    for shape in some(7, 1000, usize::MAX) {
+        let profile = profile(&shape, &graph::search(&shape));
+        let holds = |row: &Row| row[WORK] <= profile.answer[0] && row[SPAN] <= row[WORK] && row[LOCAL] <= row[WORK];
+        assert!(profile.rows.iter().all(|row| holds(row) && row[ON_SPAN] <= row[LOCAL]));
     }
 }

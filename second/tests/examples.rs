@@ -33,6 +33,13 @@ fn case_i_is_on_the_page() {
 }
 
 #[test]
+fn the_splitter_is_on_the_page_and_as_worked_out_by_hand() {
+    let report = example("splitter.trace");
+    assert_eq!(rows(&report), [[1, 16, 10, 0, 0], [3, 16, 10, 5, 4], [2, 11, 11, 11, 6]]);
+    assert!(page().contains(&report));
+}
+
+#[test]
 fn the_proxy_is_on_the_page_and_as_worked_out_by_hand() {
     let report = example("proxy.trace");
     let by_hand = [

@@ -21,8 +21,8 @@ fn alike(cases: impl IntoIterator<Item = Case>) -> usize {
 }
 
 #[test]
-fn on_the_traces_that_the_rules_name() {
-    assert_eq!(alike(fixed::cases()), 39);
+fn on_the_fixed_traces() {
+    assert_eq!(alike(fixed::cases()), 57);
 }
 
 #[test]

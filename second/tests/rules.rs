@@ -1,7 +1,7 @@
 //! The traces that the rules name, each number typed from the rules, in both ways of the second program.
 
 use second::check::{Lent, Limits};
-use second::compare::fixed::{further, TWELVE, TWELVE_LIMITS};
+use second::compare::fixed::{further, recursive, TWELVE, TWELVE_LIMITS};
 use second::library::Second;
 use second::refusal::{Ground, Refusal};
 use second::report;
@@ -36,8 +36,15 @@ fn the_twelve() {
 }
 
 #[test]
-fn in_k_row_1_has_calls_2_work_5_span_5_local_3() {
-    assert_eq!(of("call 1 {1, call 1 {2}}").rows[1], [2, 5, 5, 3, 3]);
+fn in_k_row_1_has_calls_2_work_3_span_3_local_3() {
+    assert_eq!(of("call 1 {1, call 1 {2}}").rows[1], [2, 3, 3, 3, 3]);
+}
+
+#[test]
+fn the_recursive_traces() {
+    for case in recursive() {
+        assert_eq!(profile(&case.trace, case.limits).expect(case.name).rows, case.rows, "{}", case.name);
+    }
 }
 
 #[test]
@@ -71,9 +78,9 @@ fn a_sync_joins_every_child_spawned_before_it_and_none_after() {
 }
 
 #[test]
-fn the_spans_of_a_row_add_up_over_its_invocations() {
+fn the_spans_of_a_row_add_up_over_its_outermost_invocations() {
     let profile = of("spawn 1 {5}, spawn 1 {6, spawn 1 {4}, 3}, sync, call 2 {}");
-    assert_eq!(profile.rows, [[1, 18, 10, 0, 0], [3, 22, 19, 18, 10], [1, 0, 0, 0, 0]]);
+    assert_eq!(profile.rows, [[1, 18, 10, 0, 0], [3, 18, 15, 18, 10], [1, 0, 0, 0, 0]]);
 }
 
 #[test]

@@ -7,6 +7,8 @@ use native.Mathlib.Decide.{decLt}
 use native.Mathlib.Omega.{arith}
 use lib.ListN.{length, getD, replicate, length-replicate, List·getD-eq-default}
 use Rattle.line.specs.declared.Frame.{Frame}
+use Rattle.rowset.specs.declared.RowSet.{RowSet}
+use Rattle.rowset.specs.Set.{member, Empty}
 use Rattle.chain.specs.Over.{linesIn}
 use Rattle.trace.specs.declared.Answer.{Answer}
 use Rattle.trace.specs.declared.Answer.the-variants.{Accepted, Refused}
@@ -27,10 +29,11 @@ use Rattle.admit.specs.Answer.{admission}
 use Rattle.admit.proofs.Admitted.{refused-only, accepted-only}
 use Rattle.walk.specs.declared.Open.{Open}
 use Rattle.walk.specs.Stands.{Stands}
-use Rattle.walk.specs.Gain.{ReturnFits, returned, Grown}
+use Rattle.walk.specs.Gain.{nowhere, ReturnFits, returned, Grown}
 use Rattle.walk.proofs.Root.{tree}
 use Rattle.walk.proofs.Room.{lines-in}
 use Rattle.walk.proofs.Zeros.{zeros-at}
+use Rattle.walk.proofs.Around.{none-around}
 use Rattle.walk.proofs.Accepted.{fine, limits, rooms, rows-room, cleared, body, stands, ready, work-is, span-is, count-fits, cells, none-on, rest, first, first-is}
 use Rattle.marks.specs.Shown.{Wiped}
 use Rattle.marks.specs.Reader.{BodyAsks, BodyLeft, BodyLeaves}
@@ -82,17 +85,21 @@ module _ {s : List ℕ} {D M : ℕ} {x : Lent} {count lines : ℕ} (a : Admitted
   pub marks-in : at ≤ length (x .marks)
   marks-in = omega (arith, text-in, lines-in s b at here)
 
-  -- the scratch, the rows, and the marks of the sites were cleared, and go by these names
-  pub record Blank (t₁ m₁ r₁ : List ℕ) : Type 0 where
+  -- the scratch, the rows, and the marks of the sites were cleared, no row is open around the root, and they go by
+  -- these names
+  pub record Blank (t₁ m₁ r₁ : List ℕ) (set : RowSet) : Type 0 where
     pub scratch-is : t₁ ≡ replicate (length (x .scratch)) 0
     pub sites-off : Wiped 0 at (x .marks) m₁
     pub marks-same : length m₁ ≡ length (x .marks)
     pub rows-are : r₁ ≡ rows₀
+    pub empty : Empty set
 
   -- the first reading
-  pub body-asks : {t₁ m₁ r₁ : List ℕ} → Blank t₁ m₁ r₁ → ((i : ℕ) → getD (x .rows) i 0 < 2 ^ 64) → BodyAsks s at 0 (D - 1) t₁ m₁ r₁
-  body-asks {t₁} {m₁} {r₁} o fits =
-      subst (λ (y : List ℕ). BodyAsks s at 0 (D - 1) t₁ m₁ y) (sym (o .rows-are))
+  pub body-asks : {t₁ m₁ r₁ : List ℕ} {set : RowSet} → Blank t₁ m₁ r₁ set → ((i : ℕ) → getD (x .rows) i 0 < 2 ^ 64)
+      → BodyAsks (member set) s at 0 (D - 1) t₁ m₁ r₁
+  body-asks {t₁} {m₁} {r₁} {set} o fits =
+      subst (λ (y : ℕ → Bool). BodyAsks y s at 0 (D - 1) t₁ m₁ r₁) (sym (none-around set (o .empty)))
+      (subst (λ (y : List ℕ). BodyAsks nowhere s at 0 (D - 1) t₁ m₁ y) (sym (o .rows-are))
       (record {
         sites = sites t;
         ready = ready marks s D M x t (a .is) count (a .count-is) fits;
@@ -103,31 +110,41 @@ module _ {s : List ℕ} {D M : ℕ} {x : Lent} {count lines : ℕ} (a : Admitted
         k = nothing;
         weighs = refl;
         shows = shows-begun at 0 m₁;
-      })
+      }))
 
   -- the root was read: its numbers are c, and it left the scratch t₂ zero, the marks m₂ and the rows rows₁
-  pub record Read (c : Open) (t₂ m₂ rows₁ : List ℕ) : Type 0 where
+  pub record Read (c : Open) (t₂ m₂ rows₁ : List ℕ) (set : RowSet) : Type 0 where
     pub t₁ : List ℕ
     pub m₁ : List ℕ
     pub r₁ : List ℕ
-    pub blank : Blank t₁ m₁ r₁
+    pub blank : Blank t₁ m₁ r₁ set
     pub zero : t₂ ≡ replicate (length (x .scratch)) 0
     pub marks-same : length m₂ ≡ length (x .marks)
     pub rows-same : length rows₁ ≡ length (x .rows)
-    pub leaves : BodyLeaves s at 0 m₁ r₁ c m₂ rows₁
+    pub leaves : BodyLeaves (member set) s at 0 m₁ r₁ c m₂ rows₁
 
-  module _ {c : Open} {t₂ m₂ rows₁ : List ℕ} (u : Read c t₂ m₂ rows₁) where
-    left : BodyLeft at 0 b (u .m₁) rows₀ c m₂ rows₁
-    left = subst (λ (y : List ℕ). BodyLeft at 0 b (u .m₁) y c m₂ rows₁) (u .blank .rows-are) (u .leaves b here)
+  module _ {c : Open} {t₂ m₂ rows₁ : List ℕ} {set : RowSet} (u : Read c t₂ m₂ rows₁ set) where
+    around-none : member set ≡ nowhere
+    around-none = none-around set (u .blank .empty)
+
+    left : BodyLeft nowhere at 0 b (u .m₁) rows₀ c m₂ rows₁
+    left =
+        subst (λ (y : List ℕ). BodyLeft nowhere at 0 b (u .m₁) y c m₂ rows₁) (u .blank .rows-are)
+        (subst (λ (o : ℕ → Bool). BodyLeft o at 0 b (u .m₁) (u .r₁) c m₂ rows₁) around-none (u .leaves b here))
 
     at-is : c .at ≡ at + size b
     at-is = ap (λ (y : Open). y .at) (left .done .numbers-are)
 
-    pub count-asks : ReturnFits rows₁ 0 (c .work) (c .prefix)
-    count-asks = count-fits marks s D M x t (a .is) count (a .count-is) c rows₁ (u .rows-same) (left .done)
+    pub count-asks : ReturnFits (member set) rows₁ 0 (c .work) (c .prefix)
+    count-asks =
+        subst (λ (o : ℕ → Bool). ReturnFits o rows₁ 0 (c .work) (c .prefix)) (sym around-none)
+        (count-fits marks s D M x t (a .is) count (a .count-is) c rows₁ (u .rows-same) (left .done))
 
     -- the root was counted
-    module _ (rows₂ : List ℕ) (counts : Grown rows₁ (returned 0 (c .work) (c .prefix)) rows₂) (lr₂ : length rows₂ ≡ length (x .rows)) where
+    module _ (rows₂ : List ℕ) (counted : Grown rows₁ (returned (member set) 0 (c .work) (c .prefix)) rows₂) (lr₂ : length rows₂ ≡ length (x .rows)) where
+      counts : Grown rows₁ (returned nowhere 0 (c .work) (c .prefix)) rows₂
+      counts = subst (λ (o : ℕ → Bool). Grown rows₁ (returned o 0 (c .work) (c .prefix)) rows₂) around-none counted
+
       abbrev p : Parts D t
       p = tree D M t good
 

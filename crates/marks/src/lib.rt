@@ -4,6 +4,7 @@
 ghost use mathlib.Core.Path.{_≡_};
 ghost use Prim.Native.Nat.{_+_, _*_, _^_, _≤_, _<_};
 ghost use lib.ListN.{length, getD, set, replicate};
+ghost use Rattle.rowset.specs.Set.{member};
 ghost use Rattle.trace.specs.Column.{Column, slot};
 ghost use Rattle.trace.specs.Promise.{Engine, Promise};
 ghost use Rattle.walk.specs.Weight.{weightAt};
@@ -190,7 +191,8 @@ fn load(t: &mut [u64]) -> Zones
 }
 
 // Reads the items of an invocation, which has come to z, up to its return, and leaves the join to its caller.
-// At most deep more invocations open inside one another.
+// At most deep more invocations open inside one another. The set has the rows that are open at the items, but for the
+// root's, which no line makes.
 fn read_items(
     trace: &[u8],
     z: Zones,
@@ -198,16 +200,17 @@ fn read_items(
     t: &mut [u64],
     marks: &mut [u8],
     rows: &mut [u64],
+    around: rowset::RowSet,
 ) -> Zones
-    requires { ⌜ Lent (now trace) deep z (now t) (now marks) (now rows) ⌝ }
-    ensures { λ r. ⌜ ItemsLeave (now (trace .entry)) deep z (now (t .entry)) (now (marks .entry)) (now (rows .entry))
-        r (now (marks .exit)) (now (rows .exit)) ⌝ }
+    requires { ⌜ Lent (member around) (now trace) deep z (now t) (now marks) (now rows) ⌝ }
+    ensures { λ r. ⌜ ItemsLeave (member around) (now (trace .entry)) deep z (now (t .entry)) (now (marks .entry))
+        (now (rows .entry)) r (now (marks .exit)) (now (rows .exit)) ⌝ }
     ensures { λ _. ⌜ now (t .exit) ≡ now (t .entry) ⌝ }
 {
     let mut a = z;
     let mut kind = line::kind_at(trace, z.own.at);
     while kind != 5 {
-        a = item(trace, kind, a, deep, t, marks, rows);
+        a = item(trace, kind, a, deep, t, marks, rows, around);
         kind = line::kind_at(trace, a.own.at);
     }
     a
@@ -222,9 +225,10 @@ fn body(
     t: &mut [u64],
     marks: &mut [u8],
     rows: &mut [u64],
+    around: rowset::RowSet,
 ) -> walk::Open
-    requires { ⌜ BodyAsks (now trace) from row deep (now t) (now marks) (now rows) ⌝ }
-    ensures { λ r. ⌜ BodyLeaves (now (trace .entry)) from row (now (marks .entry)) (now (rows .entry)) r
+    requires { ⌜ BodyAsks (member around) (now trace) from row deep (now t) (now marks) (now rows) ⌝ }
+    ensures { λ r. ⌜ BodyLeaves (member around) (now (trace .entry)) from row (now (marks .entry)) (now (rows .entry)) r
         (now (marks .exit)) (now (rows .exit)) ⌝ }
     ensures { λ _. ⌜ now (t .exit) ≡ now (t .entry) ⌝ }
 {
@@ -235,6 +239,7 @@ fn body(
         t,
         marks,
         rows,
+        around,
     );
     let end = join(marks, z);
     end.own
@@ -249,9 +254,10 @@ fn item(
     t: &mut [u64],
     marks: &mut [u8],
     rows: &mut [u64],
+    around: rowset::RowSet,
 ) -> Zones
-    requires { ⌜ ItemAsks (now trace) kind deep z (now t) (now marks) (now rows) ⌝ }
-    ensures { λ r. ⌜ ItemLeaves (now (trace .entry)) z (now (marks .entry)) (now (rows .entry)) r (now (marks .exit))
+    requires { ⌜ ItemAsks (member around) (now trace) kind deep z (now t) (now marks) (now rows) ⌝ }
+    ensures { λ r. ⌜ ItemLeaves (member around) (now (trace .entry)) z (now (marks .entry)) (now (rows .entry)) r (now (marks .exit))
         (now (rows .exit)) ⌝ }
     ensures { λ _. ⌜ now (t .exit) ≡ now (t .entry) ⌝ }
 {
@@ -265,10 +271,20 @@ fn item(
         return join(marks, z);
     }
     let site = line::site_at(trace, at) as usize;
+    let inside = rowset::with(around, site);
     store(t, z);
-    let c = body(trace, at + 1, site, deep - 1, &mut t[8..], marks, rows);
+    let c = body(
+        trace,
+        at + 1,
+        site,
+        deep - 1,
+        &mut t[8..],
+        marks,
+        rows,
+        inside,
+    );
     let back = load(t);
-    walk::returned(rows, site, c.work, c.prefix);
+    walk::returned(rows, site, c.work, c.prefix, around);
     if kind == 2 {
         return called(marks, back, c);
     }
@@ -392,8 +408,9 @@ fn accepted(
     // the line at which the root's body begins: behind the sites
     let first = count;
     wipe_lines(marks, 0, first);
-    let f = body(text, first, 0, depth - 1, scratch, marks, rows);
-    walk::returned(rows, 0, f.work, f.prefix);
+    let nowhere = rowset::none();
+    let f = body(text, first, 0, depth - 1, scratch, marks, rows, nowhere);
+    walk::returned(rows, 0, f.work, f.prefix, nowhere);
     column(text, first, lines, scratch, marks, rows);
     trace::Answer::Accepted(f.work, f.prefix, count, lines)
 }

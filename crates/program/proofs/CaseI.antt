@@ -17,7 +17,7 @@ use Rattle.trace.specs.Fold.{chainOf}
 use Rattle.trace.proofs.Tree.{parts-one}
 use Rattle.trace.proofs.Parse.{accepted-parts}
 use Rattle.trace.proofs.Root.{root-chosen}
-use Rattle.trace.proofs.Columns.{spans-tree}
+use Rattle.trace.proofs.Outermost.{spans-tree}
 use Rattle.trace.proofs.Twelve.{heads}
 use Rattle.report.specs.Rows.{lineOf}
 use Rattle.program.specs.Print.{ruling, Prints}

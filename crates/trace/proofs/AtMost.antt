@@ -119,7 +119,7 @@ span-le t F n s =
     go : (j : ℕ) → T (has (0 + j) (s .chain)) → T (has F (openAt t j))
     go j m = let e : 0 + j ≡ j = omega arith in each-has (CostIn t F) (s .chain) j (s .is-chain .costs) (subst (λ (i : ℕ). T (has i (s .chain))) e m) .inside
 
-pub sums-le : (t : List Frame) (l : List ℕ) (n : ℕ) → Sum (Span t) l n → n ≤ sum (inside t) l
+sums-le : (t : List Frame) (l : List ℕ) (n : ℕ) → Sum (Span t) l n → n ≤ sum (inside t) l
 sums-le t [] n h = omega arith
 sums-le t (F ∷ l) n h = omega (arith, h .4, span-le t F (h .0) (h .2), sums-le t l (h .1) (h .3))
 

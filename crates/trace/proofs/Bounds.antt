@@ -12,7 +12,7 @@ use Rattle.line.specs.declared.Frame.{Frame}
 use Rattle.line.specs.declared.Frame.the-variants.{Site, Call, Spawn, Sync, Return, Cost}
 use Rattle.trace.specs.Shape.{root, closed, step, walk, has, firstIs, sites}
 use Rattle.trace.specs.Series.{value}
-use Rattle.trace.specs.Rows.{makes, made, ofRow, sumOf, total, inside, direct, sum, calls, work, local}
+use Rattle.trace.specs.Rows.{makes, made, ofRow, enclosed, unenclosed, sumOf, total, inside, direct, sum, calls, work, local}
 use Rattle.trace.specs.Refusals.{openNow, tooDeep, wide, wideRows, beyond}
 use Rattle.trace.proofs.Basics.{cond-le}
 use Rattle.trace.proofs.Scan.{InTable, now}
@@ -87,6 +87,19 @@ pub direct-le : (F n : ℕ) (o : List ℕ) (u : List Frame) → sumOf (λ k o. f
 direct-le F n o [] = omega arith
 direct-le F n o (e ∷ u) = omega (arith, first-le F (value e) o, direct-le F (suc n) (step n e o) u)
 
+-- the outermost are some of all
+some : (t : List Frame) (s : ℕ) (f : ℕ → ℕ) (l : List ℕ) → sum f (unenclosed t s l) ≤ sum f l
+some t s f [] = omega arith
+some t s f (F ∷ l) = go (enclosed t s F) (some t s f l)
+  where
+    go : (b : Bool) → sum f (unenclosed t s l) ≤ sum f l → sum f (cond b (unenclosed t s l) (F ∷ unenclosed t s l)) ≤ f F + sum f l
+    go true h = omega arith
+    go false h = omega arith
+
+-- LAW: the work of a row is at most what all its invocations add up to
+pub work-below : (t : List Frame) (s : ℕ) → work t s ≤ sum (inside t) (ofRow t s)
+work-below t s = some t s (inside t) (ofRow t s)
+
 -- the columns calls, work and local, and the total work
 module _ (t : List Frame) (h : Tame 0 (0 ∷ []) t) (l : length t ≤ 65536) where
   pub total-small : total t < 18014398509481984
@@ -96,11 +109,14 @@ module _ (t : List Frame) (h : Tame 0 (0 ∷ []) t) (l : length t ≤ 65536) whe
   calls-small zero = omega arith
   calls-small (suc s) = omega (arith, made-le 0 t (suc s))
 
+  all-small : (s : ℕ) → sum (inside t) (ofRow t s) < 18014398509481984
+  all-small s = omega (arith, rows-le t s 0 (0 ∷ []) t h)
+
   pub work-small : (s : ℕ) → work t s < 18014398509481984
-  work-small s = omega (arith, rows-le t s 0 (0 ∷ []) t h)
+  work-small s = omega (arith, all-small s, work-below t s)
 
   pub local-small : (s : ℕ) → local t s < 18014398509481984
-  local-small s = omega (arith, work-small s, sum-le (direct t) (inside t) (λ F. direct-le F 0 (0 ∷ []) t) (ofRow t s))
+  local-small s = omega (arith, all-small s, sum-le (direct t) (inside t) (λ F. direct-le F 0 (0 ∷ []) t) (ofRow t s))
 
   narrow : (n : ℕ) → n < 18014398509481984 → wide n ≡ false
   narrow n k = lt-leb 18446744073709551616 n (omega arith)

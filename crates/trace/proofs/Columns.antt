@@ -11,9 +11,9 @@ use Rattle.line.specs.declared.Frame.{Frame}
 use Rattle.line.specs.declared.Frame.the-variants.{Return}
 use Rattle.chain.specs.Plan.{CostLine, costs}
 use Rattle.trace.specs.Shape.{Is, root, step, walk, has, firstIs, sites}
-use Rattle.trace.specs.Series.{value, Span}
-use Rattle.trace.specs.Rows.{makes, made, ofRow, sumOf, costsWhere, total, inside, sum, Sum, calls, work, Spans, local, onSpan}
-use Rattle.trace.specs.Tree.{Way, opening, Leaf, spend, sync, lineOf, leafWork, Body, done, leaf, child, linesOf, size, Within, Parts, workOf, spanOf, localOf, madeSum, callsIn, workIn, spansIn, localIn, rootAt}
+use Rattle.trace.specs.Series.{value}
+use Rattle.trace.specs.Rows.{makes, made, ofRow, sumOf, costsWhere, total, sum, Sum, calls, local, onSpan}
+use Rattle.trace.specs.Tree.{Way, opening, Leaf, spend, sync, lineOf, leafWork, Body, done, leaf, child, linesOf, size, Within, Parts, workOf, localOf, madeSum, callsIn, localIn, rootAt}
 use Rattle.trace.specs.Fold.{costAt, plan}
 use Rattle.trace.proofs.Basics.{cond-same, cond-add}
 use Rattle.trace.proofs.Tree.{leaf-step, opening-step, opening-makes, leaf-value, opening-value}
@@ -21,9 +21,9 @@ use Rattle.trace.proofs.Apart.{costs-two}
 use Rattle.trace.proofs.Sums.{not-made, makesAt, has-made, sum-made, sum-zero, sum-add, sum-same}
 use Rattle.trace.proofs.Context.{Ctx, at-is}
 use Rattle.trace.proofs.Invocations.{ctx-leaf, ctx-child, ctx-skip, root-ctx, heads-open, whole, row-sum}
-use Rattle.trace.proofs.Stretches.{sum-append, all-costs, heads-sum, span-is, inside-is}
+use Rattle.trace.proofs.Stretches.{sum-append, all-costs, heads-sum}
 
--- ── columns 1, 2 and 3 ──
+-- ── column 1 ──
 
 pub sum-from : (f : ℕ → ℕ) (l : List ℕ) (n : ℕ) → Sum (λ F a. f F ≡ a) l n → sum f l ≡ n
 sum-from f [] n h = sym h
@@ -37,14 +37,6 @@ module _ (D : ℕ) (t : List Frame) (p : Parts D t) (s : ℕ) where
   -- LAW
   pub calls-tree : calls t s ≡ callsIn s (p .body)
   calls-tree = count-from (ofRow t s) (callsIn s (p .body)) (row-sum D t p (λ F a. a ≡ 1) (λ g. 1) (λ F n g i. refl) s)
-
-  -- LAW
-  pub work-tree : work t s ≡ workIn s (p .body)
-  work-tree = sum-from (inside t) (ofRow t s) (workIn s (p .body)) (row-sum D t p (λ F a. inside t F ≡ a) workOf (λ F n g i. inside-is t F n g i) s)
-
-  -- LAW
-  pub spans-tree : Spans t s (spansIn s (p .body))
-  spans-tree = row-sum D t p (Span t) spanOf (λ F n g i. span-is t F n g i) s
 
 -- ── the costs of the plan, picked by row and by line ──
 

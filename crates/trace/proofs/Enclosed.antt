@@ -2,8 +2,8 @@
 use mathlib.Core.Path.{_≡_, refl, sym, _∙_, ap, ap₂, subst}
 use mathlib.Core.Logic.{inl, inr}
 use mathlib.Core.Bool.{Bool, true, false, not, cond, _&&_, _||_, and-false}
-use mathlib.Core.List.{List, [], _∷_, _++_}
-use Prim.Native.Nat.{ℕ, zero, suc, _+_, _≤_}
+use mathlib.Core.List.{List, [], _∷_}
+use Prim.Native.Nat.{ℕ, zero, suc, _+_}
 use native.Mathlib.Omega.{arith}
 use lib.Dec.{T, eqb}
 use borrow.Author.Tests.{eq-eqb, ne-eqb}
@@ -12,18 +12,15 @@ use Rattle.line.specs.declared.Frame.the-variants.{Site, Call, Spawn, Sync, Ret
 use Rattle.chain.specs.Over.{Each}
 use Rattle.trace.specs.Shape.{root, step, walk, openAt, has, firstIs, Open, Contains, Directly}
 use Rattle.trace.specs.Series.{Span}
-use Rattle.trace.specs.Rows.{ofRow, inside, sum, Sum, work, Spans}
-use Rattle.trace.specs.Outermost.{hasOf, enclosed, unenclosed, outermost, outerWork, OuterSpans, RowOneOfK}
-use Rattle.trace.specs.Tree.{Way, Body, done, leaf, child, linesOf, Parts, workOf, spanOf, madeSum, rowSum, spansIn, outerSum, outerRow}
-use Rattle.trace.specs.Twelve.{K}
-use Rattle.trace.proofs.Tree.{parts-one}
+use Rattle.trace.specs.Rows.{ofRow, hasOf, enclosed, unenclosed, outermost, inside, sum, Sum, work, Spans}
+use Rattle.trace.specs.Tree.{Way, Body, done, leaf, child, Parts, workOf, spanOf, madeSum, rowSum, outerSum, outerRow}
 use Rattle.trace.proofs.Sums.{same-or-not}
 use Rattle.trace.proofs.Open.{or-cases, or-right, has-cases, has-later, has-here, first-eq}
-use Rattle.trace.proofs.Parse.{accepted-parts}
-use Rattle.trace.proofs.Unique.{spans-unique}
-use Rattle.trace.proofs.Columns.{work-tree, spans-tree}
-use Rattle.trace.proofs.Outermost.{outer-work, outer-spans}
-use Rattle.trace.proofs.Twelve.{heads, K-tree}
+use Rattle.trace.proofs.Invocations.{row-sum}
+use Rattle.trace.proofs.Stretches.{span-is, inside-is}
+use Rattle.trace.proofs.Unique.{span-unique, sum-unique}
+use Rattle.trace.proofs.Columns.{sum-from}
+use Rattle.trace.proofs.Outermost.{work-tree, spans-tree}
 
 -- ── enclosed, in words ──
 
@@ -207,25 +204,12 @@ module _ (t : List Frame) (s : ℕ) (h : Each (λ F. enclosed t s F ≡ false) (
   all-outermost = plain t s (ofRow t s) h
 
   -- LAW
-  pub all-work : outerWork t s ≡ work t s
+  pub all-work : work t s ≡ sum (inside t) (ofRow t s)
   all-work = ap (sum (inside t)) all-outermost
 
   -- LAW
-  pub all-spans : (n : ℕ) → Spans t s n → OuterSpans t s n
+  pub all-spans : (n : ℕ) → Sum (Span t) (ofRow t s) n → Spans t s n
   all-spans n k = subst (λ (l : List ℕ). Sum (Span t) l n) (sym all-outermost) k
-
--- the outermost are some of all
-some : (t : List Frame) (s : ℕ) (f : ℕ → ℕ) (l : List ℕ) → sum f (unenclosed t s l) ≤ sum f l
-some t s f [] = omega arith
-some t s f (F ∷ l) = go (enclosed t s F) (some t s f l)
-  where
-    go : (b : Bool) → sum f (unenclosed t s l) ≤ sum f l → sum f (cond b (unenclosed t s l) (F ∷ unenclosed t s l)) ≤ f F + sum f l
-    go true h = omega arith
-    go false h = omega arith
-
--- LAW: over the outermost the work is at most that over all
-pub outer-below : (t : List Frame) (s : ℕ) → outerWork t s ≤ work t s
-outer-below t s = some t s (inside t) (ofRow t s)
 
 -- ── a site that never calls itself, by the tree ──
 
@@ -265,28 +249,24 @@ row-alone h zero b a = refl
 row-alone h (suc s) b a = alone-all h (suc s) b a
 
 module _ (D : ℕ) (t : List Frame) (p : Parts D t) (s : ℕ) (a : Alone s (p .body)) where
-  -- LAW: columns 2 and 3 of such a site are the same over the outermost and over all
-  pub alone-work : outerWork t s ≡ work t s
-  alone-work = outer-work D t p s ∙ row-alone workOf s (p .body) a ∙ sym (work-tree D t p s)
+  -- LAW: columns 2 and 3 of such a site count all its invocations
+  pub alone-work : work t s ≡ sum (inside t) (ofRow t s)
+  alone-work =
+      work-tree D t p s
+      ∙ row-alone workOf s (p .body) a
+      ∙ sym (sum-from (inside t) (ofRow t s) (rowSum workOf s (p .body)) (row-sum D t p (λ F w. inside t F ≡ w) workOf (λ F n g i. inside-is t F n g i) s))
 
-  pub alone-spans : (n : ℕ) → Spans t s n → OuterSpans t s n
+  pub alone-spans : (n : ℕ) → Sum (Span t) (ofRow t s) n → Spans t s n
   alone-spans n h =
-      subst (OuterSpans t s) (row-alone spanOf s (p .body) a ∙ spans-unique t s (spansIn s (p .body)) n (spans-tree D t p s) h) (outer-spans D t p s)
+      let all = row-sum D t p (Span t) spanOf (λ F n g i. span-is t F n g i) s in
+      subst (Spans t s)
+      (row-alone spanOf s (p .body) a ∙ sum-unique (Span t) (span-unique t) (ofRow t s) (rowSum spanOf s (p .body)) n all h) (spans-tree D t p s)
 
 -- ── computed ──
 
--- LAW: K's row 1
-pub K-outermost : RowOneOfK
-K-outermost = record { t = t; is-accepted = refl; calls-is = refl; work-is = refl; span-is = spans; local-is = refl }
-  where
-    t : List Frame
-    t = heads ++ linesOf K-tree
-
-    spans : OuterSpans (heads ++ linesOf K-tree) 1 3
-    spans =
-        let p = accepted-parts (K .trace) 4 2 true (heads ++ linesOf K-tree) refl in
-        let same = parts-one (p .heads) heads (p .body) K-tree (p .all-sites) (tt, (tt, tt)) (sym (p .lines)) in
-        subst (λ (b : Body). OuterSpans (heads ++ linesOf K-tree) 1 (outerRow spanOf 1 b)) (same .1) (outer-spans 4 (heads ++ linesOf K-tree) p 1)
+-- K, call 1 {1, call 1 {2}}: the outer one alone
+K-outermost : outermost (Call 1 ∷ Cost 1 ∷ Call 1 ∷ Cost 2 ∷ Return ∷ Return ∷ Return ∷ []) 1 ≡ 1 ∷ []
+K-outermost = refl
 
 -- spawn 1 {4}, spawn 1 {4}: parallel branches, both
 branches : outermost (Spawn 1 ∷ Cost 4 ∷ Return ∷ Spawn 1 ∷ Cost 4 ∷ Return ∷ Return ∷ []) 1 ≡ 1 ∷ 4 ∷ []

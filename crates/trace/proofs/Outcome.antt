@@ -29,7 +29,8 @@ use Rattle.trace.proofs.Parse.{parts, accepted-parts}
 use Rattle.trace.proofs.Accept.{sites-le-M}
 use Rattle.trace.proofs.Unique.{spans-unique}
 use Rattle.trace.proofs.Root.{rootChain, root-span, root-chosen, root-span-only, root-chosen-only}
-use Rattle.trace.proofs.Columns.{calls-tree, work-tree, spans-tree, local-tree, total-tree}
+use Rattle.trace.proofs.Columns.{calls-tree, local-tree, total-tree}
+use Rattle.trace.proofs.Outermost.{work-tree, spans-tree}
 use Rattle.trace.proofs.OnChain.{on-span-tree}
 use Rattle.trace.proofs.Small.{Small, fine-small}
 

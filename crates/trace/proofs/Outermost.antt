@@ -1,17 +1,17 @@
--- Sums over the outermost invocations of a row, by the tree; and no row above the whole.
+-- Sums over the outermost invocations of a row, by the tree: columns 2 and 3; and no row above the whole.
 use mathlib.Core.Path.{_≡_, refl, sym, _∙_, ap, ap₂, subst}
 use mathlib.Core.Bool.{Bool, true, false, cond, _||_}
 use mathlib.Core.List.{List, [], _∷_, _++_, append-assoc}
 use Prim.Native.Nat.{ℕ, zero, suc, _+_, _≤_}
 use native.Mathlib.Omega.{arith}
 use lib.Dec.{eqb}
+use borrow.Author.Tests.{ne-eqb}
 use Rattle.line.specs.declared.Frame.{Frame}
 use Rattle.trace.specs.Shape.{Is, root, openAt, has}
 use Rattle.trace.specs.Series.{Span}
-use Rattle.trace.specs.Rows.{made, total, inside, Sum}
-use Rattle.trace.specs.Outermost.{hasOf, enclosed, unenclosed, outermost, outerWork, OuterSpans}
+use Rattle.trace.specs.Rows.{made, hasOf, enclosed, unenclosed, outermost, total, inside, Sum, work, Spans}
 use Rattle.trace.specs.Refusals.{accepted, verdict}
-use Rattle.trace.specs.Tree.{Way, opening, Body, done, leaf, child, linesOf, size, Parts, workOf, spanOf, outerSum, outerRow, rootAt}
+use Rattle.trace.specs.Tree.{Way, opening, Body, done, leaf, child, linesOf, size, Within, Parts, workOf, spanOf, outerSum, outerRow, workIn, spansIn, rootAt}
 use Rattle.trace.proofs.Sums.{not-made, has-made}
 use Rattle.trace.proofs.Recurrence.{Paid}
 use Rattle.trace.proofs.Context.{Ctx, at-open}
@@ -19,7 +19,7 @@ use Rattle.trace.proofs.Invocations.{Inv, inner, ctx-leaf, ctx-child, c
 use Rattle.trace.proofs.Stretches.{span-is, inside-is}
 use Rattle.trace.proofs.Parse.{accepted-parts}
 use Rattle.trace.proofs.Columns.{sum-from, makes-at, first-is, total-tree}
-use Rattle.trace.proofs.AtMost.{sums-le}
+use Rattle.trace.proofs.AtMost.{spans-le}
 
 -- ── the sum over the tree ──
 
@@ -103,7 +103,19 @@ outer-sum D t x p h is (suc s) =
     (subst (Sum p (unenclosed t (suc s) (made (rootAt x) (linesOf (x .body) ++ []) (suc s)))) f
     (adds t s p h is (x .body) (rootAt x) root [] [] 0 false (root-paid D t x) k (root-ctx D t x) refl))
 
--- ── work and span over the outermost ──
+-- no site is 0
+pub no-outer-from-root : (h : Body → ℕ) (m D d : ℕ) (b : Body) → Within m D d b → outerSum h 0 b ≡ 0
+no-outer-from-root h m D d done w = refl
+no-outer-from-root h m D d (leaf l r) w = no-outer-from-root h m D d r (w .1)
+no-outer-from-root h m D d (child k i g r) w =
+    omega (
+      arith,
+      ap (λ (b : Bool). cond b (h g) (outerSum h 0 g)) (ne-eqb i 0 (λ q. omega (arith, w .0))),
+      no-outer-from-root h m D (suc d) g (w .3),
+      no-outer-from-root h m D d r (w .4),
+    )
+
+-- ── columns 2 and 3, and no row above the whole ──
 
 either : (b : Bool) (x y z : ℕ) → x ≤ z → y ≤ z → cond b x y ≤ z
 either true x y z l m = l
@@ -121,24 +133,24 @@ row-above (suc s) b = work-above (suc s) b
 
 module _ (D : ℕ) (t : List Frame) (p : Parts D t) (s : ℕ) where
   -- LAW
-  pub outer-work : outerWork t s ≡ outerRow workOf s (p .body)
-  outer-work =
-      sum-from (inside t) (outermost t s) (outerRow workOf s (p .body))
+  pub work-tree : work t s ≡ workIn s (p .body)
+  work-tree =
+      sum-from (inside t) (outermost t s) (workIn s (p .body))
       (outer-sum D t p (λ F a. inside t F ≡ a) workOf (λ F n g i. inside-is t F n g i) s)
 
   -- LAW
-  pub outer-spans : OuterSpans t s (outerRow spanOf s (p .body))
-  outer-spans = outer-sum D t p (Span t) spanOf (λ F n g i. span-is t F n g i) s
+  pub spans-tree : Spans t s (spansIn s (p .body))
+  spans-tree = outer-sum D t p (Span t) spanOf (λ F n g i. span-is t F n g i) s
 
-  -- LAW: no row's work over its outermost invocations exceeds the total work
-  pub work-le : outerWork t s ≤ total t
-  work-le = omega (arith, outer-work, total-tree D t p, row-above s (p .body))
+  -- LAW: no row's work exceeds the total work
+  pub work-le : work t s ≤ total t
+  work-le = omega (arith, work-tree, total-tree D t p, row-above s (p .body))
 
-  -- LAW: nor does its span
-  pub spans-below : (n : ℕ) → OuterSpans t s n → n ≤ total t
-  spans-below n h = omega (arith, sums-le t (outermost t s) n h, work-le)
+  -- LAW: nor does a row's span
+  pub spans-below : (n : ℕ) → Spans t s n → n ≤ total t
+  spans-below n h = omega (arith, spans-le t s n h, work-le)
 
 -- LAW: of an accepted trace
 pub no-row-above : (u : List ℕ) (D M : ℕ) (b : Bool) (t : List Frame) → verdict u D M b ≡ accepted t → (s : ℕ)
-    → (outerWork t s ≤ total t) × ((n : ℕ) → OuterSpans t s n → n ≤ total t)
+    → (work t s ≤ total t) × ((n : ℕ) → Spans t s n → n ≤ total t)
 no-row-above u D M b t e s = let p = accepted-parts u D M b t e in (work-le D t p s, spans-below D t p s)

@@ -19,7 +19,7 @@ use Rattle.trace.proofs.Basics.{clash}
 use Rattle.trace.proofs.Tree.{parts-one}
 use Rattle.trace.proofs.Parse.{accepted-parts}
 use Rattle.trace.proofs.Root.{root-span, root-chosen}
-use Rattle.trace.proofs.Columns.{spans-tree}
+use Rattle.trace.proofs.Outermost.{spans-tree}
 
 -- the trees, which the law finds the chosen chains with
 abbrev pub trees : List Body
@@ -117,7 +117,7 @@ all-hold (c ∷ cs) (b ∷ bs) e =
 abbrev pub K-tree : Body
 K-tree = child call 1 (leaf (spend 1) (child call 1 (leaf (spend 2) done) done)) done
 
-K-row : RowOne K 2 5 5 3
+K-row : RowOne K 2 3 3 3
 K-row = record { t = heads ++ linesOf K-tree; is-accepted = refl; calls-is = refl; work-is = refl; span-is = spans-here (K .trace) K-tree refl 1; local-is = refl }
 
 -- THE CLAIM

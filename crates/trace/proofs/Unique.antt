@@ -17,7 +17,7 @@ span-unique t F = Over.span-unique (rule t F)
 pub chosen-unique : (t : List Frame) (c d : List ℕ) → Chosen t c → Chosen t d → c ≡ d
 chosen-unique t = Over.chosen-unique (rule t root)
 
-sum-unique : (p : ℕ → ℕ → Type 0) → ((x a b : ℕ) → p x a → p x b → a ≡ b) → (l : List ℕ) (m n : ℕ) → Sum p l m → Sum p l n → m ≡ n
+pub sum-unique : (p : ℕ → ℕ → Type 0) → ((x a b : ℕ) → p x a → p x b → a ≡ b) → (l : List ℕ) (m n : ℕ) → Sum p l m → Sum p l n → m ≡ n
 sum-unique p u [] m n h k = omega arith
 sum-unique p u (x ∷ l) m n h k =
     let e = u x (h .0) (k .0) (h .2) (k .2) in

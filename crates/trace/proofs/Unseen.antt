@@ -1,5 +1,5 @@
 -- No rule but refusal 10 sees a place: texts that differ only in places have one verdict, unless one is refused with 10.
-use mathlib.Core.Path.{_≡_, refl, sym, _∙_, ap, subst}
+use mathlib.Core.Path.{_≡_, refl, sym, _∙_, ap, ap₂, subst}
 use mathlib.Core.Logic.{inl, inr}
 use mathlib.Core.Bool.{Bool, true, false, not, cond, _||_}
 use mathlib.Core.List.{List, [], _∷_, _++_}
@@ -15,7 +15,7 @@ use Rattle.line.specs.declared.Read.the-variants.{Line, Refused}
 use Rattle.line.specs.Read.{readAt}
 use Rattle.trace.specs.Shape.{ifSite, ifMakes, root, step, walk, openAt, has, firstIs, sites}
 use Rattle.trace.specs.Series.{value}
-use Rattle.trace.specs.Rows.{makes, made, ofRow, sumOf, costsWhere, total, sum, calls, work, local}
+use Rattle.trace.specs.Rows.{makes, made, ofRow, hasOf, enclosed, unenclosed, counted, sumOf, costsWhere, total, sum, calls, work, local}
 use Rattle.trace.specs.Refusals.{lineCount, checks, openNow, empty, afterRoot, allSites, lastSite, misplaced, aboveM, placeAgain, declared, undeclared, tooDeep, wide, wideRows, beyond, fault, Verdict, accepted, refused, judged, scan, readsFrom, reads, verdict}
 use Rattle.trace.specs.Places.{Alike, OnlyPlaces}
 use Rattle.trace.proofs.Basics.{no-way}
@@ -102,12 +102,27 @@ costs-blank p n o (e ∷ t) =
     ∙ ap (λ (q : List ℕ). cond (p n o) (value e) 0 + sumOf p (suc n) q (blanks t)) (step-blank n e o)
     ∙ ap (λ (v : ℕ). cond (p n o) (value e) 0 + v) (costs-blank p (suc n) (step n e o) t)
 
-sum-blank : (pick : ℕ → ℕ → List ℕ → Bool) (t : List Frame) (s : ℕ)
-    → sum (λ F. costsWhere (blanks t) (pick F)) (ofRow (blanks t) s) ≡ sum (λ F. costsWhere t (pick F)) (ofRow t s)
-sum-blank pick t s =
-    sum-same (λ F. costsWhere (blanks t) (pick F)) (λ F. costsWhere t (pick F))
-    (λ F. costs-blank (pick F) 0 (root ∷ []) t) (ofRow (blanks t) s)
-    ∙ ap (sum (λ F. costsWhere t (pick F))) (row-blank t s)
+has-row-blank : (t : List Frame) (s : ℕ) (o : List ℕ) → hasOf (blanks t) s o ≡ hasOf t s o
+has-row-blank t s [] = refl
+has-row-blank t s (G ∷ o) = ap₂ (λ (x y : Bool). x || y) (ap (has G) (row-blank t s)) (has-row-blank t s o)
+
+enclosed-blank : (t : List Frame) (s F : ℕ) → enclosed (blanks t) s F ≡ enclosed t s F
+enclosed-blank t s zero = refl
+enclosed-blank t s (suc g) = has-row-blank t s (openAt (blanks t) g) ∙ ap (hasOf t s) (walk-blank 0 (root ∷ []) t g)
+
+unenclosed-blank : (t : List Frame) (s : ℕ) (l : List ℕ) → unenclosed (blanks t) s l ≡ unenclosed t s l
+unenclosed-blank t s [] = refl
+unenclosed-blank t s (F ∷ l) =
+    ap₂ (λ (b : Bool) (m : List ℕ). cond b m (F ∷ m)) (enclosed-blank t s F) (unenclosed-blank t s l)
+
+counted-blank : (t : List Frame) (s : ℕ) → counted (blanks t) s ≡ counted t s
+counted-blank t s = unenclosed-blank t s (ofRow (blanks t) s) ∙ ap (unenclosed t s) (row-blank t s)
+
+sum-blank : (pick : ℕ → ℕ → List ℕ → Bool) (t : List Frame) (l m : List ℕ) → l ≡ m
+    → sum (λ F. costsWhere (blanks t) (pick F)) l ≡ sum (λ F. costsWhere t (pick F)) m
+sum-blank pick t l m e =
+    sum-same (λ F. costsWhere (blanks t) (pick F)) (λ F. costsWhere t (pick F)) (λ F. costs-blank (pick F) 0 (root ∷ []) t) l
+    ∙ ap (sum (λ F. costsWhere t (pick F))) e
 
 -- some of the three numbers is beyond 64 bits
 abbrev wideOne : ℕ → ℕ → ℕ → Bool
@@ -117,8 +132,8 @@ wide-row : (t : List Frame) (s : ℕ)
     → wideOne (calls (blanks t) s) (work (blanks t) s) (local (blanks t) s) ≡ wideOne (calls t s) (work t s) (local t s)
 wide-row t s =
     ap (λ (n : ℕ). wideOne n (work (blanks t) s) (local (blanks t) s)) (ap length (row-blank t s))
-    ∙ ap (λ (n : ℕ). wideOne (calls t s) n (local (blanks t) s)) (sum-blank (λ F k o. has F o) t s)
-    ∙ ap (λ (n : ℕ). wideOne (calls t s) (work t s) n) (sum-blank (λ F k o. firstIs F o) t s)
+    ∙ ap (λ (n : ℕ). wideOne (calls t s) n (local (blanks t) s)) (sum-blank (λ F k o. has F o) t (counted (blanks t) s) (counted t s) (counted-blank t s))
+    ∙ ap (λ (n : ℕ). wideOne (calls t s) (work t s) n) (sum-blank (λ F k o. firstIs F o) t (ofRow (blanks t) s) (ofRow t s) (row-blank t s))
 
 wide-rows : (t : List Frame) (s : ℕ) → wideRows (blanks t) s ≡ wideRows t s
 wide-rows t zero = wide-row t 0

@@ -9,4 +9,3 @@ pub mod Tree
 pub mod Fold
 pub mod ByTree
 pub mod Twelve
-pub mod Outermost

@@ -1,12 +1,12 @@
 -- The rows: five numbers a row, as sums over invocations and lines.
 use Prim.Native.Nat.{ℕ, zero, suc, _+_}
 use mathlib.Core.Path.{_≡_}
-use mathlib.Core.Bool.{Bool, true, false, cond, _&&_}
+use mathlib.Core.Bool.{Bool, true, false, cond, _&&_, _||_}
 use mathlib.Core.List.{List, [], _∷_}
 use lib.Dec.{eqb}
 use lib.ListN.{length}
 use Rattle.line.specs.declared.Frame.{Frame}
-use Rattle.trace.specs.Shape.{ifMakes, root, step, has, firstIs}
+use Rattle.trace.specs.Shape.{ifMakes, root, step, openAt, has, firstIs}
 use Rattle.trace.specs.Series.{value, Span}
 
 -- "Five numbers a row"
@@ -27,9 +27,30 @@ abbrev pub ofRow : List Frame → ℕ → List ℕ
 ofRow t zero = root ∷ []
 ofRow t (suc s) = made 0 t (suc s)
 
--- those of them that columns 2 and 3 count
+-- one of the invocations o is of row s
+abbrev pub hasOf : List Frame → ℕ → List ℕ → Bool
+hasOf t s [] = false
+hasOf t s (G ∷ o) = has G (ofRow t s) || hasOf t s o
+
+-- Invocation F has an enclosing invocation of row s: one that is open at the line that makes F. Nothing is open around
+-- the root.
+abbrev pub enclosed : List Frame → ℕ → ℕ → Bool
+enclosed t s zero = false
+enclosed t s (suc g) = hasOf t s (openAt t g)
+
+-- those of the invocations l that have none
+abbrev pub unenclosed : List Frame → ℕ → List ℕ → List ℕ
+unenclosed t s [] = []
+unenclosed t s (F ∷ l) = cond (enclosed t s F) (unenclosed t s l) (F ∷ unenclosed t s l)
+
+-- the outermost invocations of row s
+abbrev pub outermost : List Frame → ℕ → List ℕ
+outermost t s = unenclosed t s (ofRow t s)
+
+-- 02, request c: "Columns 2 and 3 from now on count only invocations with no enclosing invocation from the same site.
+-- Calls, local and on span still count all."
 abbrev pub counted : List Frame → ℕ → List ℕ
-counted t s = ofRow t s
+counted t s = outermost t s
 
 -- the sum of the costs at the lines that p picks, by line number and open invocations; t begins at line n, where o
 -- are open
@@ -67,11 +88,11 @@ Sum p (x ∷ l) n = (a : ℕ) × (b : ℕ) × p x a × Sum p l b × (n ≡ a + b
 abbrev pub calls : List Frame → ℕ → ℕ
 calls t s = length (ofRow t s)
 
--- 2. "work: the sum, over those invocations, of all costs inside each"
+-- 2. "work: the sum, over those invocations, of all costs inside each"; those that are counted
 abbrev pub work : List Frame → ℕ → ℕ
 work t s = sum (inside t) (counted t s)
 
--- 3. "span: the sum, over those invocations, of each one's span"
+-- 3. "span: the sum, over those invocations, of each one's span"; those that are counted
 abbrev pub Spans : List Frame → ℕ → ℕ → Type 0
 Spans t s n = Sum (Span t) (counted t s) n
 

@@ -126,15 +126,15 @@ abbrev pub outerRow : (Body → ℕ) → ℕ → Body → ℕ
 outerRow h zero b = h b
 outerRow h (suc s) b = outerSum h (suc s) b
 
--- columns 1 to 4 of row s
+-- columns 1 to 4 of row s; 2 and 3 count the outermost invocations
 abbrev pub callsIn : ℕ → Body → ℕ
 callsIn s b = rowSum (λ g. 1) s b
 
 abbrev pub workIn : ℕ → Body → ℕ
-workIn s b = rowSum workOf s b
+workIn s b = outerRow workOf s b
 
 abbrev pub spansIn : ℕ → Body → ℕ
-spansIn s b = rowSum spanOf s b
+spansIn s b = outerRow spanOf s b
 
 abbrev pub localIn : ℕ → Body → ℕ
 localIn s b = rowSum localOf s b

@@ -90,7 +90,7 @@ AllHold (c ∷ l) = Holds c × AllHold l
 abbrev pub K : Case
 K = getD twelve 10 (case [] 0 0 0 0 0)
 
--- "In K row 1 has calls 2, work 5, span 5, local 3."
+-- "In K row 1 has calls 2, work 5, span 5, local 3."; 02, request c: "In K row 1's work and span become 3."
 pub record RowOne (c : Case) (n w s l : ℕ) : Type 0 where
   pub t : List Frame
   pub is-accepted : verdict (c .trace) 4 2 true ≡ accepted t
@@ -101,4 +101,4 @@ pub record RowOne (c : Case) (n w s l : ℕ) : Type 0 where
 
 -- "The twelve stand together in a single table under a single proved claim."
 abbrev pub Claim : Type 0
-Claim = AllHold twelve × RowOne K 2 5 5 3
+Claim = AllHold twelve × RowOne K 2 3 3 3

@@ -27,7 +27,7 @@ use Rattle.trace.proofs.Recurrence.{weight-chain}
 use Rattle.walk.specs.declared.Open.{Open}
 use Rattle.walk.specs.Stands.{Stands}
 use Rattle.walk.specs.Numbers.{numbers}
-use Rattle.walk.specs.Gain.{ColumnFits, ReturnFits, returned, made, Grown}
+use Rattle.walk.specs.Gain.{nowhere, ColumnFits, ReturnFits, returned, made, Grown}
 use Rattle.walk.specs.Reader.{Ready, BodyDone}
 use Rattle.walk.proofs.Columns.{whole-on}
 use Rattle.walk.proofs.Root.{tree, whole-small, root-stands, root-ready, cells-are, behind}
@@ -74,9 +74,9 @@ module _ (e : Engine) (s : List ℕ) (D M : ℕ) (x : Lent) (t : List Frame) (is
   pub stands : Stands s first (linesOf body)
   stands = subst (λ (k : ℕ). Stands s k (linesOf body)) first-is (root-stands D M t fine s (enough e s D M x) is)
 
-  pub ready : ((i : ℕ) → getD (x .rows) i 0 < 2 ^ 64) → Ready s 0 (sites t) (D - 1) (numbers first 0 nothing) cleared
+  pub ready : ((i : ℕ) → getD (x .rows) i 0 < 2 ^ 64) → Ready nowhere s 0 (sites t) (D - 1) (numbers first 0 nothing) cleared
   ready fits =
-      subst (λ (k : ℕ). Ready s 0 (sites t) (D - 1) (numbers k 0 nothing) cleared) first-is
+      subst (λ (k : ℕ). Ready nowhere s 0 (sites t) (D - 1) (numbers k 0 nothing) cleared) first-is
       (root-ready D M t fine s (enough e s D M x) is cleared (omega (arith, cleared-long, rows-room, count-is)) zeros (λ i. small i (decLt i (columns * (count + 1)))))
     where
       small : (i : ℕ) → Dec (i < columns * (count + 1)) → getD cleared i 0 < 2 ^ 64
@@ -84,25 +84,25 @@ module _ (e : Engine) (s : List ℕ) (D M : ℕ) (x : Lent) (t : List Frame) (is
       small i (no l) = omega (arith, cleared-back (x .rows) (columns * (count + 1)) rows-room i (omega arith), fits i)
 
   -- the root's body was read: its numbers are c
-  module _ (c : Open) (rows₁ : List ℕ) (same : length rows₁ ≡ length (x .rows)) (done : BodyDone first 0 cleared body c rows₁) where
+  module _ (c : Open) (rows₁ : List ℕ) (same : length rows₁ ≡ length (x .rows)) (done : BodyDone nowhere first 0 cleared body c rows₁) where
     pub work-is : c .work ≡ workOf body
     work-is = ap (λ (y : Open). y .work) (done .numbers-are)
 
     pub span-is : c .prefix ≡ spanOf body
     span-is = ap (λ (y : Open). y .prefix) (done .numbers-are) ∙ weight-chain body first 0
 
-    pub count-fits : ReturnFits rows₁ 0 (c .work) (c .prefix)
-    count-fits = (fits Column.calls 1 (omega arith), (fits Column.work (c .work) (omega (arith, work-is)), fits Column.span (c .prefix) (omega (arith, span-is))))
+    pub count-fits : ReturnFits nowhere rows₁ 0 (c .work) (c .prefix)
+    count-fits = (fits Column.calls 1 (omega arith), λ e. (fits Column.work (c .work) (omega (arith, work-is)), fits Column.span (c .prefix) (omega (arith, span-is))))
       where
-        fits : (k : Column) (v : ℕ) → v ≤ made 0 body (slot 0 k) → ColumnFits rows₁ 0 k v
+        fits : (k : Column) (v : ℕ) → v ≤ made nowhere 0 body (slot 0 k) → ColumnFits rows₁ 0 k v
         fits k v h =
             let i = slot-in count 0 k (omega arith) in
             (omega (arith, same, rows-room), omega (arith, done .rows-are (slot 0 k) (omega (arith, cleared-long, rows-room)), zeros (slot 0 k) (omega (arith, count-is)), whole-small D M t fine (slot 0 k)))
 
     -- and the root was counted
-    module _ (rows₂ : List ℕ) (counts : Grown rows₁ (returned 0 (c .work) (c .prefix)) rows₂) where
-      itself : Grown rows₁ (made 0 body) rows₂
-      itself i l = counts i l ∙ ap (λ (y : ℕ). getD rows₁ i 0 + returned 0 y (c .prefix) i) work-is ∙ ap (λ (y : ℕ). getD rows₁ i 0 + returned 0 (workOf body) y i) span-is
+    module _ (rows₂ : List ℕ) (counts : Grown rows₁ (returned nowhere 0 (c .work) (c .prefix)) rows₂) where
+      itself : Grown rows₁ (made nowhere 0 body) rows₂
+      itself i l = counts i l ∙ ap (λ (y : ℕ). getD rows₁ i 0 + returned nowhere 0 y (c .prefix) i) work-is ∙ ap (λ (y : ℕ). getD rows₁ i 0 + returned nowhere 0 (workOf body) y i) span-is
 
       long : columns * (sites t + 1) ≤ length cleared
       long = omega (arith, cleared-long, rows-room, count-is)

@@ -40,10 +40,10 @@ work-item done = refl
 work-item (leaf l r) = refl
 work-item (child w j g r) = refl
 
-pub gain-item : (b : Body) (s i : ℕ) → gain s b i ≡ itemGain s b i + gain s (rest b) i
-gain-item done s i = refl
-gain-item (leaf l r) s i = refl
-gain-item (child w j g r) s i = omega arith
+pub gain-item : (around : ℕ → Bool) (b : Body) (s i : ℕ) → gain around s b i ≡ itemGain around s b i + gain around s (rest b) i
+gain-item around done s i = refl
+gain-item around (leaf l r) s i = refl
+gain-item around (child w j g r) s i = omega arith
 
 -- the line behind an item of one line and z more
 behind : (n z : ℕ) → n + (1 + z) ≡ suc n + z

@@ -8,5 +8,6 @@ pub mod Columns
 pub mod Root
 pub mod Zeros
 pub mod Child
+pub mod Around
 pub mod Room
 pub mod Accepted

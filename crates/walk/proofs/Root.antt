@@ -19,10 +19,11 @@ use Rattle.trace.specs.Fold.{nothing}
 use Rattle.trace.proofs.Slots.{rowOf, columnOf, slot-of, slot-in, is-column}
 use Rattle.trace.proofs.Scan.{Fine, accepted-reads}
 use Rattle.trace.proofs.Parse.{parts}
+use Rattle.trace.proofs.Accept.{sites-le-M}
 use Rattle.trace.proofs.Outcome.{cell-small, work-small, length-is}
 use Rattle.walk.specs.Stands.{Stands}
 use Rattle.walk.specs.Numbers.{numbers}
-use Rattle.walk.specs.Gain.{made, gain, Grown}
+use Rattle.walk.specs.Gain.{nowhere, made, gain, Grown}
 use Rattle.walk.specs.Reader.{Ready}
 use Rattle.walk.proofs.Items.{stands-right}
 use Rattle.walk.proofs.Columns.{gain-out, whole, whole-cell, whole-on, whole-out}
@@ -58,7 +59,7 @@ module _ (D M : ℕ) (t : List Frame) (fine : Fine D M t) where
 
     -- what a reader asks for at the root, where the row numbers of the trace are zero
     pub root-ready : (rows : List ℕ) → columns * (sites t + 1) ≤ length rows → ((i : ℕ) → i < columns * (sites t + 1) → getD rows i 0 ≡ 0) → ((i : ℕ) → getD rows i 0 < 2 ^ 64)
-        → Ready s 0 (sites t) (D - 1) (numbers (rootAt tree) 0 nothing) rows
+        → Ready nowhere s 0 (sites t) (D - 1) (numbers (rootAt tree) 0 nothing) rows
     root-ready rows long zeros fits =
         record {
           body = body;
@@ -68,6 +69,7 @@ module _ (D M : ℕ) (t : List Frame) (fine : Fine D M t) where
           within = tree .within;
           depth = omega (arith, fine .least);
           row-in = omega arith;
+          few = omega (arith, sites-le-M D M t fine, fine .sites-most);
           rows-long = long;
           ends = omega (arith, length-is D t tree, fine .lines-most);
           work-fits = omega (arith, work-small D t tree M fine);
@@ -75,14 +77,14 @@ module _ (D M : ℕ) (t : List Frame) (fine : Fine D M t) where
           rows-fit = λ i. fit i (decLt i (columns * (sites t + 1)));
         }
       where
-        fit : (i : ℕ) → Dec (i < columns * (sites t + 1)) → getD rows i 0 + gain 0 body i < 2 ^ 64
+        fit : (i : ℕ) → Dec (i < columns * (sites t + 1)) → getD rows i 0 + gain nowhere 0 body i < 2 ^ 64
         fit i (yes l) = omega (arith, zeros i l, whole-small i)
-        fit i (no l) = omega (arith, fits i, gain-out (sites t) i (omega arith) D 1 0 body (tree .within) (omega arith))
+        fit i (no l) = omega (arith, fits i, gain-out (sites t) i (omega arith) D 1 nowhere 0 body (tree .within) (omega arith))
 
 -- The rows at the end, but for column 5: what was zero is the tree's columns, and what stands behind the rows is as
 -- it was.
 module _ (D M : ℕ) (t : List Frame) (fine : Fine D M t) (rows₀ rows₁ rows₂ : List ℕ) (long : columns * (sites t + 1) ≤ length rows₀) (same : length rows₁ ≡ length rows₀)
-    (zeros : (i : ℕ) → i < columns * (sites t + 1) → getD rows₀ i 0 ≡ 0) (inside : Grown rows₀ (gain 0 (tree D M t fine .body)) rows₁) (itself : Grown rows₁ (made 0 (tree D M t fine .body)) rows₂) where
+    (zeros : (i : ℕ) → i < columns * (sites t + 1) → getD rows₀ i 0 ≡ 0) (inside : Grown rows₀ (gain nowhere 0 (tree D M t fine .body)) rows₁) (itself : Grown rows₁ (made nowhere 0 (tree D M t fine .body)) rows₂) where
   abbrev x : Parts D t
   x = tree D M t fine
 

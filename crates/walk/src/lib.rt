@@ -8,6 +8,7 @@ ghost use mathlib.Core.Path.{_≡_};
 ghost use Prim.Native.Nat.{_+_, _*_, _^_, _≤_, _<_};
 ghost use mathlib.Core.List.{_++_};
 ghost use lib.ListN.{length, getD, set, drop, replicate};
+ghost use Rattle.rowset.specs.Set.{member};
 ghost use Rattle.trace.specs.Column.{Column, slot};
 ghost use Rattle.trace.specs.Fold.{nothing};
 ghost use Rattle.walk.specs.Weight.{weightAt};
@@ -161,12 +162,16 @@ fn credit(rows: &mut [u64], s: usize, work: u64, span: u64)
     add(rows, i + SPAN, span);
 }
 
-// An invocation of site s with this work and this span has returned: columns 1 to 3 of its row.
-pub fn returned(rows: &mut [u64], s: usize, work: u64, span: u64)
-    requires { ⌜ ReturnFits (now rows) s work span ⌝ }
-    ensures { λ _. ⌜ Grown (now (rows .entry)) (returned s work span) (now (rows .exit)) ⌝ }
+// An invocation of site s with this work and this span has returned, these rows open around it: columns 1 to 3 of its
+// row, 2 and 3 only where no invocation of the site is open.
+pub fn returned(rows: &mut [u64], s: usize, work: u64, span: u64, around: rowset::RowSet)
+    requires { ⌜ ReturnFits (member around) (now rows) s work span ⌝ }
+    ensures { λ _. ⌜ Grown (now (rows .entry)) (returned (member around) s work span) (now (rows .exit)) ⌝ }
 {
     count(rows, s);
+    if rowset::has(around, s) {
+        return;
+    }
     credit(rows, s, work, span);
 }
 

@@ -1,10 +1,11 @@
-//! The traces that the rules name: the twelve, and the further ones that are to be run and compared; and the texts that tell
-//! good comma-separated text from any other.
+//! The traces that the rules name: the twelve, and the further ones that are to be run and compared; traces whose sites call
+//! themselves; and the texts that tell good comma-separated text from any other.
 
 use super::case::{Case, Question, Spare};
 use super::sheets;
 use crate::check::{Limits, MOST_LINES};
 use crate::refusal::{Ground, Refusal};
+use crate::rows::Row;
 use crate::trace::Trace;
 
 /// One of the twelve: "events before the root's return", work, span, and on span for rows 0, 1 and 2.
@@ -96,13 +97,123 @@ impl Further {
     }
 }
 
-/// Every trace that the rules name, with just the room that it needs, and every text with rooms of each length near that.
+/// A trace in which sites call themselves, with its rows worked out by hand.
+pub struct Recursive {
+    pub name: &'static str,
+    pub trace: Trace,
+    pub limits: Limits,
+    pub rows: Vec<Row>,
+}
+
+/// Recursion in every form. "Columns 2 and 3 from now on count only invocations with no enclosing invocation from the same
+/// site. Calls, local and on span still count all."
+pub fn recursive() -> Vec<Recursive> {
+    let mut all: Vec<Recursive> = BY_HAND.iter().map(|(name, events, rows)| deep(name, events, rows)).collect();
+    // Each level costs 1, and a called one's body is in series: from the outermost on 63, from the second on 62.
+    let calls = "call 1 {1, ".repeat(63) + &"}".repeat(63);
+    all.push(deep("called 63 deep", &calls, &[[1, 63, 63, 0, 0], [63, 63, 63, 63, 63], [0; 5]]));
+    let turns = "call 1 {1, call 2 {1, ".repeat(31) + "call 1 {1" + &"}".repeat(63);
+    all.push(deep("in turn, 63 deep", &turns, &[[1, 63, 63, 0, 0], [32, 63, 63, 32, 32], [31, 62, 62, 31, 31]]));
+    // Each level costs 1 before its child and 1 beside it; the innermost costs 2, and each level around it adds 1 to the span.
+    let spawns = "spawn 1 {1, ".repeat(63) + &"1}, ".repeat(63);
+    all.push(deep("spawned 63 deep", &spawns, &[[1, 126, 64, 0, 0], [63, 126, 64, 126, 64], [0; 5]]));
+    all.push(every_site());
+    all.push(sites_apart());
+    all
+}
+
+/// Each with the rows of the root and of sites 1 and 2.
+const BY_HAND: [(&str, &str, [Row; 3]); 13] = [
+    // The rules' K: 1 and 2 in the outer one, 2 again in the inner one, which does not count.
+    ("called", "call 1 {1, call 1 {2}}", [[1, 3, 3, 0, 0], [2, 3, 3, 3, 3], [0; 5]]),
+    // 1, then 4 beside 2: work 7, span 5. In the root 3 beside it.
+    ("spawned", "spawn 1 {1, spawn 1 {4}, 2}, 3", [[1, 10, 5, 3, 0], [2, 7, 5, 7, 5], [0; 5]]),
+    // The outer one's 2 and 1 in series, and the root's 4 beside them.
+    ("called in spawned", "spawn 1 {call 1 {2}, 1}, 4", [[1, 7, 4, 4, 4], [2, 3, 3, 3, 0], [0; 5]]),
+    // The outer one's 2 beside its 1, and the root's 4 after them.
+    ("spawned in called", "call 1 {spawn 1 {2}, 1}, 4", [[1, 7, 6, 4, 4], [2, 3, 2, 3, 2], [0; 5]]),
+    // The outer 1 holds 15, the outer 2 all but its 1; the inner ones do not count.
+    (
+        "through another, called",
+        "call 1 {1, call 2 {2, call 1 {4, call 2 {8}}}}",
+        [[1, 15, 15, 0, 0], [2, 15, 15, 5, 5], [2, 14, 14, 10, 10]],
+    ),
+    // In 2: 2, then 4 beside 3, work 9, span 6; around it 1, then 6 beside 5, work 15, span 7; in the root 7 beside 6.
+    (
+        "through another, spawned",
+        "spawn 1 {1, spawn 2 {2, spawn 1 {4}, 3}, 5}, 6",
+        [[1, 21, 7, 6, 0], [2, 15, 7, 10, 5], [1, 9, 6, 5, 2]],
+    ),
+    // Neither encloses the other, so 3 and 5 add up, past the span of the whole; 5 is on the chain.
+    ("in parallel branches", "spawn 1 {3}, spawn 1 {5}, 4", [[1, 12, 5, 4, 0], [2, 8, 8, 8, 5], [0; 5]]),
+    // 3 and 7 of the two outer ones; the inner ones do not count.
+    (
+        "in parallel branches, each in itself",
+        "spawn 1 {1, call 1 {2}}, spawn 1 {3, call 1 {4}}",
+        [[1, 10, 7, 0, 0], [4, 10, 10, 10, 7], [0; 5]],
+    ),
+    // The one around both counts alone: 3 beside 5.
+    ("in parallel branches of itself", "call 1 {spawn 1 {3}, spawn 1 {5}}", [[1, 8, 5, 0, 0], [3, 8, 5, 8, 5], [0; 5]]),
+    // Both of 2 count, 3 and 7, and in each of them one of 1, 3 and 5.
+    (
+        "in parallel branches of another",
+        "spawn 2 {call 1 {3}}, call 2 {call 1 {5}, 2}",
+        [[1, 10, 7, 0, 0], [2, 8, 8, 8, 5], [2, 10, 10, 2, 2]],
+    ),
+    // 3 of the first and 4 of the last.
+    ("one behind the other", "call 1 {1, call 1 {2}}, call 1 {4}", [[1, 7, 7, 0, 0], [3, 7, 7, 7, 7], [0; 5]]),
+    // Behind the return of an inner one the outer one is open still: 7; behind its own it is not: 8.
+    (
+        "again behind an inner return",
+        "call 1 {call 1 {1}, 2, call 1 {4}}, call 2 {call 1 {8}}",
+        [[1, 15, 15, 0, 0], [4, 15, 15, 15, 15], [1, 8, 8, 0, 0]],
+    ),
+    // An outer one without a cost of its own has what its children cost.
+    ("with nothing of its own", "call 1 {call 1 {call 1 {3}}}", [[1, 3, 3, 0, 0], [3, 3, 3, 3, 3], [0; 5]]),
+];
+
+/// A recursive trace of two sites, with the greatest depth there may be.
+fn deep(name: &'static str, events: &str, rows: &[Row]) -> Recursive {
+    let limits = Limits { depth: 64, sites: 2 };
+    Recursive { name, trace: Trace::from_events(2, events), limits, rows: rows.to_vec() }
+}
+
+/// Each of 255 sites calls itself once: 1 and 2 in the outer one, 255 times 3 in all.
+fn every_site() -> Recursive {
+    let mut trace = Trace::with_sites(255);
+    for site in 1..=255 {
+        trace.call(site).cost(1).call(site).cost(2).leave().leave();
+    }
+    trace.leave();
+    let mut rows = vec![[2, 3, 3, 3, 3]; 256];
+    rows[0] = [1, 765, 765, 0, 0];
+    Recursive { name: "each of 255 sites", trace, limits: Limits { depth: 64, sites: 255 }, rows }
+}
+
+/// 63 sites in one another, many of them apart by 64, each once, around a cost of 5: no site is enclosed by itself.
+fn sites_apart() -> Recursive {
+    let sites = (1..=255).filter(|site| site % 64 < 15 || site % 64 == 63);
+    let mut trace = Trace::with_sites(255);
+    let mut rows = vec![[0; 5]; 256];
+    rows[0] = [1, 5, 5, 0, 0];
+    for site in sites {
+        trace.call(site);
+        rows[site as usize] = [1, 5, 5, 0, 0];
+    }
+    rows[255] = [1, 5, 5, 5, 5];
+    trace.cost(5);
+    (0..64).for_each(|_| _ = trace.leave());
+    Recursive { name: "sites apart by 64", trace, limits: Limits { depth: 64, sites: 255 }, rows }
+}
+
+/// Every trace of this page, with just the room that it needs, and every text with rooms of each length near that.
 pub fn cases() -> Vec<Case> {
     let twelve = TWELVE.iter().map(|named| (named.trace(), TWELVE_LIMITS));
     let further = further().into_iter().map(|further| (further.trace, further.limits));
+    let recursive = recursive().into_iter().map(|recursive| (recursive.trace, recursive.limits));
     let question =
         |(trace, limits): (Trace, Limits)| Question::Engines { trace: trace.chars, limits, spare: Spare::default() };
-    let traces = twelve.chain(further).map(|pair| Case { question: question(pair), rubbish: 1 });
+    let traces = twelve.chain(further).chain(recursive).map(|pair| Case { question: question(pair), rubbish: 1 });
     traces.chain(sheets::cases()).collect()
 }
 

@@ -202,12 +202,13 @@ fn wide(rng: &mut Rng, lines: usize) -> Trace {
     maker.finish()
 }
 
-/// One site that calls and spawns itself.
+/// Up to three sites that call and spawn themselves and one another.
 fn recursive(rng: &mut Rng, lines: usize) -> Trace {
-    let mut maker = Maker::new(rng, 1, lines);
+    let sites = rng.between(1, 3);
+    let mut maker = Maker::new(rng, sites, lines);
     while maker.fits(2) {
         match rng.below(5) {
-            0 | 1 => _ = maker.enter(rng.once_in(2), 1),
+            which @ (0 | 1) => _ = maker.enter_any(rng, which == 0),
             2 => maker.leave(),
             3 => around(rng, &mut maker),
             _ => maker.cost(rng),

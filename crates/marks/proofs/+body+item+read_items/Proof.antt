@@ -26,6 +26,8 @@ use Rattle.marks.proofs.item.Kinds as item-kinds
 use Rattle.marks.proofs.+body+item+read_items.Lts-item as item-lts
 use Rattle.line.proofs.kind_at.Reads as kind-at-reads
 use Rattle.line.proofs.site_at.Reads as site-at-reads
+use Rattle.rowset.specs.Set.{member}
+use Rattle.rowset.proofs.with.Reads as with-reads
 use Rattle.marks.proofs.Zones.prefix.Reads as prefix-reads
 use Rattle.marks.proofs.called.Reads as called-reads
 use Rattle.marks.proofs.join.Reads as join-reads
@@ -75,13 +77,13 @@ abbrev items-calls : ℕ → items-lts.Claims
 items-calls t = (kind-at-reads.Asked, kind-at-reads.Learnt, item-below t, item.Post)
 
 abbrev item-calls : ℕ → item-lts.Claims
-item-calls t = (weight-at-reads.Asked, weight-at-reads.Learnt, spend-reads′.Asked, spend-reads′.Learnt, spend-reads.Asked, spend-reads.Learnt, join-reads.Asked, join-reads.Learnt, site-at-reads.Asked, site-at-reads.Learnt, store-reads.Asked, store-reads.Learnt, body-below t, body.Post, load-reads.Asked, load-reads.Learnt, returned-reads.Asked, returned-reads.Learnt, called-reads.Asked, called-reads.Learnt, spawned-reads.Asked, spawned-reads.Learnt)
+item-calls t = (weight-at-reads.Asked, weight-at-reads.Learnt, spend-reads′.Asked, spend-reads′.Learnt, spend-reads.Asked, spend-reads.Learnt, join-reads.Asked, join-reads.Learnt, site-at-reads.Asked, site-at-reads.Learnt, with-reads.Asked, with-reads.Learnt, store-reads.Asked, store-reads.Learnt, body-below t, body.Post, load-reads.Asked, load-reads.Learnt, returned-reads.Asked, returned-reads.Learnt, called-reads.Asked, called-reads.Learnt, spawned-reads.Asked, spawned-reads.Learnt)
 
 abbrev Inv-loop : items-lts.InvT-loop
-Inv-loop trace deep t₀ marks₀ rows₀ z₀ kind₀ t marks rows z kind = Loop trace deep z₀ t₀ marks₀ rows₀ t marks rows z kind
+Inv-loop trace deep t₀ marks₀ rows₀ around z₀ kind₀ t marks rows z kind = Loop (member around) trace deep z₀ t₀ marks₀ rows₀ t marks rows z kind
 
 abbrev μ-loop : items-lts.MeasureT-loop
-μ-loop trace deep t₀ marks₀ rows₀ z₀ kind₀ t marks rows z kind = 65536 - z .own .at
+μ-loop trace deep t₀ marks₀ rows₀ around z₀ kind₀ t marks rows z kind = 65536 - z .own .at
 
 module _ (t : ℕ) where
   -- a place of `body`, or what is needed there
@@ -234,10 +236,10 @@ module _ (t : ℕ) where
   abbrev item-join : Item item-lts.After-slice-known6 → Item item-lts.After-join
   item-join c = c .before .before
 
-  abbrev child-start : Item item-lts.After-site-at → Item item-lts.Start
-  child-start c = item-start (c .before .before .before)
+  abbrev child-start : Item item-lts.After-with → Item item-lts.Start
+  child-start c = item-start (c .before .before .before .before)
 
-  abbrev store-site : Item item-lts.After-store → Item item-lts.After-site-at
+  abbrev store-site : Item item-lts.After-store → Item item-lts.After-with
   store-site c = c .before .before
 
   abbrev part-store : Item item-lts.After-slice-known7 → Item item-lts.After-store
@@ -282,13 +284,21 @@ module _ (t : ℕ) where
 
   -- what is known where a weight was read
   at-weight : (c : Item item-lts.After-weight-at) → (
-      let a = item-start (weight-test c) .args in Costs (a .trace .now) (a .deep) (a .z) (a .t .now) (a .marks .now) (a .rows .now) (a .kind) (c .weight-at .result))
+      let a = item-start (weight-test c) .args in Costs (member (a .around)) (a .trace .now) (a .deep) (a .z) (a .t .now) (a .marks .now) (a .rows .now) (a .kind) (c .weight-at .result))
   at-weight c = record { asks = item-start (weight-test c) .pre .1; weight-is = c .weight-at .ensures; cost = c .before .if1 .taken }
 
-  -- where a site was read
-  at-site : (c : Item item-lts.After-site-at) → (
-      let a = child-start c .args in Calls (a .trace .now) (a .deep) (a .z) (a .t .now) (a .marks .now) (a .rows .now) (a .kind) (c .site-at .result))
-  at-site c = record { asks = child-start c .pre .1; site-is = c .site-at .ensures; no-cost = c .before .before .if1 .left; no-sync = c .before .if2 .left }
+  -- where a site was read and put into the set
+  at-site : (c : Item item-lts.After-with) → (
+      let a = child-start c .args in Calls (a .around) (a .trace .now) (a .deep) (a .z) (a .t .now) (a .marks .now) (a .rows .now) (a .kind) (c .before .site-at .result) (c .with .result))
+  at-site c =
+      let s = c .before in
+      record {
+        asks = child-start c .pre .1;
+        site-is = s .site-at .ensures;
+        no-cost = s .before .before .if1 .left;
+        no-sync = s .before .if2 .left;
+        inside-is = c .with .ensures;
+      }
 
   -- where the invocation is stored
   at-store : (c : Item item-lts.After-store) → (
@@ -345,6 +355,9 @@ module _ (t : ℕ) where
 
   item-cast-site : Item item-lts.Need-cast-site
   item-cast-site c = search needs
+
+  item-with-requires : Item item-lts.Need-with-requires
+  item-with-requires c κs = search needs
 
   item-store-requires : Item item-lts.Need-store-requires
   item-store-requires c κs = room (at-site (c .before))
@@ -457,6 +470,7 @@ pub +body+item+read-items-spec : {M : Type 1} → statement M
     (item-returns-2 t)
     (item-site-at-requires t)
     (item-cast-site t)
+    (item-with-requires t)
     (item-store-requires t)
     (item-add-body t)
     (item-sub-body t)

@@ -20,10 +20,10 @@ zeros c = c .before .before .before
 abbrev wipe-zeros : tie.After-wipe-lines-arg → tie.After-zero2
 wipe-zeros c = c .before .before .before
 
-abbrev body-wipe : tie.After-slice-known6 → tie.After-wipe-lines
-body-wipe c = c .before .before
+abbrev body-wipe : tie.After-none → tie.After-wipe-lines
+body-wipe c = c .before .before .before
 
-abbrev body-begins : tie.After-body-arg3 → tie.After-slice-known6
+abbrev body-begins : tie.After-body-arg3 → tie.After-none
 body-begins c = c .before .before .before
 
 abbrev returned-body : tie.After-returned-arg → tie.After-body
@@ -42,7 +42,7 @@ cleared c = zero-start (zeros c .before)
 abbrev wiped : tie.After-wipe-lines-arg → tie.Start
 wiped c = cleared (wipe-zeros c .before)
 
-abbrev begun : tie.After-slice-known6 → tie.Start
+abbrev begun : tie.After-none → tie.Start
 begun c = wiped (body-wipe c .before)
 
 abbrev root-start : tie.After-returned → tie.Start
@@ -69,18 +69,20 @@ column-scratch c = c .column .last .1 .1 .1 .0
 abbrev column-rows : tie.After-column → List ℕ
 column-rows c = c .column .last .1 .1 .1 .1 .1 .0
 
-blank : (c : tie.After-wipe-lines) → (
-    let z = wipe-zeros (c .before) in Blank (wiped (c .before) .pre) (zeros (z .before) .zero .last .0) (c .wipe-lines .last .0) (z .zero2 .last .0))
+blank : (c : tie.After-none) → (
+    let w = body-wipe c in let z = wipe-zeros (w .before) in Blank (begun c .pre) (zeros (z .before) .zero .last .0) (w .wipe-lines .last .0) (z .zero2 .last .0) (c .none .result))
 blank c =
-    let z = wipe-zeros (c .before) in
+    let w = body-wipe c in
+    let z = wipe-zeros (w .before) in
     record {
-      scratch-is = zeros (z .before) .zero .ensures ∙ cleared-all (wiped (c .before) .args .scratch .now);
-      sites-off = c .wipe-lines .ensures;
-      marks-same = c .wipe-lines .kept .0;
+      scratch-is = zeros (z .before) .zero .ensures ∙ cleared-all (begun c .args .scratch .now);
+      sites-off = w .wipe-lines .ensures;
+      marks-same = w .wipe-lines .kept .0;
       rows-are = z .zero2 .ensures;
+      empty = c .none .ensures;
     }
 
-read : (c : tie.After-body) → Read (begun (body-begins (c .before)) .pre) (c .body .result) (root-scratch c) (root-marks c) (root-rows c)
+read : (c : tie.After-body) → Read (begun (body-begins (c .before)) .pre) (c .body .result) (root-scratch c) (root-marks c) (root-rows c) (body-begins (c .before) .none .result)
 read c =
     let w = body-wipe (body-begins (c .before)) in
     let z = wipe-zeros (w .before) in
@@ -88,8 +90,8 @@ read c =
       t₁ = zeros (z .before) .zero .last .0;
       m₁ = w .wipe-lines .last .0;
       r₁ = z .zero2 .last .0;
-      blank = blank w;
-      zero = c .body .ensures .1 ∙ blank w .scratch-is;
+      blank = blank (body-begins (c .before));
+      zero = c .body .ensures .1 ∙ blank (body-begins (c .before)) .scratch-is;
       marks-same = c .body .kept .1 .1 .1 .1 .1 .0 ∙ w .wipe-lines .kept .0;
       rows-same = c .body .kept .1 .1 .1 .1 .1 .1 .0 ∙ z .zero2 .kept .0;
       leaves = c .body .ensures .0;
@@ -97,6 +99,9 @@ read c =
 
 counts-long : (c : tie.After-returned) → length (c .returned .last .0) ≡ length (root-start c .args .rows .now)
 counts-long c = c .returned .kept .0 ∙ read (returned-body (c .before)) .rows-same
+
+rows-long : (c : tie.After-column) → length (column-rows c) ≡ length (root-start (column-returned (c .before)) .args .rows .now)
+rows-long c = c .column .kept .1 .1 .1 .1 .1 .0 ∙ counts-long (column-returned (c .before))
 
 zero-requires : tie.Need-zero-requires
 zero-requires c κs = search needs
@@ -113,13 +118,16 @@ zero-requires-2 c κs = rows-in (cleared c .pre)
 wipe-lines-requires : tie.Need-wipe-lines-requires
 wipe-lines-requires c κs = (omega arith, marks-in (wiped c .pre))
 
+none-requires : tie.Need-none-requires
+none-requires c κs = search needs
+
 sub-body : tie.Need-sub-body
 sub-body c = bounds (begun c .pre) .0
 
 body-requires : tie.Need-body-requires
 body-requires c κs =
     let w = body-wipe (body-begins c) in
-    body-asks _ (blank w) (rows-fit (zeros (wipe-zeros (w .before) .before) .before))
+    body-asks _ (blank (body-begins c)) (rows-fit (zeros (wipe-zeros (w .before) .before) .before))
 
 returned-requires : tie.Need-returned-requires
 returned-requires c κs = count-asks _ (read (returned-body c))
@@ -139,13 +147,13 @@ same-length-2 : tie.Need-same-length-2
 same-length-2 c = search needs
 
 same-length-3 : tie.Need-same-length-3
-same-length-3 c = search needs
+same-length-3 c = rows-long (end-column c)
 
 returns : tie.Need-returns
 returns c =
     let o = end-column c in
     let k = column-returned (o .before) in
-    promised _ (read (returned-body (k .before))) (k .returned .last .0) (k .returned .ensures) (counts-long k) (column-scratch o) (column-rows o) (o .column .ensures .0) (o .column .ensures .1) (o .column .kept .1 .1 .1 .1 .1 .0 ∙ counts-long k)
+    promised _ (read (returned-body (k .before))) (k .returned .last .0) (k .returned .ensures) (counts-long k) (column-scratch o) (column-rows o) (o .column .ensures .0) (o .column .ensures .1) (rows-long o)
 
 pub accepted-spec : {M : Type 1} → statement M
 accepted-spec =
@@ -156,6 +164,7 @@ accepted-spec =
     mul-zero
     zero-requires-2
     wipe-lines-requires
+    none-requires
     sub-body
     body-requires
     returned-requires

@@ -20,6 +20,8 @@ use Rattle.tables.proofs.item.Kinds as item-kinds
 use Rattle.tables.proofs.+body+item+read_items.Lts-item as item-lts
 use Rattle.line.proofs.kind_at.Reads as kind-at-reads
 use Rattle.line.proofs.site_at.Reads as site-at-reads
+use Rattle.rowset.specs.Set.{member}
+use Rattle.rowset.proofs.with.Reads as with-reads
 use Rattle.tables.proofs.called.Reads as called-reads
 use Rattle.tables.proofs.join.Reads as join-reads
 use Rattle.tables.proofs.part.Reads as part-reads
@@ -67,13 +69,13 @@ abbrev items-calls : ℕ → items-lts.Claims
 items-calls t = (kind-at-reads.Asked, kind-at-reads.Learnt, item-below t, item.Post)
 
 abbrev item-calls : ℕ → item-lts.Claims
-item-calls t = (weight-at-reads.Asked, weight-at-reads.Learnt, spend-reads′.Asked, spend-reads′.Learnt, spend-reads.Asked, spend-reads.Learnt, join-reads.Asked, join-reads.Learnt, site-at-reads.Asked, site-at-reads.Learnt, part-reads.Asked, part-reads.Learnt, body-below t, body.Post, returned-reads.Asked, returned-reads.Learnt, called-reads.Asked, called-reads.Learnt, spawned-reads.Asked, spawned-reads.Learnt)
+item-calls t = (weight-at-reads.Asked, weight-at-reads.Learnt, spend-reads′.Asked, spend-reads′.Learnt, spend-reads.Asked, spend-reads.Learnt, join-reads.Asked, join-reads.Learnt, site-at-reads.Asked, site-at-reads.Learnt, with-reads.Asked, with-reads.Learnt, part-reads.Asked, part-reads.Learnt, body-below t, body.Post, returned-reads.Asked, returned-reads.Learnt, called-reads.Asked, called-reads.Learnt, spawned-reads.Asked, spawned-reads.Learnt)
 
 abbrev Inv-loop : items-lts.InvT-loop
-Inv-loop trace row deep t₀ rows₀ n w f₀ kind₀ t rows f kind = Loop trace row deep f₀ t₀ rows₀ t rows n w f kind
+Inv-loop trace row deep t₀ rows₀ n w around f₀ kind₀ t rows f kind = Loop (member around) trace row deep f₀ t₀ rows₀ t rows n w f kind
 
 abbrev μ-loop : items-lts.MeasureT-loop
-μ-loop trace row deep t₀ rows₀ n w f₀ kind₀ t rows f kind = 65536 - f .at
+μ-loop trace row deep t₀ rows₀ n w around f₀ kind₀ t rows f kind = 65536 - f .at
 
 module _ (t : ℕ) where
   -- a place of `body`, or what is needed there
@@ -208,8 +210,8 @@ module _ (t : ℕ) where
   abbrev item-join : Item item-lts.After-slice-known5 → Item item-lts.After-join
   item-join c = c .before .before
 
-  abbrev child-start : Item item-lts.After-site-at → Item item-lts.Start
-  child-start c = item-start (c .before .before .before)
+  abbrev child-start : Item item-lts.After-with → Item item-lts.Start
+  child-start c = item-start (c .before .before .before .before)
 
   abbrev body-part : Item item-lts.After-body-arg2 → Item item-lts.After-part
   body-part c = c .before .before
@@ -245,14 +247,15 @@ module _ (t : ℕ) where
 
   -- what is known where a weight was read, where the child's part is known, and where the child has returned
   at-weight : (c : Item item-lts.After-weight-at) → (
-      let a = item-start (weight-test c) .args in Costs (a .trace .now) (a .kind) (a .row) (a .deep) (a .f) (a .t .now) (a .rows .now) (a .n) (a .w) (c .weight-at .result))
+      let a = item-start (weight-test c) .args in Costs (member (a .around)) (a .trace .now) (a .kind) (a .row) (a .deep) (a .f) (a .t .now) (a .rows .now) (a .n) (a .w) (c .weight-at .result))
   at-weight c = record { asks = item-start (weight-test c) .pre .1; weight-is = c .weight-at .ensures; cost = c .before .if1 .taken }
 
   at-part : (c : Item item-lts.After-part) → (
-      let a = child-start (c .before) .args in Calls (a .trace .now) (a .kind) (a .row) (a .deep) (a .f) (a .t .now) (a .rows .now) (a .n) (a .w) (c .before .site-at .result) (c .part .result))
+      let a = child-start (c .before) .args in Calls (a .around) (a .trace .now) (a .kind) (a .row) (a .deep) (a .f) (a .t .now) (a .rows .now) (a .n) (a .w) (c .before .before .site-at .result) (c .before .with .result) (c .part .result))
   at-part c =
-      let e = c .before .before in
-      record { asks = child-start (c .before) .pre .1; site-is = c .before .site-at .ensures; no-cost = e .before .if1 .left; no-sync = e .if2 .left; begins = c .part .ensures }
+      let s = c .before .before in
+      let e = s .before in
+      record { asks = child-start (c .before) .pre .1; site-is = s .site-at .ensures; no-cost = e .before .if1 .left; no-sync = e .if2 .left; inside-is = c .before .with .ensures; begins = c .part .ensures }
 
   at-body : (c : Item item-lts.After-body) → Back (at-part (body-part (c .before))) (c .body .result) (body-scratch c) (body-rows c)
   at-body c = record { part-long = c .body .kept .1 .1 .1 .1 .0; rows-long = c .body .kept .1 .1 .1 .1 .1 .0; leaves = c .body .ensures }
@@ -296,6 +299,9 @@ module _ (t : ℕ) where
 
   item-cast-site : Item item-lts.Need-cast-site
   item-cast-site c = search needs
+
+  item-with-requires : Item item-lts.Need-with-requires
+  item-with-requires c κs = search needs
 
   item-part-requires : Item item-lts.Need-part-requires
   item-part-requires c κs =
@@ -392,6 +398,7 @@ pub +body+item+read-items-spec : {M : Type 1} → statement M
     (item-returns-2 t)
     (item-site-at-requires t)
     (item-cast-site t)
+    (item-with-requires t)
     (item-part-requires t)
     (item-add-body t)
     (item-sub-body t)

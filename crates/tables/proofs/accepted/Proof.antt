@@ -17,10 +17,10 @@ zero-start c = c .before .before .before .before
 abbrev zeros : tie.After-zero-arg2 → tie.After-zero
 zeros c = c .before .before .before
 
-abbrev body-zeros : tie.After-slice-known4 → tie.After-zero2
-body-zeros c = c .before .before
+abbrev body-zeros : tie.After-none → tie.After-zero2
+body-zeros c = c .before .before .before
 
-abbrev body-begins : tie.After-body-arg2 → tie.After-slice-known4
+abbrev body-begins : tie.After-body-arg2 → tie.After-none
 body-begins c = c .before .before
 
 abbrev returned-body : tie.After-returned-arg → tie.After-body
@@ -53,16 +53,22 @@ root-scratch c = c .body .last .1 .1 .1 .1 .0
 abbrev root-rows : tie.After-body → List ℕ
 root-rows c = c .body .last .1 .1 .1 .1 .1 .0
 
-blank : (c : tie.After-zero2) → Blank (cleared (c .before) .pre) (zeros (c .before) .zero .last .0) (c .zero2 .last .0)
-blank c = record { scratch-is = zeros (c .before) .zero .ensures ∙ cleared-all (cleared (c .before) .args .scratch .now); rows-are = c .zero2 .ensures }
+blank : (c : tie.After-none) → (let z = body-zeros c in Blank (cleared (z .before) .pre) (zeros (z .before) .zero .last .0) (z .zero2 .last .0) (c .none .result))
+blank c =
+    let z = body-zeros c in
+    record {
+      scratch-is = zeros (z .before) .zero .ensures ∙ cleared-all (cleared (z .before) .args .scratch .now);
+      rows-are = z .zero2 .ensures;
+      empty = c .none .ensures;
+    }
 
-read : (c : tie.After-body) → Read (begun (c .before) .pre) (c .body .result) (root-scratch c) (root-rows c)
+read : (c : tie.After-body) → Read (begun (c .before) .pre) (c .body .result) (root-scratch c) (root-rows c) (body-begins (c .before) .none .result)
 read c =
     let z = body-zeros (body-begins (c .before)) in
     record {
       t₁ = zeros (z .before) .zero .last .0;
       r₁ = z .zero2 .last .0;
-      blank = blank z;
+      blank = blank (body-begins (c .before));
       scratch-same = c .body .kept .1 .1 .1 .1 .0 ∙ zeros (z .before) .zero .kept .0;
       rows-same = c .body .kept .1 .1 .1 .1 .1 .0 ∙ z .zero2 .kept .0;
       leaves = c .body .ensures;
@@ -89,6 +95,9 @@ mul-zero c = let l = limits (cleared c .pre) in omega (arith, l .2, l .3)
 zero-requires-2 : tie.Need-zero-requires-2
 zero-requires-2 c κs = rows-room (cleared c .pre)
 
+none-requires : tie.Need-none-requires
+none-requires c κs = search needs
+
 sub-body : tie.Need-sub-body
 sub-body c = limits (cleared (body-zeros c .before) .pre) .0
 
@@ -99,7 +108,7 @@ add-body-2 : tie.Need-add-body-2
 add-body-2 c = let l = limits (begun c .pre) in omega (arith, l .2, l .3)
 
 body-requires : tie.Need-body-requires
-body-requires c κs = root-asks (begun c .pre) (blank (body-zeros (body-begins c))) (rows-fit (zeros (body-zeros (body-begins c) .before) .before))
+body-requires c κs = root-asks (begun c .pre) (blank (body-begins c)) (rows-fit (zeros (body-zeros (body-begins c) .before) .before))
 
 returned-requires : tie.Need-returned-requires
 returned-requires c κs = root-counts _ (read (returned-body c))
@@ -133,6 +142,7 @@ accepted-spec =
     add-zero
     mul-zero
     zero-requires-2
+    none-requires
     sub-body
     add-body
     add-body-2
