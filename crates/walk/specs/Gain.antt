@@ -18,7 +18,7 @@ ColumnFits rows s k v = (slot s k < length rows) × (getD rows (slot s k) 0 + v 
 abbrev pub creditOf : List ℕ → ℕ → Credit
 creditOf rows s = record { work = getD rows (slot s Column.work) 0; span = getD rows (slot s Column.span) 0 }
 
--- they are now these
+-- the rows, where they are now these
 abbrev pub credited : ℕ → ℕ → ℕ → List ℕ → List ℕ
 credited s work span rows = set (set rows (slot s Column.work) work) (slot s Column.span) span
 
@@ -36,9 +36,9 @@ one j v i = cond (eqb j i) v 0
 abbrev pub oneCall : ℕ → ℕ → ℕ
 oneCall s i = one (slot s Column.calls) 1 i
 
--- What is x in row number i where an invocation of site s returns: one call more, and columns 2 and 3 of the row are now
--- these, whatever they were. So nothing stays of what invocations of the site inside it came to: "Columns 2 and 3 from now
--- on count only invocations with no enclosing invocation from the same site."
+-- What row number i, which holds x, comes to where an invocation of site s returns: one call more, and columns 2 and 3 of
+-- the row are now these, whatever they held. So nothing stays of what invocations of the site inside it came to: "Columns 2
+-- and 3 from now on count only invocations with no enclosing invocation from the same site."
 abbrev pub returned : ℕ → ℕ → ℕ → ℕ → ℕ → ℕ
 returned s work span x i = cond (eqb (slot s Column.span) i) span (cond (eqb (slot s Column.work) i) work (x + oneCall s i))
 
