@@ -13,7 +13,8 @@ use crate::rows::{Profile, Row, CALLS, COLUMNS, LOCAL, ON_SPAN, SPAN, WORK};
 
 /// The profile of a trace, or its refusal.
 pub fn profile(trace: &[u8], limits: Limits, lent: &Lent) -> Result<Profile, Refusal> {
-    let lines = before_lines(trace, limits, lent).map_err(|ground| ground.at(0))?;
+    let short = |lines| lent.is_short(limits, lines);
+    let lines = before_lines(trace, limits, short).map_err(|ground| ground.at(0))?;
     let mut engine = Engine::new(limits, lines);
     for (number, chars) in trace.chunks_exact(CHARS).enumerate() {
         let chars = chars.try_into().expect("a whole line");
