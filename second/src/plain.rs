@@ -6,6 +6,8 @@
 //! the lines that lead into the heaviest branch and out of it are told so; then a walk along those that are left is the
 //! chosen chain.
 
+pub mod folded;
+
 use crate::check::{before_lines, Lent, Limits};
 use crate::line::CHARS;
 use crate::refusal::{Ground, Refusal};
