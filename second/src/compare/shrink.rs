@@ -206,9 +206,7 @@ fn lower_questions(question: &Question) -> Vec<Question> {
             let lower = lower_limits(*limits).map(|limits| of(limits, project, stock, *spare));
             let projects = shorter_texts(project).map(|project| of(*limits, &project, stock, *spare));
             let stocks = shorter_texts(stock).map(|stock| of(*limits, project, &stock, *spare));
-            let just = FoldedSpare::default();
-            let rooms = [FoldedSpare { out: spare.out, ..just }, FoldedSpare { scratch: spare.scratch, ..just }, just];
-            let rooms = rooms.into_iter().filter(|room| room != spare).map(|room| of(*limits, project, stock, room));
+            let rooms = lower_folded_spares(*spare).map(|spare| of(*limits, project, stock, spare));
             lower.chain(projects).chain(stocks).chain(rooms).collect()
         }
     }
@@ -237,5 +235,12 @@ fn lower_spares(spare: Spare) -> impl Iterator<Item = Spare> {
         Spare { answer: 0, ..spare },
         Spare { marks: 0, ..spare },
     ];
+    just.into_iter().filter(move |new| *new != spare)
+}
+
+/// The same for the writer of folded stacks.
+fn lower_folded_spares(spare: FoldedSpare) -> impl Iterator<Item = FoldedSpare> {
+    let just =
+        [FoldedSpare { scratch: 0, ..spare }, FoldedSpare { out: 0, ..spare }, FoldedSpare { written: 0, ..spare }];
     just.into_iter().filter(move |new| *new != spare)
 }
