@@ -297,7 +297,8 @@ static void traces_are_refused(void) {
 static const char names[] = "main\nload\n\n", stock_names[] = "root\none\ntwo";
 
 /* Folded stacks with these lists: of case I the root's and site 1's names are the project's, site 2's is the stock list's. */
-static uint64_t folded(const char *trace, size_t len, const char *project, const char *stock, size_t s, size_t room, size_t count_room) {
+static uint64_t folded(const char *trace, size_t len, const char *project, const char *stock, size_t s, size_t room,
+                       size_t count_room) {
     uint64_t *to_scratch = lend_numbers(&scratch, s), *to = lend_numbers(&written, count_room);
     uint8_t *text = lend_chars(&out, room);
     return nyo_folded((const uint8_t *)trace, len, 4, 3, (const uint8_t *)project, strlen(project), (const uint8_t *)stock,
@@ -306,7 +307,8 @@ static uint64_t folded(const char *trace, size_t len, const char *project, const
 
 static int text_is(const char *expected) {
     size_t n = strlen(expected);
-    return chars_are(&out, expected, n) && numbers_are(&written, (const uint64_t[]){n}, 1) && numbers_are(&scratch, zeros, scratch.len);
+    return chars_are(&out, expected, n) && numbers_are(&written, (const uint64_t[]){n}, 1) &&
+           numbers_are(&scratch, zeros, scratch.len);
 }
 
 static int nothing_folded(void) { return nothing_written() && numbers_unchanged(&scratch); }

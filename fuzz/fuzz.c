@@ -180,7 +180,8 @@ static void put_names(Names *list, Input *in, size_t lines, unsigned empty) {
 
 /* ---- what holds ---- */
 
-static Pages of_trace, of_scratch, of_marks, of_rows, of_answer, of_frame, of_out, of_text, of_written, of_names[2], of_stacks;
+static Pages of_trace, of_scratch, of_marks, of_rows, of_answer, of_frame, of_out, of_text, of_written;
+static Pages of_names[2], of_stacks;
 
 static void reserve(void) {
     make_rubbish();
@@ -407,7 +408,8 @@ static size_t expected_stacks(char *text, size_t most, const Room *trace, const 
 }
 
 /* The trace, which the table engine has answered so, as folded stacks with two lists made from the input. */
-static void fold(const Room *trace, uint64_t depth, uint64_t sites, uint64_t first, uint64_t declared, Input *lists, Input *in) {
+static void fold(const Room *trace, uint64_t depth, uint64_t sites, uint64_t first, uint64_t declared, Input *lists,
+                 Input *in) {
     static Names project, stock;
     static char expected[MOST_RUBBISH];
     Name shown[NYO_MOST_SITES + 1];
@@ -417,7 +419,8 @@ static void fold(const Room *trace, uint64_t depth, uint64_t sites, uint64_t fir
     for (; bad <= declared && name_shown(&shown[bad], &project, &stock, bad); bad++)
         if (shown[bad].len > longest) longest = shown[bad].len;
     if (!first && bad > declared) len = expected_stacks(expected, sizeof expected, trace, shown);
-    Room scratch = lend(&of_scratch, enough(NYO_FOLDED_SCRATCH(d), 8, in), in), written = lend(&of_written, enough(1, 8, in), in);
+    Room scratch = lend(&of_scratch, enough(NYO_FOLDED_SCRATCH(d), 8, in), in);
+    Room written = lend(&of_written, enough(1, 8, in), in);
     Room out = lend(&of_stacks, enough(len < MOST_RUBBISH ? len : MOST_RUBBISH, 1, in), in);
     Room to_project = lend(&of_names[0], project.len, in), to_stock = lend(&of_names[1], stock.len, in);
     memcpy(to_project.at, project.chars, project.len), memcpy(to_stock.at, stock.chars, stock.len);

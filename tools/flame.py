@@ -46,7 +46,8 @@ def boxes(box, scale, left, bottom):
         fits = int((width - 6) / LETTER)
         label = next((label for label in (f"{name} {own[0]}", name) if len(label) <= fits), "")
         colour = COLOURS[sum(name.encode()) % len(COLOURS)]
-        yield f'<g><title>{escape(name)}: {own[0]}</title><rect x="{left:.1f}" y="{bottom - HEIGHT}" width="{width:.1f}" height="{HEIGHT - 1}" rx="2" fill="{colour}"/>'
+        size = f'x="{left:.1f}" y="{bottom - HEIGHT}" width="{width:.1f}" height="{HEIGHT - 1}"'
+        yield f'<g><title>{escape(name)}: {own[0]}</title><rect {size} rx="2" fill="{colour}"/>'
         yield f'<text x="{left + 4:.1f}" y="{bottom - 7}">{escape(label)}</text></g>' if label else "</g>"
         yield from boxes(own, scale, left, bottom - HEIGHT)
         left += width
@@ -55,8 +56,9 @@ def boxes(box, scale, left, bottom):
 def picture(root):
     height = HEIGHT * depth(root) + 2 * MARGIN
     scale = (WIDTH - 2 * MARGIN) / max(root[0], 1)
-    yield f'<svg xmlns="http://www.w3.org/2000/svg" width="{WIDTH}" height="{height}" viewBox="0 0 {WIDTH} {height}" font-family="monospace" font-size="12">'
-    yield f'<rect width="{WIDTH}" height="{height}" fill="#fffaf0"/>'
+    size = f'width="{WIDTH}" height="{height}"'
+    yield f'<svg xmlns="http://www.w3.org/2000/svg" {size} font-family="monospace" font-size="12">'
+    yield f'<rect {size} fill="#fffaf0"/>'
     yield from boxes(root, scale, MARGIN, height - MARGIN)
     yield "</svg>"
 

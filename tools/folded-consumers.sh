@@ -34,8 +34,9 @@ for name in case-i capitals splitter proxy; do
 
     if command -v perl >/dev/null && [ -f "$flamegraph" ]; then
         perl "$flamegraph" "$text" >"$out/$name.svg" 2>"$out/said"
-        held "flamegraph.pl on $name" "$work" "$(sed -n 's/.*all (\([0-9,]*\) samples, 100%).*/\1/p' "$out/$name.svg" | head -1 | tr -d ,)"
-        held "what flamegraph.pl says of $name" "nothing" "nothing$(cat "$out/said")"
+        total=$(sed -n 's/.*all (\([0-9,]*\) samples, 100%).*/\1/p' "$out/$name.svg" | head -1 | tr -d ,)
+        held "flamegraph.pl on $name" "$work" "$total"
+        held "what flamegraph.pl says of $name" nothing "$([ -s "$out/said" ] && cat "$out/said" || echo nothing)"
     else
         skipped=$((skipped + 1)) && echo "skipped for $name: no flamegraph.pl here"
     fi
