@@ -58,12 +58,15 @@ module _ (at : ℕ) (room : List ℕ) where
         ∙ sym (List·getD-append (take at room) (drop at room) 0 i (omega (arith, length-take-le at room (omega arith))))
         ∙ ap (λ (l : List ℕ). getD l i 0) (take-append-drop at room)
 
-    -- and it stands there
-    pub laid-there : take (length piece) (drop at (laid at piece room)) ≡ piece
-    unfolding laid
-    laid-there =
-        ap (take (length piece)) (drop-at (take at room) (piece ++ drop (at + length piece) room) at (length-take-le at room (omega arith)))
-        ∙ take-at piece (drop (at + length piece) room) (length piece) refl
+  -- it stands there, whatever is laid behind it as one with it
+  pub laid-there : (piece more : List ℕ) → at ≤ length room → take (length piece) (drop at (laid at (piece ++ more) room)) ≡ piece
+  unfolding laid
+  laid-there piece more h =
+      ap (take (length piece)) (drop-at (take at room) ((piece ++ more) ++ rest) at (length-take-le at room h) ∙ append-assoc piece more rest)
+      ∙ take-at piece (more ++ rest) (length piece) refl
+    where
+      rest : List ℕ
+      rest = drop (at + length (piece ++ more)) room
 
   -- a stored character
   pub laid-one : (c : ℕ) → at < length room → set room at c ≡ laid at (c ∷ []) room

@@ -1,0 +1,9 @@
+mod Stacks
+mod Frames
+mod Spots
+mod Rooms
+mod Turns
+mod Measuring
+mod Writing
+pub mod Tied
+mod Whole

@@ -1,0 +1,7 @@
+pub mod Text
+pub mod Folding
+pub mod Rows
+pub mod Spots
+pub mod Measure
+pub mod Write
+pub mod Whole
