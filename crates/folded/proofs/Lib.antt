@@ -7,3 +7,6 @@ mod Measuring
 mod Writing
 pub mod Tied
 mod Whole
+pub mod OfRow
+pub mod Printed
+pub mod Laws

@@ -1,5 +1,6 @@
 pub mod Text
 pub mod Folding
+pub mod Reading
 pub mod Rows
 pub mod Spots
 pub mod Measure

@@ -1,13 +1,14 @@
 -- For proofs, not for the reader of the request: the rows of the open invocations as a stack, and the text by it.
 use Prim.Native.Nat.{ℕ, _+_, _≤_}
 use mathlib.Core.Path.{_≡_}
-use mathlib.Core.List.{List, [], _∷_, _++_}
+use mathlib.Core.List.{List, [], _∷_, _++_, map}
 use lib.ListN.{length}
 use Rattle.line.specs.declared.Frame.{Frame}
 use Rattle.line.specs.declared.Frame.the-variants.{Site, Call, Spawn, Sync, Return, Cost}
 use Rattle.trace.specs.Shape.{closed}
 use Rattle.walk.specs.Stands.{Stands}
 use Rattle.folded.specs.Text.{ifCost, rootFirst, joined, costText}
+use Rattle.folded.specs.Reading.{Stack}
 
 -- what a line does to the rows of the open invocations, innermost first
 abbrev pub shift : Frame → List ℕ → List ℕ
@@ -30,6 +31,14 @@ printsOf name o f = ifCost (λ v. stack name o ++ costText v) [] f
 abbrev pub prints : (ℕ → List ℕ) → List ℕ → List Frame → List ℕ
 prints name o [] = []
 prints name o (f ∷ u) = printsOf name o f ++ prints name (shift f o) u
+
+-- what they say, one by one
+abbrev pub saysOf : (ℕ → List ℕ) → List ℕ → Frame → List Stack → List Stack
+saysOf name o f l = ifCost (λ v. record { names = map name (rootFirst o); cost = v } ∷ l) l f
+
+abbrev pub says : (ℕ → List ℕ) → List ℕ → List Frame → List Stack
+says name o [] = []
+says name o (f ∷ u) = saysOf name o f (says name (shift f o) u)
 
 abbrev pub AtMost : ℕ → List ℕ → Type 0
 AtMost m [] = Unit {0}
