@@ -1,26 +1,24 @@
 -- The measuring of a trace's text, line by line. Assumes nothing.
-use Prim.Native.Nat.{ℕ, suc, _+_, _-_, _≤_, _<_}
-use mathlib.Core.Bool.{Bool}
+use Prim.Native.Nat.{ℕ, _+_, _-_, _≤_, _<_}
 use mathlib.Core.List.{List, [], _∷_, _++_}
 use mathlib.Core.Path.{_≡_, refl, ap, _∙_, sym, subst}
-use native.Mathlib.Numerals.{add-one}
 use native.Mathlib.Omega.{arith}
 use lib.Dec.{leb}
-use lib.ListN.{length, getD, set, length-append, length-set}
+use lib.ListN.{length, getD, set, length-append}
 use lib.Seq.{getD-set-same, getD-set-other}
 use Rattle.digits.specs.Decimal.{sizeOf, decimal}
 use Rattle.digits.proofs.Figures.{decimal-length}
 use Rattle.line.specs.declared.Frame.{Frame}
 use Rattle.line.specs.At.{kindAt, siteAt}
 use Rattle.trace.specs.Shape.{closed}
-use Rattle.walk.specs.Stands.{kindOf, siteOf, valueOf}
+use Rattle.walk.specs.Stands.{kindOf, valueOf}
 use Rattle.walk.specs.Weight.{weightAt}
 use Rattle.walk.proofs.Says.{kind-says, site-says, weight-says}
 use Rattle.names.specs.Names.{shown}
 use Rattle.folded.specs.declared.measure.Room.{Room}
 use Rattle.folded.specs.declared.measure.Measured.{Measured}
 use Rattle.folded.specs.Text.{costText}
-use Rattle.folded.specs.Rows.{shift, stack, printsOf, prints, Few, Lines}
+use Rattle.folded.specs.Rows.{shift, stack, printsOf, prints, Few}
 use Rattle.folded.specs.Spots.{Spot}
 use Rattle.folded.specs.Measure.{whole, less, Lefts, LineAsks, LineLeaves, Asks}
 use Rattle.folded.proofs.Stacks.{piece-length, stack-length}

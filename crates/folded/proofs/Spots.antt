@@ -1,5 +1,5 @@
 -- Laws of the places at which names stand. Assumes nothing.
-use Prim.Native.Nat.{ℕ, suc, _+_, _*_, _≤_, _<_}
+use Prim.Native.Nat.{ℕ, _+_, _*_, _≤_, _<_}
 use mathlib.Core.List.{List}
 use mathlib.Core.Logic.{_⊎_, inl, inr}
 use mathlib.Core.Path.{_≡_, refl, ap, _∙_, sym, subst}
@@ -9,7 +9,6 @@ use lib.ListN.{length, getD, set, length-set}
 use lib.Seq.{getD-set-same, getD-set-other}
 use Rattle.names.specs.Names.{orElse, shown}
 use Rattle.names.specs.Places.{part}
-use Rattle.folded.specs.Rows.{AtMost, Few}
 use Rattle.folded.specs.Spots.{stored, Spot, Found}
 
 -- the parts that four numbers say

@@ -1,11 +1,11 @@
 -- From acceptance to what is left: the trace as the writer asks for it, and each decision. Assumes nothing.
-use Prim.Native.Nat.{ℕ, suc, _+_, _≤_, _<_}
+use Prim.Native.Nat.{ℕ, _+_, _≤_, _<_}
 use mathlib.Core.Bool.{Bool, true, false, cond}
 use mathlib.Core.List.{List, [], _∷_, _++_, append-assoc, append-nil}
 use mathlib.Core.Path.{_≡_, refl, ap, _∙_, sym, subst}
 use native.Mathlib.Omega.{arith}
 use borrow.Author.Tests.{leb-true, leb-false, lt-ltb, le-ltb}
-use lib.Dec.{leb, ltb}
+use lib.Dec.{leb}
 use lib.ListN.{length, drop, replicate}
 use lib.Seq.{drop-length}
 use Rattle.line.specs.declared.Frame.{Frame}
@@ -26,13 +26,13 @@ use Rattle.admit.specs.Answer.{answerOf}
 use Rattle.admit.proofs.Admitted.{accepted-only, refused-only}
 use Rattle.walk.specs.Stands.{Stands}
 use Rattle.walk.proofs.Root.{stands-all}
-use Rattle.report.specs.Room.{Decision, write, refuse, fitting, Lays}
+use Rattle.report.specs.Room.{Decision, refuse, fitting, Lays}
 use Rattle.report.proofs.Decisions.{refused, written, fitting-short, fitting-text}
 use Rattle.report.proofs.Laying.{laid-front}
 use Rattle.names.specs.Names.{shown, firstBad}
 use Rattle.folded.specs.Text.{folded}
 use Rattle.folded.specs.Folding.{decide, cleared, Folds}
-use Rattle.folded.specs.Rows.{shift, prints, AtMost, Few, Flows, Lines}
+use Rattle.folded.specs.Rows.{prints, Few, Flows, Lines}
 use Rattle.folded.specs.Spots.{Found}
 use Rattle.folded.specs.Measure as Measure
 use Rattle.folded.specs.Write as Write

@@ -12,7 +12,7 @@ use Rattle.digits.specs.Decimal.{decimal}
 use Rattle.line.specs.declared.Frame.{Frame}
 use Rattle.line.specs.At.{kindAt, siteAt}
 use Rattle.trace.specs.Shape.{closed}
-use Rattle.walk.specs.Stands.{kindOf, siteOf, valueOf}
+use Rattle.walk.specs.Stands.{kindOf}
 use Rattle.walk.specs.Weight.{weightAt}
 use Rattle.walk.proofs.Says.{kind-says, site-says, weight-says}
 use Rattle.names.specs.Names.{shown}
@@ -21,7 +21,7 @@ use Rattle.report.proofs.Laying.{lays-nothing, lays-next, lays-as, laid-there}
 use Rattle.folded.specs.declared.write.Last.{Last}
 use Rattle.folded.specs.declared.write.Written.{Written}
 use Rattle.folded.specs.Text.{rootFirst, joined, costText}
-use Rattle.folded.specs.Rows.{shift, stack, printsOf, prints, AtMost, Few, Lines}
+use Rattle.folded.specs.Rows.{shift, stack, printsOf, prints, AtMost, Few}
 use Rattle.folded.specs.Spots.{Spot}
 use Rattle.folded.specs.Write.{piece, Common, StackAsks, CloseAsks, CloseLeaves, LineAsks, LineLeaves, Asks}
 use Rattle.folded.proofs.Stacks.{root-length, piece-length, joined-on, joined-fewer}

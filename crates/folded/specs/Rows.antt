@@ -1,5 +1,5 @@
 -- For proofs, not for the reader of the request: the rows of the open invocations as a stack, and the text by it.
-use Prim.Native.Nat.{ℕ, _+_, _≤_}
+use Prim.Native.Nat.{ℕ, _≤_}
 use mathlib.Core.Path.{_≡_}
 use mathlib.Core.List.{List, [], _∷_, _++_, map}
 use lib.ListN.{length}

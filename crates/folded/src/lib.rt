@@ -4,7 +4,7 @@ mod measure;
 mod write;
 
 use line::Wrote;
-ghost use Prim.Native.Nat.{_+_, _≤_};
+ghost use Prim.Native.Nat.{_+_};
 ghost use lib.ListN.{length};
 ghost use Rattle.folded.specs.Folding.{folding, Folds};
 ghost use Rattle.folded.specs.Whole.{Admitted, Decided, Fitted};

@@ -3,7 +3,6 @@
 use crate::find;
 use crate::measure;
 use report::lay;
-ghost use mathlib.Core.Path.{_≡_};
 ghost use Prim.Native.Nat.{_+_, _-_, _≤_};
 ghost use lib.ListN.{length, take};
 ghost use Rattle.names.specs.Names.{shown};
