@@ -1,6 +1,6 @@
 mod Stacks
 mod Frames
-mod Spots
+mod Found
 mod Rooms
 mod Turns
 mod Measuring

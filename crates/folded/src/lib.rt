@@ -1,6 +1,6 @@
 // Folded stacks: for each cost line of a trace the names of the open invocations, and the cost.
-mod find;
 mod measure;
+mod spots;
 mod write;
 
 use line::Wrote;
@@ -24,7 +24,7 @@ fn named<'a>(
         (now (out .exit)) (now (scratch .entry)) (now (scratch .exit)) ⌝ }
 {
     let mut spots = [0usize; 1024];
-    find::find(project, stock, count + 1, &mut spots);
+    spots::find(project, stock, count + 1, &mut spots);
     if !measure::fits(trace, lines, project, stock, &spots, out.len()) {
         return Wrote::Refused(18, 0);
     }

@@ -1,6 +1,6 @@
 // Whether the text fits its room, before anything is written. A length may be past 64 bits, so none is added up: what a
 // piece takes is taken off the room.
-use crate::find;
+use crate::spots;
 ghost use mathlib.Core.Path.{_≡_};
 ghost use Prim.Native.Nat.{_-_};
 ghost use lib.ListN.{length};
@@ -9,9 +9,9 @@ ghost use Rattle.folded.specs.Spots.{Spot};
 ghost use Rattle.folded.specs.Measure.{less, LineAsks, LineLeaves, Asks, Leaves};
 
 // A room that pieces of text are taken off: whether all fitted so far, and how much is left.
-pub struct Room {
-    pub fits: bool,
-    pub left: usize,
+struct Room {
+    fits: bool,
+    left: usize,
 }
 
 // n characters less.
@@ -51,19 +51,19 @@ pub(crate) fn without<'a>(
     requires { ⌜ Spot (now project) (now stock) (now spots) row ⌝ }
     ensures { λ r. ⌜ r ≡ n - length (shown (now (project .entry)) (now (stock .entry)) row) ⌝ }
 {
-    let name = find::name(project, stock, spots, row);
+    let name = spots::name(project, stock, spots, row);
     minus(n, name.len())
 }
 
 // How many rows are open, and what is left of the room.
-pub struct Measured {
-    pub depth: usize,
-    pub room: Room,
+struct Measured {
+    depth: usize,
+    room: Room,
 }
 
 // Takes what a line prints off the room. What the joined names of the open rows leave of the whole room stands in `t`,
 // for each of them with those around it, the root's first.
-fn line<'a>(
+fn take_line<'a>(
     trace: &[u8],
     n: usize,
     project: &'a [u8],
@@ -130,7 +130,7 @@ pub(crate) fn fits<'a>(
     let mut a = Measured { depth: 1, room };
     let mut n = 0;
     while n < lines {
-        a = line(trace, n, project, stock, spots, whole, &mut t, a);
+        a = take_line(trace, n, project, stock, spots, whole, &mut t, a);
         n += 1;
     }
     a.room.fits

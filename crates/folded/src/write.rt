@@ -1,7 +1,7 @@
 // Writes the text, line behind line. What a line's names have in common with the line before it is copied from there, so
 // that a deep stack is one copy and not a copy for each name.
-use crate::find;
 use crate::measure;
+use crate::spots;
 use report::lay;
 ghost use Prim.Native.Nat.{_+_, _-_, _≤_};
 ghost use lib.ListN.{length, take};
@@ -13,10 +13,10 @@ ghost use Rattle.folded.specs.Write.{piece, StackAsks, CloseAsks, CloseL
 
 // The line that was written last: where it begins, how many of the rows that are open now it has at its front, and how
 // many characters their joined names are.
-pub struct Last {
-    pub from: usize,
-    pub rows: usize,
-    pub chars: usize,
+struct Last {
+    from: usize,
+    rows: usize,
+    chars: usize,
 }
 
 // The name shown for the k-th open row, with a semicolon before it where it is not the root's.
@@ -34,7 +34,7 @@ fn put_row<'a>(
     ensures { λ r. ⌜ Lays at (piece k (shown (now (project .entry)) (now (stock .entry)) row)) (now (out .entry)) r
         (now (out .exit)) ⌝ }
 {
-    let name = find::name(project, stock, spots, row);
+    let name = spots::name(project, stock, spots, row);
     if k == 0 {
         return lay::text(out, at, name);
     }
@@ -100,14 +100,14 @@ fn close<'a>(
 }
 
 // How many rows are open, where the next line goes, and the line before it.
-pub struct Written {
-    pub depth: usize,
-    pub at: usize,
-    pub last: Last,
+struct Written {
+    depth: usize,
+    at: usize,
+    last: Last,
 }
 
 // Writes what a line prints. The open rows stand in `t`, the root's first.
-fn line<'a>(
+fn put_line<'a>(
     trace: &[u8],
     n: usize,
     project: &'a [u8],
@@ -190,7 +190,7 @@ pub(crate) fn text<'a>(
     t[0] = 0;
     let mut n = 0;
     while n < lines {
-        a = line(trace, n, project, stock, spots, t, out, a);
+        a = put_line(trace, n, project, stock, spots, t, out, a);
         n += 1;
     }
     a.at

@@ -27,11 +27,11 @@ loop-holds c =
     let a = c .before .before .before .before .before .args in
     (refl, λ q. measuring-start q (a .whole) _ (c .without .ensures))
 
-slice-aggregate-line : tie.Need-slice-aggregate-line Inv-loop μ-loop
-slice-aggregate-line c = search needs
+slice-aggregate-take-line : tie.Need-slice-aggregate-take-line Inv-loop μ-loop
+slice-aggregate-take-line c = search needs
 
-line-requires : tie.Need-line-requires Inv-loop μ-loop
-line-requires c κs =
+take-line-requires : tie.Need-take-line-requires Inv-loop μ-loop
+take-line-requires c κs =
     let l = c .before .before .loop in
     let q = c .before .before .before .before .before .before .before .before .pre in
     measuring-asks q (c .before .before .before .before .before .before .before .before .args .whole) (l .inv .1 q) (c .before .loop-test .taken) (omega (arith, l .inv .0))
@@ -45,7 +45,7 @@ loop-less c = search needs
 loop-again : tie.Need-loop-again Inv-loop μ-loop
 loop-again c =
     let l = c .before .before .before .before .loop in
-    let w = c .before .line in (
+    let w = c .before .take-line in (
       w .kept .1 .1 .1 .1 .1 .1 .0 ∙ l .inv .0,
       λ q. measuring-on q (c .before .before .before .before .before .before .before .before .before .before .args .whole) (l .inv .1 q) (c .before .before .before .loop-test .taken) (omega (arith, l .inv .0)) (w .result) _ (w .ensures),
     )
@@ -62,8 +62,8 @@ fits-spec =
     without-requires
     array-write-t
     loop-holds
-    slice-aggregate-line
-    line-requires
+    slice-aggregate-take-line
+    take-line-requires
     add-n
     loop-less
     loop-again

@@ -25,8 +25,8 @@ slice-write-t c = text-some (c .before .before .before .before .before .before .
 loop-holds : tie.Need-loop-holds Inv-loop μ-loop
 loop-holds c = (refl, refl, λ first e q. writing-start q _ e)
 
-line-requires : tie.Need-line-requires Inv-loop μ-loop
-line-requires c κs =
+put-line-requires : tie.Need-put-line-requires Inv-loop μ-loop
+put-line-requires c κs =
     let l = c .before .before .before .loop in
     let q = c .before .before .before .before .before .before .before .before .before .before .pre in
     let first = c .before .before .before .before .before .before .before .before .before .before .args .t .now in
@@ -41,7 +41,7 @@ loop-less c = search needs
 loop-again : tie.Need-loop-again Inv-loop μ-loop
 loop-again c =
     let l = c .before .before .before .before .before .before .before .before .loop in
-    let w = c .before .before .before .before .line in (
+    let w = c .before .before .before .before .put-line in (
       w .kept .1 .1 .1 .1 .1 .0 ∙ l .inv .0,
       w .kept .1 .1 .1 .1 .1 .1 .0 ∙ l .inv .1,
       λ first e q. writing-on q (l .inv .2 first e q) (c .before .before .before .before .before .before .before .loop-test .taken) (l .inv .0 ∙ ap length e ∙ length-set first 0 0) (l .inv .1) (w .result) _ _ (w .ensures),
@@ -64,7 +64,7 @@ text-spec =
     μ-loop
     slice-write-t
     loop-holds
-    line-requires
+    put-line-requires
     add-n
     loop-less
     loop-again

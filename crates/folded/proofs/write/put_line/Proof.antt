@@ -1,9 +1,9 @@
--- `folded::write::line` meets its contract, kind by kind. Assumes nothing.
+-- `folded::write::put_line` meets its contract, kind by kind. Assumes nothing.
 use borrow.Author.Needs.{needs}
 use native.Mathlib.Omega.{arith}
 use Rattle.folded.proofs.Writing.{some-open, within, stack-asked, cost-fits, cost-from, cost-left, close-asked, return-left, sync-left, site-left, made-room, made-left}
-use Rattle.folded.proofs.write.line.Statement.{statement}
-use Rattle.folded.proofs.write.line.Tie as tie
+use Rattle.folded.proofs.write.put_line.Statement.{statement}
+use Rattle.folded.proofs.write.put_line.Tie as tie
 
 kind-at-requires : tie.Need-kind-at-requires
 kind-at-requires c κs = search needs
@@ -80,8 +80,8 @@ same-length-3 c = search needs
 returns-5 : tie.Need-returns-5
 returns-5 c = λ q. made-left q (c .before .before .before .before .before .kind-at .result) (c .before .before .before .before .before .kind-at .ensures) (c .before .before .before .before .if1 .left) (c .before .before .before .if2 .left) (c .before .before .if3 .left) (c .before .if4 .left) (c .site-at .result) (c .site-at .ensures)
 
-pub line-spec : {M : Type 1} → statement M
-line-spec =
+pub put-line-spec : {M : Type 1} → statement M
+put-line-spec =
     tie.close
     (tie.spec
     kind-at-requires

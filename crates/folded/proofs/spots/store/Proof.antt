@@ -1,9 +1,9 @@
--- `folded::find::store` meets its contract. Assumes nothing.
+-- `folded::spots::store` meets its contract. Assumes nothing.
 use borrow.Author.Needs.{needs}
 use native.Mathlib.Omega.{arith}
 use lib.ListN.{length-set}
-use Rattle.folded.proofs.find.store.Statement.{statement}
-use Rattle.folded.proofs.find.store.Tie as tie
+use Rattle.folded.proofs.spots.store.Statement.{statement}
+use Rattle.folded.proofs.spots.store.Tie as tie
 
 mul-i : tie.Need-mul-i
 mul-i c = search needs

@@ -1,4 +1,4 @@
--- `folded::find::find` meets its contract. The invariant: a line of either text begins for this row, and those before it
+-- `folded::spots::find` meets its contract. The invariant: a line of either text begins for this row, and those before it
 -- are found. The measure is how many rows are left. Assumes nothing.
 use borrow.Author.Needs.{needs}
 use Prim.Native.Nat.{_+_, _-_, _≤_}
@@ -7,9 +7,9 @@ use native.Mathlib.Omega.{arith}
 use lib.ListN.{length}
 use Rattle.names.proofs.Lines.{Begins, begins-next, shown-parts}
 use Rattle.folded.specs.Spots.{Found}
-use Rattle.folded.proofs.Spots.{found-more}
-use Rattle.folded.proofs.find.find.Statement.{statement}
-use Rattle.folded.proofs.find.find.Tie as tie
+use Rattle.folded.proofs.Found.{found-more}
+use Rattle.folded.proofs.spots.find.Statement.{statement}
+use Rattle.folded.proofs.spots.find.Tie as tie
 
 abbrev Inv-loop : tie.InvT-loop
 Inv-loop project stock count spots₀ a₀ b₀ row₀ spots a b row = (row ≤ count) × Begins project row a × Begins stock row b × (length spots ≡ length spots₀) × Found project stock row spots

@@ -1,10 +1,10 @@
--- `folded::measure::line` meets its contract, kind by kind. Assumes nothing.
+-- `folded::measure::take_line` meets its contract, kind by kind. Assumes nothing.
 use borrow.Author.Needs.{needs}
 use native.Mathlib.Omega.{arith}
 use Rattle.digits.proofs.Figures.{decimal-length, decimal-few}
 use Rattle.folded.proofs.Measuring.{some-open, within, top, cost-left, return-left, sync-left, site-left, made-known, made-room, made-left}
-use Rattle.folded.proofs.measure.line.Statement.{statement}
-use Rattle.folded.proofs.measure.line.Tie as tie
+use Rattle.folded.proofs.measure.take_line.Statement.{statement}
+use Rattle.folded.proofs.measure.take_line.Tie as tie
 
 kind-at-requires : tie.Need-kind-at-requires
 kind-at-requires c κs = search needs
@@ -91,8 +91,8 @@ same-length c = search needs
 returns-5 : tie.Need-returns-5
 returns-5 c = λ q. made-left q (c .before .before .before .before .before .before .before .before .kind-at .result) (c .before .before .before .before .before .before .before .before .kind-at .ensures) (c .before .before .before .before .before .before .before .if1 .left) (c .before .before .before .before .before .before .if2 .left) (c .before .before .before .before .before .if3 .left) (c .before .before .before .before .if4 .left) (c .before .before .before .site-at .result) (c .before .before .before .site-at .ensures) (c .without .result) (c .before .minus .result) (c .before .minus .ensures) (c .without .ensures)
 
-pub line-spec : {M : Type 1} → statement M
-line-spec =
+pub take-line-spec : {M : Type 1} → statement M
+take-line-spec =
     tie.close
     (tie.spec
     kind-at-requires

@@ -1,8 +1,8 @@
--- `folded::find::name` meets its contract: a part of either text comes back. Assumes nothing.
+-- `folded::spots::name` meets its contract: a part of either text comes back. Assumes nothing.
 use borrow.Author.Needs.{needs}
 use mathlib.Core.Path.{_∙_}
-use Rattle.folded.proofs.find.name.Statement.{statement}
-use Rattle.folded.proofs.find.name.Tie as tie
+use Rattle.folded.proofs.spots.name.Statement.{statement}
+use Rattle.folded.proofs.spots.name.Tie as tie
 
 mul-i : tie.Need-mul-i
 mul-i c = search needs
