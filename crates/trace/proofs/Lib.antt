@@ -25,6 +25,7 @@ pub mod OnChain
 pub mod AtMost
 pub mod Outermost
 pub mod Small
+pub mod Shorter
 pub mod Outcome
 pub mod Unseen
 pub mod Places
