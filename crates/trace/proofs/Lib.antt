@@ -14,7 +14,6 @@ pub mod Chains
 pub mod Sites
 pub mod Parse
 pub mod Sums
-pub mod Bounds
 pub mod Accept
 pub mod Invocations
 pub mod Stretches
@@ -25,7 +24,6 @@ pub mod OnChain
 pub mod AtMost
 pub mod Outermost
 pub mod Small
-pub mod Shorter
 pub mod Outcome
 pub mod Unseen
 pub mod Places
