@@ -356,7 +356,7 @@ cp '{program}' target/bin/profile
 echo 'rt: profile proved'
 """
 BUILDING = ("proving and building the program: some minutes, once", "profile proved")
-TOOLS = "bash cat cp dirname find flock mkdir mv readlink rm sh sleep tail touch uname".split()
+TOOLS = "basename bash cat cp dirname find flock mkdir mv readlink rm sh sleep tail touch uname".split()
 
 
 def the_builds():
