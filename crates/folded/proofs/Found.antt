@@ -67,7 +67,3 @@ module _ (xs : List ℕ) (row a e b f : ℕ) (inside : 4 * row + 3 < length xs) 
             inside = omega (arith, x .inside, stored-length);
             stands = shows-same p q (kept (4 * k) (omega arith)) (kept (4 * k + 1) (omega arith)) (kept (4 * k + 2) (omega arith)) (kept (4 * k + 3) (omega arith)) ∙ x .stands;
           }
-
--- each of some open rows is found
-pub all-found : {p q xs : List ℕ} {m : ℕ} → Found p q (m + 1) xs → (x : ℕ) → x ≤ m → Spot p q xs x
-all-found h x l = h x (omega arith)

@@ -1,5 +1,5 @@
--- The laws of request d: what a written text says, for any trace, limits, names and room, and that a promise leaves one
--- outcome. Assumes nothing.
+-- The laws of folded stacks: what a written text says, for any trace, limits, names and room, and that a promise
+-- leaves one outcome. Assumes nothing.
 use Prim.Native.Nat.{ℕ, _+_, _≤_}
 use mathlib.Core.Bool.{Bool, true, false, cond}
 use mathlib.Core.List.{List, [], _∷_, _++_}

@@ -114,7 +114,7 @@ module _ {s : List ℕ} {n : ℕ} {project stock spots : List ℕ} {room : ℕ} 
       made-left v w e f =
           let at : set t (a .depth) v ≡ set t (length (q .rows)) v = ap (λ (x : ℕ). set t x v) (q .depth-is) in
           let new = getD-set-same t (length (q .rows)) v 0 (omega (arith, made-room, q .depth-is)) in
-          let long = piece-length (length (q .rows)) (name site) .2 (q .some) in
+          let long = piece-length (length (q .rows)) (name site) (q .some) in
           left-by (site ∷ q .rows) [] made (measured (a .depth + 1) (a .room)) (set t (a .depth) v) (omega (arith, q .depth-is)) unprinted
           (subst (λ (x : List ℕ). Lefts room name x (site ∷ q .rows)) (sym at)
           (omega (arith, new, f, e, top, long, stack-length name site (q .rows)), lefts-set room name t (q .rows) (length (q .rows)) v (omega arith) (q .held)))

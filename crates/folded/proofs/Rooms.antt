@@ -1,8 +1,8 @@
 -- Laws of a room that pieces of text are taken off. Assumes nothing.
 use Prim.Native.Nat.{ℕ, _+_, _-_, _≤_, _<_}
-use mathlib.Core.Bool.{Bool, true, false, _&&_}
+use mathlib.Core.Bool.{Bool, false, _&&_, and-true, and-false}
 use mathlib.Core.Logic.{_⊎_, inl, inr}
-use mathlib.Core.Path.{_≡_, refl, ap, _∙_, sym}
+use mathlib.Core.Path.{_≡_, ap, _∙_, sym}
 use native.Mathlib.Decide.{decLt}
 use native.Mathlib.Omega.{arith}
 use borrow.Author.Tests.{le-leb, lt-leb}
@@ -28,10 +28,6 @@ split-at m n = go (decLt n m)
     go (yes h) = inr h
     go (no h) = inl (omega arith)
 
-no-and : (x : Bool) → (x && false) ≡ false
-no-and true = refl
-no-and false = refl
-
 -- one piece and another are the two as one
 pub less-less : (n m : ℕ) (f : Room) → less m (less n f) ≡ less (n + m) f
 less-less n m f =
@@ -42,7 +38,7 @@ less-less n m f =
         → (leb m (f .left - n) && (leb n (f .left) && f .fits)) ≡ (leb (n + m) (f .left) && f .fits)
     go (inl h) (inl k) = rw (le-leb n (f .left) h, le-leb m (f .left - n) k, le-leb (n + m) (f .left) (omega arith))
     go (inl h) (inr k) = rw (le-leb n (f .left) h, lt-leb m (f .left - n) k, lt-leb (n + m) (f .left) (omega arith))
-    go (inr h) k = rw (lt-leb n (f .left) h, lt-leb (n + m) (f .left) (omega arith)) (no-and (leb m (f .left - n)))
+    go (inr h) k = rw (lt-leb n (f .left) h, lt-leb (n + m) (f .left) (omega arith)) (and-false (leb m (f .left - n)))
 
 pub less-none : (f : Room) → less 0 f ≡ f
 less-none f = sym (less-fits 0 f (omega arith)) ∙ (let e : f .left - 0 ≡ f .left = omega arith in ap (room (f .fits)) e)
@@ -61,7 +57,3 @@ less-known c n m f h some = go (split-at n c)
 
 pub fits-whole : (n c : ℕ) → (less n (whole c)) .fits ≡ leb n c
 fits-whole n c = and-true (leb n c)
-  where
-    and-true : (b : Bool) → (b && true) ≡ b
-    and-true true = refl
-    and-true false = refl

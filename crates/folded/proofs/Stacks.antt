@@ -14,9 +14,9 @@ pub root-length : (o : List ℕ) → length (rootFirst o) ≡ length o
 root-length [] = refl
 root-length (x ∷ o) = length-append (rootFirst o) (x ∷ []) ∙ ap (λ (n : ℕ). n + 1) (root-length o) ∙ add-one (length o)
 
-pub piece-length : (k : ℕ) (s : List ℕ) → (length s ≤ length (piece k s)) × (length (piece k s) ≤ length s + 1) × (1 ≤ k → length (piece k s) ≡ length s + 1)
-piece-length zero s = (omega arith, omega arith, λ h. absurd (omega arith))
-piece-length (suc k) s = (omega arith, omega arith, λ h. omega arith)
+pub piece-length : (k : ℕ) (s : List ℕ) → 1 ≤ k → length (piece k s) ≡ length s + 1
+piece-length zero s h = absurd (omega arith)
+piece-length (suc k) s h = omega arith
 
 pub piece-some : (k : ℕ) (s : List ℕ) → (k ≡ 0 → ⊥) → 59 ∷ s ≡ piece k s
 piece-some zero s h = absurd (h refl)

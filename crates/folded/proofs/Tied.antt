@@ -1,7 +1,7 @@
 -- The text and its stacks over line numbers are what the lines print and say by the open rows. Assumes nothing.
 use Prim.Native.Nat.{ℕ, suc, _+_}
 use mathlib.Core.List.{List, [], _∷_, _++_, map}
-use mathlib.Core.Path.{_≡_, refl, ap, _∙_, subst}
+use mathlib.Core.Path.{_≡_, refl, ap, _∙_, sym, subst}
 use native.Mathlib.Numerals.{add-one}
 use native.Mathlib.Omega.{arith}
 use lib.ListN.{length, length-append}
@@ -9,6 +9,7 @@ use lib.Seq.{append-snoc}
 use Rattle.line.specs.declared.Frame.{Frame}
 use Rattle.line.specs.declared.Frame.the-variants.{Site, Call, Spawn, Sync, Return, Cost}
 use Rattle.trace.specs.Shape.{ifMakes, root, closed, step, walk, openAt}
+use Rattle.trace.proofs.Context.{walk-append}
 use Rattle.folded.specs.Text.{siteOn, rowOf, rowsAt, lineText, textFrom, folded}
 use Rattle.folded.specs.Reading.{Stack, stacksFrom, stacksOf}
 use Rattle.folded.specs.Rows.{shift, printsOf, prints, saysOf, says}
@@ -17,17 +18,18 @@ walk-zero : (k : ℕ) (o : List ℕ) (u : List Frame) → walk k o u 0 ≡ o
 walk-zero k o [] = refl
 walk-zero k o (f ∷ u) = refl
 
-walk-next : (k : ℕ) (o : List ℕ) (before : List Frame) (f : Frame) (v : List Frame)
-    → walk k o (before ++ f ∷ v) (suc (length before)) ≡ step (k + length before) f (walk k o (before ++ f ∷ v) (length before))
-walk-next k o [] f v = let e : k ≡ k + 0 = omega arith in walk-zero (suc k) (step k f o) v ∙ ap (λ (n : ℕ). step n f o) e
-walk-next k o (e ∷ b) f v =
-    let q : suc k + length b ≡ k + suc (length b) = omega arith in
-    walk-next (suc k) (step k e o) b f v ∙ ap (λ (n : ℕ). step n f (walk (suc k) (step k e o) (b ++ f ∷ v) (length b))) q
-
-open-next : (before : List Frame) (f : Frame) (v : List Frame) → openAt (before ++ f ∷ v) (suc (length before)) ≡ step (length before) f (openAt (before ++ f ∷ v) (length before))
+open-next : (before : List Frame) (f : Frame) (v : List Frame)
+    → openAt (before ++ f ∷ v) (suc (length before)) ≡ step (length before) f (openAt (before ++ f ∷ v) (length before))
 open-next before f v =
-    let e : 0 + length before ≡ length before = omega arith in
-    walk-next 0 (root ∷ []) before f v ∙ ap (λ (n : ℕ). step n f (openAt (before ++ f ∷ v) (length before))) e
+    let n = length before in
+    let t = before ++ f ∷ v in
+    let o = walk 0 (root ∷ []) before n in
+    let here : openAt t n ≡ o = ap (openAt t) (let z : n ≡ n + 0 = omega arith in z) ∙ walk-append 0 (root ∷ []) before (f ∷ v) 0 in
+    ap (openAt t) (sym (add-one n))
+    ∙ walk-append 0 (root ∷ []) before (f ∷ v) 1
+    ∙ walk-zero (suc (0 + n)) (step (0 + n) f o) v
+    ∙ ap (λ (k : ℕ). step k f o) (let z : 0 + n ≡ n = omega arith in z)
+    ∙ ap (step n f) (sym here)
 
 site-here : (before : List Frame) (f : Frame) (v : List Frame) → siteOn (before ++ f ∷ v) (length before) ≡ ifMakes (λ s. s) 0 f
 site-here [] f v = refl

@@ -85,7 +85,6 @@ module _ {s : List ℕ} {count lines n : ℕ} (q : Admitted s count lines n) whe
         stands = stands;
         long = q .lines-are;
         flows = subst (λ (m : ℕ). Flows m (q .D) (0 ∷ []) (q .frames)) (q .count-is) (fine-flows (q .D) (q .M) (q .frames) fine);
-        few = few;
         some = fine .least;
       }
 

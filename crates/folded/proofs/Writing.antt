@@ -115,7 +115,7 @@ module _ (name : ℕ → List ℕ) (out : List ℕ) (at : ℕ) where
               empty : (y : List ℕ) → length y ≡ 0 → y ≡ []
               empty [] e = refl
               empty (a ∷ y) e = absurd (omega arith)
-          less (suc n) z c = omega (arith, piece-length (length rows) (name x) .2 (omega arith))
+          less (suc n) z c = omega (arith, piece-length (length rows) (name x) (omega arith))
 
 -- The open rows in the scratch.
 

@@ -12,8 +12,8 @@ use Rattle.report.specs.Room.{Decision, write, refuse, fitting, Writes}
 use Rattle.names.specs.Names.{shown, firstBad}
 use Rattle.folded.specs.Text.{folded}
 
--- "those of 01, then 17 with the first row, among root and declared sites, whose shown name is bad or missing from both
--- lists, then 18 output shorter than the text, line 0"
+-- "those of 01, then 17 with the first row, among root and declared sites, whose shown name is bad or missing from
+-- both lists, then 18 output shorter than the text, line 0"
 abbrev pub decide : List ℕ → List ℕ → ℕ → Verdict → Decision
 decide project stock room (refused number line) = refuse number line
 decide project stock room (accepted t) =

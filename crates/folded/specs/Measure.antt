@@ -60,4 +60,5 @@ pub record Asks (s : List ℕ) (lines : ℕ) (project stock spots : List ℕ) : 
 
 abbrev pub Leaves : List ℕ → ℕ → List ℕ → List ℕ → List ℕ → ℕ → Bool → Type 0
 Leaves s lines project stock spots room r =
-    (q : Asks s lines project stock spots) → r ≡ leb (length (prints (shown project stock) (0 ∷ []) (q .trace .frames))) room
+    (q : Asks s lines project stock spots)
+    → r ≡ leb (length (prints (shown project stock) (0 ∷ []) (q .trace .frames))) room

@@ -1,5 +1,5 @@
--- What a folded text says to whoever reads its characters: a stack of names and a cost for each line. And what it should
--- say of a trace, over line numbers.
+-- What a folded text says to whoever reads its characters: a stack of names and a cost for each line. And what it
+-- should say of a trace, over line numbers.
 use Prim.Native.Nat.{ℕ, suc, _+_, _*_, _-_}
 use mathlib.Core.Bool.{cond}
 use mathlib.Core.List.{List, [], _∷_, _++_, map}
@@ -23,7 +23,9 @@ abbrev mutual
   -- from within a cost, behind the space: the line's names, and the number that the figures so far are
   pub inCost : List (List ℕ) → ℕ → List ℕ → List Stack
   inCost names n [] = []
-  inCost names n (c ∷ s) = cond (eqb c 10) (record { names = names; cost = n } ∷ inName [] [] s) (inCost names (10 * n + (c - 48)) s)
+  inCost names n (c ∷ s) =
+      cond (eqb c 10) (record { names = names; cost = n } ∷ inName [] [] s)
+      (inCost names (10 * n + (c - 48)) s)
 
 -- a text read from its beginning, each line up to its line feed
 abbrev pub stacksIn : List ℕ → List Stack
@@ -34,7 +36,8 @@ stacksIn s = inName [] [] s
 abbrev pub stacksFrom : (ℕ → List ℕ) → List Frame → ℕ → List Frame → List Stack
 stacksFrom name t j [] = []
 stacksFrom name t j (f ∷ u) =
-    ifCost (λ v. record { names = map name (rootFirst (rowsAt t j)); cost = v } ∷ stacksFrom name t (suc j) u) (stacksFrom name t (suc j) u) f
+    ifCost (λ v. record { names = map name (rootFirst (rowsAt t j)); cost = v } ∷ stacksFrom name t (suc j) u)
+    (stacksFrom name t (suc j) u) f
 
 abbrev pub stacksOf : (ℕ → List ℕ) → List Frame → List Stack
 stacksOf name t = stacksFrom name t 0 t

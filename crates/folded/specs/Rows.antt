@@ -60,5 +60,4 @@ pub record Lines (s : List ℕ) (lines m D : ℕ) : Type 0 where
   pub stands : Stands s 0 frames
   pub long : length frames ≡ lines
   pub flows : Flows m D (0 ∷ []) frames
-  pub few : m ≤ 255
   pub some : 1 ≤ D

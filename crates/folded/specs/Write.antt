@@ -78,4 +78,5 @@ pub record Asks (s : List ℕ) (lines : ℕ) (project stock spots t out : List �
 
 abbrev pub Leaves : List ℕ → ℕ → List ℕ → List ℕ → List ℕ → List ℕ → List ℕ → ℕ → List ℕ → Type 0
 Leaves s lines project stock spots t out r out′ =
-    (q : Asks s lines project stock spots t out) → Lays 0 (prints (shown project stock) (0 ∷ []) (q .trace .frames)) out r out′
+    (q : Asks s lines project stock spots t out)
+    → Lays 0 (prints (shown project stock) (0 ∷ []) (q .trace .frames)) out r out′

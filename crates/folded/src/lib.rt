@@ -4,7 +4,6 @@ mod spots;
 mod write;
 
 use line::Wrote;
-ghost use Prim.Native.Nat.{_+_};
 ghost use lib.ListN.{length};
 ghost use Rattle.folded.specs.Folding.{folding, Folds};
 ghost use Rattle.folded.specs.Whole.{Admitted, Decided, Fitted};
@@ -20,8 +19,8 @@ fn named<'a>(
     out: &mut [u8],
 ) -> Wrote
     requires { ⌜ Admitted (now trace) count lines (length (now scratch)) ⌝ }
-    ensures { λ r. ⌜ Fitted (now (trace .entry)) count lines (now (project .entry)) (now (stock .entry)) r (now (out .entry))
-        (now (out .exit)) (now (scratch .entry)) (now (scratch .exit)) ⌝ }
+    ensures { λ r. ⌜ Fitted (now (trace .entry)) count lines (now (project .entry)) (now (stock .entry)) r
+        (now (out .entry)) (now (out .exit)) (now (scratch .entry)) (now (scratch .exit)) ⌝ }
 {
     let mut spots = [0usize; 1024];
     spots::find(project, stock, count + 1, &mut spots);
@@ -44,8 +43,8 @@ fn accepted<'a>(
     out: &mut [u8],
 ) -> Wrote
     requires { ⌜ Admitted (now trace) count lines (length (now scratch)) ⌝ }
-    ensures { λ r. ⌜ Decided (now (trace .entry)) count lines (now (project .entry)) (now (stock .entry)) r (now (out .entry))
-        (now (out .exit)) (now (scratch .entry)) (now (scratch .exit)) ⌝ }
+    ensures { λ r. ⌜ Decided (now (trace .entry)) count lines (now (project .entry)) (now (stock .entry)) r
+        (now (out .entry)) (now (out .exit)) (now (scratch .entry)) (now (scratch .exit)) ⌝ }
 {
     let bad = names::first_bad(project, stock, count + 1);
     if bad <= count {
@@ -54,8 +53,8 @@ fn accepted<'a>(
     named(trace, count, lines, project, stock, scratch, out)
 }
 
-// Writes the folded stacks of any text, with any limits, any lists of names and any room, or refuses: as the engines do,
-// with 4 for fewer than `depth` scratch numbers, then 17 and 18.
+// Writes the folded stacks of any text, with any limits, any lists of names and any room, or refuses: as the engines
+// do, with 4 for fewer than `depth` scratch numbers, then 17 and 18.
 pub fn write_folded<'a>(
     trace: &[u8],
     depth: usize,
@@ -66,8 +65,8 @@ pub fn write_folded<'a>(
     out: &mut [u8],
 ) -> Wrote
     ensures { λ r. ⌜ Folds
-        (folding (now (trace .entry)) depth sites (now (project .entry)) (now (stock .entry)) (length (now (scratch .entry)))
-        (length (now (out .entry)))) r
+        (folding (now (trace .entry)) depth sites (now (project .entry)) (now (stock .entry))
+        (length (now (scratch .entry))) (length (now (out .entry)))) r
         (now (out .entry)) (now (out .exit)) (now (scratch .entry)) (now (scratch .exit)) ⌝ }
 {
     match admit::with_room(trace, depth, sites, depth <= scratch.len()) {

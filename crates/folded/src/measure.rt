@@ -1,5 +1,5 @@
-// Whether the text fits its room, before anything is written. A length may be past 64 bits, so none is added up: what a
-// piece takes is taken off the room.
+// Whether the text fits its room, before anything is written. A length may be past 64 bits, so none is added up: what
+// a piece takes is taken off the room.
 use crate::spots;
 ghost use mathlib.Core.Path.{_≡_};
 ghost use Prim.Native.Nat.{_-_};
@@ -61,8 +61,8 @@ struct Measured {
     room: Room,
 }
 
-// Takes what a line prints off the room. What the joined names of the open rows leave of the whole room stands in `t`,
-// for each of them with those around it, the root's first.
+// Takes what a line prints off the room. What the joined names of an open row and of those around it leave of the
+// whole room stands in `t`, for each open row, the root's first.
 fn take_line<'a>(
     trace: &[u8],
     n: usize,
@@ -74,8 +74,8 @@ fn take_line<'a>(
     a: Measured,
 ) -> Measured
     requires { ⌜ LineAsks (now trace) n (now project) (now stock) (now spots) whole (now t) a ⌝ }
-    ensures { λ r. ⌜ LineLeaves (now (trace .entry)) n (now (project .entry)) (now (stock .entry)) (now (spots .entry)) whole
-        (now (t .entry)) a r (now (t .exit)) ⌝ }
+    ensures { λ r. ⌜ LineLeaves (now (trace .entry)) n (now (project .entry)) (now (stock .entry))
+        (now (spots .entry)) whole (now (t .entry)) a r (now (t .exit)) ⌝ }
 {
     let room = a.room;
     let depth = a.depth;
@@ -118,8 +118,8 @@ pub(crate) fn fits<'a>(
     whole: usize,
 ) -> bool
     requires { ⌜ Asks (now trace) lines (now project) (now stock) (now spots) ⌝ }
-    ensures { λ r. ⌜ Leaves (now (trace .entry)) lines (now (project .entry)) (now (stock .entry)) (now (spots .entry)) whole
-        r ⌝ }
+    ensures { λ r. ⌜ Leaves (now (trace .entry)) lines (now (project .entry)) (now (stock .entry))
+        (now (spots .entry)) whole r ⌝ }
 {
     let mut t = [0usize; 64];
     t[0] = without(project, stock, spots, 0, whole);

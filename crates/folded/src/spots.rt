@@ -1,4 +1,5 @@
-// Where the name shown for each row stands. Four numbers a row: a part of the project's list and one of the stock list.
+// Where the name shown for each row stands. Four numbers a row: a part of the project's list, and one of the stock
+// list.
 ghost use mathlib.Core.Path.{_≡_};
 ghost use Prim.Native.Nat.{_+_, _*_, _≤_, _<_};
 ghost use lib.ListN.{length};

@@ -1,18 +1,19 @@
-// Writes the text, line behind line. What a line's names have in common with the line before it is copied from there, so
-// that a deep stack is one copy and not a copy for each name.
+// Writes the text, line behind line. What a line's names have in common with the line before it is copied from there,
+// so that a deep stack is one copy and not a copy for each name.
 use crate::measure;
 use crate::spots;
 use report::lay;
-ghost use Prim.Native.Nat.{_+_, _-_, _≤_};
+ghost use Prim.Native.Nat.{_+_, _≤_};
 ghost use lib.ListN.{length, take};
 ghost use Rattle.names.specs.Names.{shown};
 ghost use Rattle.report.specs.Room.{Lays};
 ghost use Rattle.folded.specs.Text.{joined, costText};
 ghost use Rattle.folded.specs.Spots.{Spot};
-ghost use Rattle.folded.specs.Write.{piece, StackAsks, CloseAsks, CloseLeaves, LineAsks, LineLeaves, Asks, Leaves};
+ghost use Rattle.folded.specs.Write.{piece, StackAsks, CloseAsks, CloseLeaves};
+ghost use Rattle.folded.specs.Write.{LineAsks, LineLeaves, Asks, Leaves};
 
-// The line that was written last: where it begins, how many of the rows that are open now it has at its front, and how
-// many characters their joined names are.
+// The line that was written last: where it begins, how many of the rows that are open now it has at its front, and
+// how many characters their joined names are.
 struct Last {
     from: usize,
     rows: usize,
@@ -54,8 +55,9 @@ fn put_stack<'a>(
     last: Last,
 ) -> usize
     requires { ⌜ StackAsks (now project) (now stock) (now spots) (now t) depth (now out) at last ⌝ }
-    ensures { λ r. ⌜ Lays at (joined (shown (now (project .entry)) (now (stock .entry))) (take depth (now (t .entry))))
-        (now (out .entry)) r (now (out .exit)) ⌝ }
+    ensures { λ r. ⌜ Lays at
+        (joined (shown (now (project .entry)) (now (stock .entry))) (take depth (now (t .entry)))) (now (out .entry)) r
+        (now (out .exit)) ⌝ }
 {
     let mut end = lay::again(out, at, last.from, last.chars);
     let mut k = last.rows;
@@ -118,8 +120,8 @@ fn put_line<'a>(
     a: Written,
 ) -> Written
     requires { ⌜ LineAsks (now trace) n (now project) (now stock) (now spots) (now t) (now out) a ⌝ }
-    ensures { λ r. ⌜ LineLeaves (now (trace .entry)) n (now (project .entry)) (now (stock .entry)) (now (spots .entry))
-        (now (t .entry)) (now (out .entry)) a r (now (t .exit)) (now (out .exit)) ⌝ }
+    ensures { λ r. ⌜ LineLeaves (now (trace .entry)) n (now (project .entry)) (now (stock .entry))
+        (now (spots .entry)) (now (t .entry)) (now (out .entry)) a r (now (t .exit)) (now (out .exit)) ⌝ }
 {
     let depth = a.depth;
     let at = a.at;
@@ -174,8 +176,8 @@ pub(crate) fn text<'a>(
     out: &mut [u8],
 ) -> usize
     requires { ⌜ Asks (now trace) lines (now project) (now stock) (now spots) (now t) (now out) ⌝ }
-    ensures { λ r. ⌜ Leaves (now (trace .entry)) lines (now (project .entry)) (now (stock .entry)) (now (spots .entry))
-        (now (t .entry)) (now (out .entry)) r (now (out .exit)) ⌝ }
+    ensures { λ r. ⌜ Leaves (now (trace .entry)) lines (now (project .entry)) (now (stock .entry))
+        (now (spots .entry)) (now (t .entry)) (now (out .entry)) r (now (out .exit)) ⌝ }
 {
     let none = Last {
         from: 0,

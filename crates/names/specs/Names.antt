@@ -28,7 +28,8 @@ abbrev pub orElse : List ℕ → List ℕ → List ℕ
 orElse [] b = b
 orElse (x ∷ a) b = x ∷ a
 
--- "The name shown is a part of the project's list, or of the stock list where the project's line is empty or missing."
+-- "The name shown is a part of the project's list, or of the stock list where the project's line is empty or
+-- missing."
 abbrev pub shown : List ℕ → List ℕ → ℕ → List ℕ
 shown project stock r = orElse (lineIn project r) (lineIn stock r)
 
@@ -50,6 +51,7 @@ abbrev pub badFrom : List ℕ → List ℕ → ℕ → ℕ → ℕ
 badFrom project stock r zero = r
 badFrom project stock r (suc n) = cond (isName (shown project stock r)) (badFrom project stock (suc r) n) r
 
--- "the first row ... whose shown name is bad or missing from both lists", of the rows below count; count where none is
+-- "the first row ... whose shown name is bad or missing from both lists", of the rows below count; count where none
+-- is
 abbrev pub firstBad : List ℕ → List ℕ → ℕ → ℕ
 firstBad project stock count = badFrom project stock 0 count

@@ -43,8 +43,8 @@ fn part(text: &[u8], from: usize, end: usize) -> &[u8]
     &text[from..end]
 }
 
-// "The name shown is a part of the project's list, or of the stock list": the first of two parts, one of each text, or
-// the second where the first is empty.
+// "The name shown is a part of the project's list, or of the stock list": the first of two parts, one of each text,
+// or the second where the first is empty.
 pub fn either<'a>(
     project: &'a [u8],
     a: usize,

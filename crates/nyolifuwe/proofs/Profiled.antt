@@ -2,7 +2,7 @@
 -- outcome. Assumes nothing.
 use Prim.Native.Nat.{ℕ, _≤_, _<_}
 use mathlib.Core.Logic.{inl, inr}
-use mathlib.Core.Bool.{Bool, true, false, _&&_}
+use mathlib.Core.Bool.{Bool, false, _&&_, and-true, and-false}
 use mathlib.Core.List.{List}
 use mathlib.Core.Path.{_≡_, refl, ap, _∙_, sym, subst}
 use native.Mathlib.Omega.{arith}
@@ -35,14 +35,6 @@ answer-line e s D M before after r p = go (verdict s D M (enough e s D M before)
 -- without room for the answer
 pub roomless : (s : List ℕ) (D M : ℕ) → verdict s D M false ≡ refused (unroomy (length s) D M) 0
 roomless s D M = elim (by-checks s D M false) [ inl h ↦ no-way (passed (length s) D M false (h .0) .roomy) | inr h ↦ h .1 ]
-
-pub and-false : (a : Bool) → (a && false) ≡ false
-and-false true = refl
-and-false false = refl
-
-pub and-true : (a : Bool) → (a && true) ≡ a
-and-true true = refl
-and-true false = refl
 
 module _ (e : Engine) (s : List ℕ) (D M : ℕ) (before : Lent) (answer : List ℕ) where
   pub without-room : length answer < 4 → Profiles e s D M before answer (unroomy (length s) D M) before answer

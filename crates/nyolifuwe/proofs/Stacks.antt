@@ -1,7 +1,7 @@
 -- When the exported writer of folded stacks takes its decisions, what it then promises, and that a promise leaves one
 -- outcome. Assumes nothing.
 use Prim.Native.Nat.{ℕ, _+_, _≤_, _<_}
-use mathlib.Core.Bool.{Bool, true, false, cond, _&&_}
+use mathlib.Core.Bool.{Bool, true, false, cond, _&&_, and-true, and-false}
 use mathlib.Core.List.{List}
 use mathlib.Core.Path.{_≡_, refl, ap, _∙_, sym}
 use native.Mathlib.Omega.{arith}
@@ -23,7 +23,7 @@ use Rattle.nyolifuwe.specs.Code.{coded}
 use Rattle.nyolifuwe.specs.Inside.{told, lineOf, noted, unroomy}
 use Rattle.nyolifuwe.specs.Stacks.{foldedStacks, Folded}
 use Rattle.nyolifuwe.proofs.Decided.{untold, tells}
-use Rattle.nyolifuwe.proofs.Profiled.{roomless, and-false, and-true}
+use Rattle.nyolifuwe.proofs.Profiled.{roomless}
 use Rattle.nyolifuwe.proofs.Sheets.{one-telling}
 
 -- the line in the writer's answer

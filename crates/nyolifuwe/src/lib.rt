@@ -301,8 +301,8 @@ pub extern "C" fn nyo_csv_read(text: &[u8], rows: &mut [u64], count: &mut [u64])
     tell_sites(sheetin::read_sheet(text, rows), count)
 }
 
-// Writes the folded stacks of a trace, with the names of two lists: the text goes to `out`, or a refusal of the engines,
-// 17 or 18.
+// Writes the folded stacks of a trace, with the names of two lists: the text goes to `out`, or a refusal of the
+// engines, 17 or 18.
 #[no_mangle]
 pub extern "C" fn nyo_folded<'a>(
     trace: &[u8],

@@ -35,14 +35,14 @@ character-requires : tie.Need-character-requires
 character-requires c κs =
     let a = c .before .before .before .before .before .before .before .args in
     let n = piece-length (a .k) (shown (a .project .now) (a .stock .now) (a .row)) in
-    omega (arith, c .before .before .before .before .before .before .before .pre .1, n .2 (omega (arith, c .before .if1 .left)))
+    omega (arith, c .before .before .before .before .before .before .before .pre .1, n (omega (arith, c .before .if1 .left)))
 
 text-requires-2 : tie.Need-text-requires-2
 text-requires-2 c κs =
     let a = c .before .before .before .before .before .before .before .before .before .before .before .args in
     let n = piece-length (a .k) (shown (a .project .now) (a .stock .now) (a .row)) in
     let w = c .before .before .before .character in
-    omega (arith, c .before .before .before .before .before .before .before .before .before .before .before .pre .1, n .2 (omega (arith, c .before .before .before .before .before .if1 .left)), w .ensures .ends, w .kept .0, ap length (c .before .before .before .before .before .before .name .ensures))
+    omega (arith, c .before .before .before .before .before .before .before .before .before .before .before .pre .1, n (omega (arith, c .before .before .before .before .before .if1 .left)), w .ensures .ends, w .kept .0, ap length (c .before .before .before .before .before .before .name .ensures))
 
 same-length-2 : tie.Need-same-length-2
 same-length-2 c = search needs
@@ -54,7 +54,7 @@ returns-2 c =
     let n = piece-length (a .k) s in
     let w = c .before .before .before .before .before .before .character in
     lays-as (a .at) (piece-some (a .k) s (c .before .before .before .before .before .before .before .before .if1 .left))
-    (lays-next (a .at) (59 ∷ []) s (a .out .now) (omega (arith, c .before .before .before .before .before .before .before .before .before .before .before .before .before .before .pre .1, n .2 (omega (arith, c .before .before .before .before .before .before .before .before .if1 .left)))) (w .ensures) (lays-as _ (c .before .before .before .before .before .before .before .before .before .name .ensures) (c .before .before .text2 .ensures)))
+    (lays-next (a .at) (59 ∷ []) s (a .out .now) (omega (arith, c .before .before .before .before .before .before .before .before .before .before .before .before .before .before .pre .1, n (omega (arith, c .before .before .before .before .before .before .before .before .if1 .left)))) (w .ensures) (lays-as _ (c .before .before .before .before .before .before .before .before .before .name .ensures) (c .before .before .text2 .ensures)))
 
 pub put-row-spec : {M : Type 1} → statement M
 put-row-spec =
