@@ -18,9 +18,10 @@ use Rattle.trace.specs.Rows.{columns, Spans}
 use Rattle.trace.specs.Column.{Column, slot}
 use Rattle.trace.specs.Refusals.{lineCount, Verdict, accepted, refused, verdict}
 use Rattle.trace.specs.Promise.{Engine, tables, marks, Lent, scratchRoom, marksRoom, rowsRoom, enough, acceptance, refusal, Row, Marked, Profile, Promise}
-use Rattle.trace.specs.Tree.{Body, linesOf, size, Parts, workOf, spanOf, spansIn, rootAt}
+use Rattle.trace.specs.Tree.{Body, linesOf, size, Parts, workOf, spanOf, rootAt}
 use Rattle.trace.specs.Fold.{chainOf}
 use Rattle.trace.specs.ByTree.{cell, RowsBy, ProfileBy}
+use Rattle.trace.specs.Small.{Small}
 use Rattle.trace.proofs.Basics.{clash, below, both}
 use Rattle.trace.proofs.Slots.{rowOf, columnOf, row-slot, column-slot, slot-in, by-slots}
 use Rattle.trace.proofs.Tree.{size-is}
@@ -32,7 +33,7 @@ use Rattle.trace.proofs.Root.{rootChain, root-span, root-chosen, root-s
 use Rattle.trace.proofs.Columns.{calls-tree, local-tree, total-tree}
 use Rattle.trace.proofs.Outermost.{work-tree, spans-tree}
 use Rattle.trace.proofs.OnChain.{on-span-tree}
-use Rattle.trace.proofs.Small.{Small, fine-small}
+use Rattle.trace.proofs.Small.{fine-small}
 
 lent-same : (a b : Lent) → a .scratch ≡ b .scratch → a .rows ≡ b .rows → a .marks ≡ b .marks → a ≡ b
 lent-same a b x y z =
@@ -110,16 +111,9 @@ module _ (D : ℕ) (t : List Frame) (p : Parts D t) where
         marked = subst (λ (n : ℕ). Marked e n (linesIn (rootChain D t p)) (before .marks) (after .marks)) length-is (subst (λ (d : List ℕ). Marked e (length t) d (before .marks) (after .marks)) c (h .marked));
       }
 
-  -- LAW: within the limits each number of the tree is below 2 ^ 54
-  pub cell-small : (M : ℕ) → Fine D M t → (s : ℕ) (k : Column) → Small (cell m (p .body) s k)
-  cell-small M f s Column.calls = subst Small (calls-tree D t p s) (fine-small D M t f .calls-are s)
-  cell-small M f s Column.work = subst Small (work-tree D t p s) (fine-small D M t f .work-is s)
-  cell-small M f s Column.span = fine-small D M t f .spans-are s (spansIn s (p .body)) (spans-tree D t p s)
-  cell-small M f s Column.local = subst Small (local-tree D t p s) (fine-small D M t f .local-is s)
-  cell-small M f s Column.onSpan = subst Small (on-span-tree D t p s) (fine-small D M t f .on-span-is (linesIn (rootChain D t p)) s)
-
+  -- LAW: within the limits the work of the tree is below 2 ^ 54
   pub work-small : (M : ℕ) → Fine D M t → Small (workOf (p .body))
-  work-small M f = subst Small (total-tree D t p) (fine-small D M t f .total-is)
+  work-small M f = subst Small (total-tree D t p) (fine-small D M t f .total-work)
 
 -- ── there is one ──
 
