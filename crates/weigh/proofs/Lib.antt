@@ -1,0 +1,3 @@
+pub mod Weighed
+pub mod Alike
+pub mod Accepted
