@@ -10,7 +10,8 @@ use Rattle.trace.specs.Shape.{ifSite, sites}
 use Rattle.trace.specs.Tree.{linesOf, Within, Parts, rootAt}
 use Rattle.trace.proofs.Scan.{Fine}
 use Rattle.trace.proofs.Accept.{IsTrace, heads-sites, fine-is-trace, trace-is-fine}
-use Rattle.weigh.specs.Weighed.{Weigh, Tabled, weighed, innermost, rowStep, costing, reweighed}
+use Rattle.weigh.specs.Cost.{costing}
+use Rattle.weigh.specs.Weighed.{Weigh, Tabled, weighed, innermost, rowStep, reweighed}
 use Rattle.weigh.proofs.Alike.{bare, ButCosts, alike-length}
 use Rattle.weigh.proofs.Weighed.{weighed-within, reweighed-trace}
 

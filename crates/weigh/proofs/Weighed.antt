@@ -9,7 +9,8 @@ use Rattle.line.specs.declared.Frame.{Frame}
 use Rattle.line.specs.declared.Frame.the-variants.{Site, Return}
 use Rattle.trace.specs.Tree.{Way, call, spawn, opening, Leaf, spend, sync, lineOf, LeafWithin, Body, done, leaf, child, linesOf, size, Within, AllSites}
 use Rattle.trace.proofs.Cases.{IsSite, at-site}
-use Rattle.weigh.specs.Weighed.{Weigh, plainly, Tabled, weighedLeaf, weighed, innermost, rowStep, costing, reweighed}
+use Rattle.weigh.specs.Cost.{costing}
+use Rattle.weigh.specs.Weighed.{Weigh, plainly, Tabled, weighedLeaf, weighed, innermost, rowStep, reweighed}
 
 pub weighed-size : (w : Weigh) (b : Body) (n s : ℕ) → size (weighed w n s b) ≡ size b
 weighed-size w done n s = refl
@@ -39,7 +40,7 @@ weighed-within w h m D d (child y i g r) n s k =
 
 -- ── its lines ──
 
-leaf-costing : (w : Weigh) (l : Leaf) (n s : ℕ) → costing (w n s) (lineOf l) ≡ lineOf (weighedLeaf w n s l)
+pub leaf-costing : (w : Weigh) (l : Leaf) (n s : ℕ) → costing (w n s) (lineOf l) ≡ lineOf (weighedLeaf w n s l)
 leaf-costing w (spend v) n s = refl
 leaf-costing w sync n s = refl
 
@@ -47,7 +48,7 @@ leaf-rows : (l : Leaf) (o : List ℕ) → rowStep (lineOf l) o ≡ o
 leaf-rows (spend v) o = refl
 leaf-rows sync o = refl
 
-opening-costing : (g : ℕ → ℕ) (y : Way) (i : ℕ) → costing g (opening y i) ≡ opening y i
+pub opening-costing : (g : ℕ → ℕ) (y : Way) (i : ℕ) → costing g (opening y i) ≡ opening y i
 opening-costing g call i = refl
 opening-costing g spawn i = refl
 

@@ -5,6 +5,7 @@ use Rattle.line.specs.declared.Frame.{Frame}
 use Rattle.line.specs.declared.Frame.the-variants.{Site, Call, Spawn, Sync, Return, Cost}
 use Rattle.trace.specs.Shape.{closed}
 use Rattle.trace.specs.Tree.{Leaf, spend, sync, Body, done, leaf, child, size}
+use Rattle.weigh.specs.Cost.{costing}
 
 -- what a cost line weighs: by its number, the row of the invocation that it is directly in, and its value
 abbrev pub Weigh : Type 0
@@ -42,15 +43,6 @@ rowStep (Spawn s) o = s ∷ o
 rowStep Sync o = o
 rowStep Return o = closed o
 rowStep (Cost v) o = o
-
--- a line with another cost
-abbrev pub costing : (ℕ → ℕ) → Frame → Frame
-costing g (Site s p) = Site s p
-costing g (Call s) = Call s
-costing g (Spawn s) = Spawn s
-costing g Sync = Sync
-costing g Return = Return
-costing g (Cost v) = Cost (g v)
 
 -- The trace so weighed, over its lines: t begins at line n, where invocations of the rows o are open, innermost first.
 abbrev pub reweighed : Weigh → ℕ → List ℕ → List Frame → List Frame

@@ -1,0 +1,4 @@
+pub mod Rewritten
+pub mod Asked
+pub mod Promise
+pub mod ByRow
