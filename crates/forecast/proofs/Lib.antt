@@ -1,1 +1,4 @@
 pub mod ByRow
+pub mod Divided
+pub mod Asked
+pub mod Outcome
