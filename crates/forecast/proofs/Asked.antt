@@ -7,13 +7,14 @@ use native.Mathlib.Omega.{arith}
 use lib.Dec.{eqb, ltb}
 use borrow.Author.Tests.{eqb-true, eq-eqb, ne-eqb, ltb-false}
 use Rattle.line.specs.declared.Frame.{Frame}
-use Rattle.trace.specs.Shape.{sites}
+use Rattle.trace.specs.Shape.{has, sites}
+use Rattle.trace.specs.Rows.{ofRow}
 use Rattle.trace.specs.Refusals.{Verdict, accepted, refused}
 use Rattle.trace.proofs.Basics.{clash}
 use Rattle.trace.proofs.Scan.{accepted-same}
 use Rattle.weigh.specs.Weighed.{Tabled}
 use Rattle.forecast.specs.declared.Entry.{Entry}
-use Rattle.forecast.specs.Rewritten.{rewritten}
+use Rattle.forecast.specs.Rewritten.{factorOf, rewritten}
 use Rattle.forecast.specs.Asked.{badList, badFactor, asked, asking}
 use Rattle.forecast.specs.ByRow.{rowFactor, byEntries}
 use Rattle.forecast.proofs.Divided.{divided-least, divided-most}
@@ -28,18 +29,29 @@ either-range : (b : Bool) (x y : ℕ) → (1 ≤ x) × (x ≤ 1000) → (1 ≤ y
 either-range true x y h k = h
 either-range false x y h k = k
 
+good : (e : Entry) (es : List Entry) → badFactor (e ∷ es) ≡ false → ((1 ≤ e .factor) × (e .factor ≤ 1000)) × (badFactor es ≡ false)
+good e es h =
+    let a = neither (ltb (e .factor) 2 || ltb 1000 (e .factor)) (badFactor es) h in
+    let b = neither (ltb (e .factor) 2) (ltb 1000 (e .factor)) (a .0) in
+    ((omega (arith, ltb-false (e .factor) 2 (b .0)), omega (arith, ltb-false 1000 (e .factor) (b .1))), a .1)
+
 pub factor-range : (es : List Entry) (s : ℕ) → badFactor es ≡ false → (1 ≤ rowFactor es s) × (rowFactor es s ≤ 1000)
 factor-range [] s h = (omega arith, omega arith)
 factor-range (e ∷ es) s h =
-    let a = neither (ltb (e .factor) 2 || ltb 1000 (e .factor)) (badFactor es) h in
-    let b = neither (ltb (e .factor) 2) (ltb 1000 (e .factor)) (a .0) in
-    either-range (eqb s (e .row)) (e .factor) (rowFactor es s) (omega (arith, ltb-false (e .factor) 2 (b .0)), omega (arith, ltb-false 1000 (e .factor) (b .1))) (factor-range es s (a .1))
+    let a = good e es h in
+    either-range (eqb s (e .row)) (e .factor) (rowFactor es s) (a .0) (factor-range es s (a .1))
+
+pub factor-of-range : (es : List Entry) (t : List Frame) (F : ℕ) → badFactor es ≡ false → (1 ≤ factorOf es t F) × (factorOf es t F ≤ 1000)
+factor-of-range [] t F h = (omega arith, omega arith)
+factor-of-range (e ∷ es) t F h =
+    let a = good e es h in
+    either-range (has F (ofRow t (e .row))) (e .factor) (factorOf es t F) (a .0) (factor-of-range es t F (a .1))
 
 -- a cost divided by its row's factor stays in the table
 pub entries-tabled : (es : List Entry) → badFactor es ≡ false → Tabled (byEntries es)
 entries-tabled es h n s v l k =
     let r = factor-range es s h in
-    (divided-least v (rowFactor es s) l (r .0), omega (arith, divided-most v (rowFactor es s) l (r .0)))
+    (divided-least v (rowFactor es s) l (r .0), omega (arith, divided-most v (rowFactor es s) (r .0)))
 
 -- ── the whole list ──
 

@@ -1,4 +1,5 @@
 pub mod Rewritten
 pub mod Asked
 pub mod Promise
+pub mod Gain
 pub mod ByRow

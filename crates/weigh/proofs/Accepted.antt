@@ -15,7 +15,7 @@ use Rattle.weigh.specs.Weighed.{Weigh, Tabled, weighed, innermost, rowSt
 use Rattle.weigh.proofs.Alike.{bare, ButCosts, alike-length}
 use Rattle.weigh.proofs.Weighed.{weighed-within, reweighed-trace}
 
-costing-bare : (g : ℕ → ℕ) (f : Frame) → bare f ≡ bare (costing g f)
+pub costing-bare : (g : ℕ → ℕ) (f : Frame) → bare f ≡ bare (costing g f)
 costing-bare g (Site s p) = refl
 costing-bare g (Call s) = refl
 costing-bare g (Spawn s) = refl

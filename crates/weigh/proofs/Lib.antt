@@ -1,3 +1,4 @@
 pub mod Weighed
 pub mod Alike
 pub mod Accepted
+pub mod Less
