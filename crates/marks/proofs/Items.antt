@@ -1,32 +1,29 @@
 -- The item reader: what each kind of item asks for and comes to, with no code in sight.
 use mathlib.Core.Path.{_≡_, refl, ap, _∙_, sym, subst}
-use mathlib.Core.Bool.{Bool}
 use mathlib.Core.List.{List}
 use Prim.Native.Nat.{ℕ, _+_, _-_, _^_, _≤_, _<_}
 use native.Mathlib.Omega.{arith}
 use lib.ListN.{length}
 use lib.Dec.{eqb}
 use Rattle.line.specs.At.{kindAt, siteAt}
-use Rattle.rowset.specs.declared.RowSet.{RowSet}
-use Rattle.rowset.specs.Set.{member, Added}
 use Rattle.chain.specs.Plan.{weight}
 use Rattle.trace.specs.Column.{Column, slot}
 use Rattle.trace.specs.Tree.{call, spawn, spend, sync, Body, leaf, child as nested, linesOf, workOf}
 use Rattle.trace.specs.Fold.{Chains, nothing, joined, called, spawned, chainOf}
 use Rattle.trace.proofs.Basics.{cond-same}
 use Rattle.walk.specs.declared.Open.{Open}
+use Rattle.walk.specs.declared.Credit.{Credit}
 use Rattle.walk.specs.Weight.{weightAt}
 use Rattle.walk.specs.Stands.{Stands, Says, kindOf, siteOf}
 use Rattle.walk.specs.Numbers.{numbers}
-use Rattle.walk.specs.Gain.{also, ColumnFits, ReturnFits, one, returned, Grown}
+use Rattle.walk.specs.Gain.{ColumnFits, creditOf, ReturnFits, one, Returned, Grown}
 use Rattle.walk.specs.Item.{itemChains}
-use Rattle.walk.specs.Reader.{Ready, ItemDone}
+use Rattle.walk.specs.Reader.{ItemDone}
 use Rattle.walk.proofs.Items.{size-some, chain-le}
 use Rattle.walk.proofs.Lines.{is-sync}
 use Rattle.walk.proofs.Says.{kind-says, site-says, weight-says}
 use Rattle.walk.proofs.Room.{lines-in}
-use Rattle.walk.proofs.Around.{with-around}
-use Rattle.walk.proofs.Child.{cost-is, call-is, spawn-is, Child, child-is, cost-fits, child-work, deeper as child-deeper, child-ready, count-fits as child-fits, ChildDone, child-done}
+use Rattle.walk.proofs.Child.{cost-is, call-is, spawn-is, Child, child-is, cost-fits, child-work, deeper as child-deeper, child-row, child-ready, count-fits as child-fits, ChildDone, child-done}
 use Rattle.marks.specs.declared.Zones.{Zones}
 use Rattle.marks.specs.Shown.{Zone, Shows, Kept}
 use Rattle.marks.specs.Park.{Zero}
@@ -36,9 +33,9 @@ use Rattle.marks.proofs.Shown.{zone-kept}
 use Rattle.marks.proofs.Bodies.{shows-begun}
 
 -- what a step leaves, as the item's
-left-is : (around : ℕ → Bool) (n e w : ℕ) (b : Body) (k : Chains) (z : Zones) (m rows : List ℕ) (r : Zones) (m′ rows′ : List ℕ) → At n e w (itemChains (z .own .at) (z .row) b k) m z r m′ → ItemDone around (z .row) (z .own) rows b k (r .own) rows′
-    → ItemLeft around n b k z m rows r m′ rows′
-left-is around n e w b k z m rows r m′ rows′ a done = record { done = done; same-row = a .same-row; shows = a .shows; kept = subst (λ (x : ℕ). Kept n x m m′) (sym (ap (λ (x : Open). x .at) (a .numbers-are))) (a .kept) }
+left-is : (n e w : ℕ) (b : Body) (k : Chains) (z : Zones) (m rows : List ℕ) (r : Zones) (m′ rows′ : List ℕ) → At n e w (itemChains (z .own .at) (z .row) b k) m z r m′ → ItemDone (z .row) (z .own) rows b k (r .own) rows′
+    → ItemLeft n b k z m rows r m′ rows′
+left-is n e w b k z m rows r m′ rows′ a done = record { done = done; same-row = a .same-row; shows = a .shows; kept = subst (λ (x : ℕ). Kept n x m m′) (sym (ap (λ (x : Open). x .at) (a .numbers-are))) (a .kept) }
 
 -- marks behind the zones of an invocation changed
 shows-kept : (n a e : ℕ) (m m₁ : List ℕ) (z : Zones) (k : Chains) → z .own .at ≤ a → Kept a e m m₁ → Shows n m z k → Shows n m₁ z k
@@ -52,7 +49,7 @@ shows-kept n a e m m₁ z k l kept s =
       C = zone-kept m m₁ (z .after) (z .own .at) (k .c) (λ i p q. kept i (λ x y. omega arith)) (s .C);
     }
 
-module _ {around : ℕ → Bool} {s : List ℕ} {deep : ℕ} {z : Zones} {t m rows : List ℕ} (l : Lent around s deep z t m rows) where
+module _ {s : List ℕ} {deep : ℕ} {z : Zones} {t m rows : List ℕ} (l : Lent s deep z t m rows) where
   line-in : z .own .at < length m
   line-in = omega (arith, l .lines, lines-in s (l .ready .body) (z .own .at) (l .ready .stands), size-some (l .ready .body))
 
@@ -67,21 +64,21 @@ module _ {around : ℕ → Bool} {s : List ℕ} {deep : ℕ} {z : Zones} {t m ro
   pub join-asks : Fits m z 0
   join-asks = step-asks 0 m refl (omega (arith, l .ready .load-fits))
 
-  pub sync-leaves : (kind : ℕ) → kind ≡ kindAt s (z .own .at) → kind ≡ 4 → (r : Zones) (m′ : List ℕ) → Joined m z r m′ → ItemLeaves around s z m rows r m′ rows
+  pub sync-leaves : (kind : ℕ) → kind ≡ kindAt s (z .own .at) → kind ≡ 4 → (r : Zones) (m′ : List ℕ) → Joined m z r m′ → ItemLeaves s z m rows r m′ rows
   sync-leaves kind reads k4 r m′ j b n k more h e sh =
       let q = is-sync s (z .own .at) kind (kind-says s (z .own .at) (z .own .at) kind refl reads) b h k4 in
       let d = j n k e sh in
       let o : z .own .work ≡ z .own .work + 0 = omega arith in
-      subst (λ (x : Body). ItemLeft around n x k z m rows r m′ rows) (sym (q .1))
-      (left-is around n (z .own .at + 1) (z .own .work) (leaf sync (q .0)) k z m rows r m′ rows d (record { numbers-are = d .numbers-are ∙ ap (λ (x : ℕ). numbers (z .own .at + 1) x (joined k)) o; rows-are = λ i l. omega (arith, cond-same (eqb (slot (z .row) Column.local) i)) }))
+      subst (λ (x : Body). ItemLeft n x k z m rows r m′ rows) (sym (q .1))
+      (left-is n (z .own .at + 1) (z .own .work) (leaf sync (q .0)) k z m rows r m′ rows d (record { numbers-are = d .numbers-are ∙ ap (λ (x : ℕ). numbers (z .own .at + 1) x (joined k)) o; rows-are = λ i l. omega (arith, cond-same (eqb (slot (z .row) Column.local) i)) }))
 
 -- the item is a cost of v
-pub record Costs (around : ℕ → Bool) (s : List ℕ) (deep : ℕ) (z : Zones) (t m rows : List ℕ) (kind v : ℕ) : Type 0 where
-  pub asks : ItemAsks around s kind deep z t m rows
+pub record Costs (s : List ℕ) (deep : ℕ) (z : Zones) (t m rows : List ℕ) (kind v : ℕ) : Type 0 where
+  pub asks : ItemAsks s kind deep z t m rows
   pub weight-is : v ≡ weightAt s (z .own .at)
   pub cost : kind ≡ 6
 
-module _ {around : ℕ → Bool} {s : List ℕ} {deep : ℕ} {z : Zones} {t m rows : List ℕ} {kind v : ℕ} (h : Costs around s deep z t m rows kind v) where
+module _ {s : List ℕ} {deep : ℕ} {z : Zones} {t m rows : List ℕ} {kind v : ℕ} (h : Costs s deep z t m rows kind v) where
   spend-is : (b : Body) → Stands s (z .own .at) (linesOf b) → (r : Body) × (b ≡ leaf (spend v) r)
   spend-is = cost-is s (z .own .at) kind (kind-says s (z .own .at) (z .own .at) kind refl (h .asks .kind-is)) v (weight-says s (z .own .at) (z .own .at) v refl (h .weight-is)) (h .cost)
 
@@ -89,7 +86,7 @@ module _ {around : ℕ → Bool} {s : List ℕ} {deep : ℕ} {z : Zones} {t m ro
   fit =
       let y = h .asks .lent .ready in
       let q = spend-is (y .body) (y .stands) in
-      cost-fits around s (z .row) (h .asks .lent .sites) deep (z .own) rows y v (q .0) (q .1)
+      cost-fits s (z .row) (h .asks .lent .sites) deep (z .own) rows y v (q .0) (q .1)
 
   pub rows-asks : ColumnFits rows (z .row) Column.local v
   rows-asks = fit .0
@@ -97,26 +94,22 @@ module _ {around : ℕ → Bool} {s : List ℕ} {deep : ℕ} {z : Zones} {t m ro
   pub spend-asks : Fits m z v × (z .own .work + v < 2 ^ 64)
   spend-asks = (step-asks (h .asks .lent) v m refl (fit .1 .1), fit .1 .0)
 
-  pub cost-leaves : (r : Zones) (m′ rows′ : List ℕ) → Grown rows (one (slot (z .row) Column.local) v) rows′ → Spent v m z r m′ → ItemLeaves around s z m rows r m′ rows′
+  pub cost-leaves : (r : Zones) (m′ rows′ : List ℕ) → Grown rows (one (slot (z .row) Column.local) v) rows′ → Spent v m z r m′ → ItemLeaves s z m rows r m′ rows′
   cost-leaves r m′ rows′ grown sp b n k more st e sh =
       let q = spend-is b st in
       let d = sp n k e sh in
-      subst (λ (x : Body). ItemLeft around n x k z m rows r m′ rows′) (sym (q .1))
-      (left-is around n (z .own .at + 1) (z .own .work + v) (leaf (spend v) (q .0)) k z m rows r m′ rows′ d (record { numbers-are = d .numbers-are; rows-are = grown }))
+      subst (λ (x : Body). ItemLeft n x k z m rows r m′ rows′) (sym (q .1))
+      (left-is n (z .own .at + 1) (z .own .work + v) (leaf (spend v) (q .0)) k z m rows r m′ rows′ d (record { numbers-are = d .numbers-are; rows-are = grown }))
 
 -- the item is a call or a spawn of site
-pub record Calls (set : RowSet) (s : List ℕ) (deep : ℕ) (z : Zones) (t m rows : List ℕ) (kind site : ℕ) (inside : RowSet) : Type 0 where
-  pub asks : ItemAsks (member set) s kind deep z t m rows
+pub record Calls (s : List ℕ) (deep : ℕ) (z : Zones) (t m rows : List ℕ) (kind site : ℕ) : Type 0 where
+  pub asks : ItemAsks s kind deep z t m rows
   pub site-is : site ≡ siteAt s (z .own .at)
   pub no-cost : kind ≡ 6 → ⊥
   pub no-sync : kind ≡ 4 → ⊥
-  pub inside-is : Added set site inside
 
-module _ {set : RowSet} {s : List ℕ} {deep : ℕ} {z : Zones} {t m rows : List ℕ} {kind site : ℕ} {inside : RowSet} (h : Calls set s deep z t m rows kind site inside) where
-  abbrev around : ℕ → Bool
-  around = member set
-
-  abbrev l : Lent around s deep z t m rows
+module _ {s : List ℕ} {deep : ℕ} {z : Zones} {t m rows : List ℕ} {kind site : ℕ} (h : Calls s deep z t m rows kind site) where
+  abbrev l : Lent s deep z t m rows
   l = h .asks .lent
 
   says : Says kindOf s (z .own .at) kind
@@ -129,23 +122,16 @@ module _ {set : RowSet} {s : List ℕ} {deep : ℕ} {z : Zones} {t m rows : List
   child = child-is s (z .own .at) kind site says sited (h .no-cost) (h .no-sync) (l .ready .body) (l .ready .stands) (h .asks .more)
 
   pub deeper : 1 ≤ deep
-  deeper = child-deeper around s (z .row) (l .sites) deep (z .own) rows (l .ready) site child
+  deeper = child-deeper s (z .row) (l .sites) deep (z .own) rows (l .ready) site child
 
   pub room : 8 ≤ length t
   room = omega (arith, l .room)
 
-  -- what is open inside the child: its site besides
-  own-ready : Ready (also site around) s site (l .sites) (deep - 1) (numbers (z .own .at + 1) 0 nothing) rows
-  own-ready = child-ready around s (z .row) (l .sites) deep (z .own) rows (l .ready) site child
-
-  open-inside : member inside ≡ also site around
-  open-inside = with-around set inside site (omega (arith, own-ready .row-in, own-ready .few)) (h .inside-is)
-
-  pub body-asks : (part : List ℕ) → Zero part → length part ≡ length t - 8 → BodyAsks (member inside) s (z .own .at + 1) site (deep - 1) part m rows
+  pub body-asks : (part : List ℕ) → Zero part → length part ≡ length t - 8 → BodyAsks s (z .own .at + 1) site (deep - 1) part m rows
   body-asks part zero long =
       record {
         sites = l .sites;
-        ready = subst (λ (x : ℕ → Bool). Ready x s site (l .sites) (deep - 1) (numbers (z .own .at + 1) 0 nothing) rows) (sym open-inside) own-ready;
+        ready = child-ready s (z .row) (l .sites) deep (z .own) rows (l .ready) site child;
         lines = l .lines;
         zero = zero;
         room = omega (arith, l .room, long, deeper);
@@ -155,24 +141,27 @@ module _ {set : RowSet} {s : List ℕ} {deep : ℕ} {z : Zones} {t m rows : List
         shows = shows-begun (z .own .at + 1) site m;
       }
 
-  -- the child has returned: its numbers are c, and it left the marks m₁ and the rows rows₁
-  pub record Back (c : Open) (m₁ rows₁ : List ℕ) : Type 0 where
+  -- columns 2 and 3 of its row can be taken
+  pub credit-asks : slot site Column.span < length rows
+  credit-asks = child-row s (z .row) (l .sites) deep (z .own) rows (l .ready) site child
+
+  -- The child has returned: its numbers are c, and it left the marks m₁ and the rows rows₁. Before it, columns 2 and 3 of
+  -- its row were taken.
+  pub record Back (before : Credit) (c : Open) (m₁ rows₁ : List ℕ) : Type 0 where
+    pub taken : before ≡ creditOf rows site
     pub marks-long : length m₁ ≡ length m
     pub rows-long : length rows₁ ≡ length rows
-    pub leaves : BodyLeaves (member inside) s (z .own .at + 1) site m rows c m₁ rows₁
+    pub leaves : BodyLeaves s (z .own .at + 1) site m rows c m₁ rows₁
 
-  module _ {c : Open} {m₁ rows₁ : List ℕ} (u : Back c m₁ rows₁) where
-    came-to : BodyLeaves (also site around) s (z .own .at + 1) site m rows c m₁ rows₁
-    came-to = subst (λ (x : ℕ → Bool). BodyLeaves x s (z .own .at + 1) site m rows c m₁ rows₁) open-inside (u .leaves)
+  module _ {before : Credit} {c : Open} {m₁ rows₁ : List ℕ} (u : Back before c m₁ rows₁) where
+    left : BodyLeft (z .own .at + 1) site (child .g) m rows c m₁ rows₁
+    left = u .leaves (child .g) (child .stands)
 
-    left : BodyLeft (also site around) (z .own .at + 1) site (child .g) m rows c m₁ rows₁
-    left = came-to (child .g) (child .stands)
-
-    pub count-asks : ReturnFits around rows₁ site (c .work) (c .prefix)
-    count-asks = child-fits around s (z .row) (l .sites) deep (z .own) rows (l .ready) site child c rows₁ (u .rows-long) (left .done)
+    pub count-asks : ReturnFits before rows₁ site (c .work) (c .prefix)
+    count-asks = child-fits s (z .row) (l .sites) deep (z .own) rows (l .ready) site child before c rows₁ (u .taken) (u .rows-long) (left .done)
 
     both : (z .own .work + workOf (child .g) < 2 ^ 64) × (z .own .prefix + (z .own .longest + z .own .since) + workOf (child .g) < 2 ^ 64)
-    both = child-work around s (z .row) (l .sites) deep (z .own) rows (l .ready) site child
+    both = child-work s (z .row) (l .sites) deep (z .own) rows (l .ready) site child
 
     pub called-asks : Fits m₁ z (c .prefix) × (z .own .work + c .work < 2 ^ 64)
     called-asks = (
@@ -186,15 +175,15 @@ module _ {set : RowSet} {s : List ℕ} {deep : ℕ} {z : Zones} {t m rows : List
         (called-asks .0, (called-asks .1, (omega (arith, at), omega (arith, at, u .marks-long, l .lines, lines-in s (child .g) (z .own .at + 1) (child .stands)))))
 
     -- it was counted, and the step left r and the marks m₂
-    module _ {rows₂ : List ℕ} (counts : Grown rows₁ (returned around site (c .work) (c .prefix)) rows₂) (r : Zones) (m₂ : List ℕ) where
+    module _ {rows₂ : List ℕ} (counts : Returned before site (c .work) (c .prefix) rows₁ rows₂) (r : Zones) (m₂ : List ℕ) where
       -- the child's body is g: what the step asks for and leaves, as the item's
       behind : (n : ℕ) (k : Chains) (g b : Body) (x : Chains) → Stands s (z .own .at + 1) (linesOf g) → Shows n m z k
           → (weight (chainOf (z .own .at + 1) site g) ≡ c .prefix → Shows n m₁ z k → z .own .at < c .at → Zone m₁ (z .own .at + 1) (c .at) (chainOf (z .own .at + 1) site g) → At n (c .at) (z .own .work + c .work) x m₁ z r m₂)
-          → (ChildDone around (z .own) site rows g c rows₂ → r .own ≡ numbers (c .at) (z .own .work + c .work) x → ItemDone around (z .row) (z .own) rows b k (r .own) rows₂)
-          → x ≡ itemChains (z .own .at) (z .row) b k → ItemLeft around n b k z m rows r m₂ rows₂
+          → (ChildDone (z .own) site rows g c rows₂ → r .own ≡ numbers (c .at) (z .own .work + c .work) x → ItemDone (z .row) (z .own) rows b k (r .own) rows₂)
+          → x ≡ itemChains (z .own .at) (z .row) b k → ItemLeft n b k z m rows r m₂ rows₂
       behind n k g b x st sh step item e =
-          let d = came-to g st in
-          let v = child-done around (z .own) site rows rows₁ rows₂ g c (u .rows-long) (d .done) counts in
+          let d = u .leaves g st in
+          let v = child-done (z .own) site rows before rows₁ rows₂ g c (u .taken) (u .rows-long) (d .done) counts in
           let q = step (v .chain) (shows-kept n (z .own .at + 1) (c .at) m m₁ z k (omega arith) (d .kept) sh) (omega (arith, v .at-is)) (d .zone) in
           record {
             done = item v (q .numbers-are);
@@ -205,16 +194,16 @@ module _ {set : RowSet} {s : List ℕ} {deep : ℕ} {z : Zones} {t m rows : List
                 q .kept j (λ p w. o p (omega (arith, to))) ∙ d .kept j (λ p w. o (omega (arith, sh .begins, sh .then, sh .ends)) (omega (arith, to)));
           }
 
-      pub call-leaves : kind ≡ 2 → Called m₁ z c r m₂ → ItemLeaves around s z m rows r m₂ rows₂
+      pub call-leaves : kind ≡ 2 → Called m₁ z c r m₂ → ItemLeaves s z m rows r m₂ rows₂
       call-leaves k2 step b n k more st e sh =
           let q = call-is s (z .own .at) kind says site sited b st k2 in
           let g = chainOf (z .own .at + 1) site (q .0) in
-          subst (λ (x : Body). ItemLeft around n x k z m rows r m₂ rows₂) (sym (q .2))
+          subst (λ (x : Body). ItemLeft n x k z m rows r m₂ rows₂) (sym (q .2))
           (behind n k (q .0) (nested call site (q .0) (q .1)) (called g k) (q .3) sh (step n k g e) (λ v w. record { numbers-are = w ∙ v .numbers-are (called g k); rows-are = v .rows-are }) refl)
 
-      pub spawn-leaves : (kind ≡ 2 → ⊥) → Spawned m₁ z c r m₂ → ItemLeaves around s z m rows r m₂ rows₂
+      pub spawn-leaves : (kind ≡ 2 → ⊥) → Spawned m₁ z c r m₂ → ItemLeaves s z m rows r m₂ rows₂
       spawn-leaves k2 step b n k more st e sh =
           let q = spawn-is s (z .own .at) kind says site sited (h .no-cost) (h .no-sync) b st more k2 in
           let g = chainOf (z .own .at + 1) site (q .0) in
-          subst (λ (x : Body). ItemLeft around n x k z m rows r m₂ rows₂) (sym (q .2))
+          subst (λ (x : Body). ItemLeft n x k z m rows r m₂ rows₂) (sym (q .2))
           (behind n k (q .0) (nested spawn site (q .0) (q .1)) (spawned g k) (q .3) sh (step n k g e) (λ v w. record { numbers-are = w ∙ v .numbers-are (spawned g k); rows-are = v .rows-are }) refl)

@@ -2,13 +2,11 @@
 use mathlib.Core.Path.{_≡_, refl, ap, _∙_, sym, subst}
 use mathlib.Core.Bool.{Bool, cond}
 use mathlib.Core.List.{List}
-use Prim.Native.Nat.{ℕ, _+_, _*_, _-_, _^_, _≤_, _<_}
+use Prim.Native.Nat.{ℕ, _+_, _*_, _-_, _≤_, _<_}
 use native.Mathlib.Decide.{decLt}
 use native.Mathlib.Omega.{arith}
 use lib.ListN.{length, getD, replicate, length-replicate, List·getD-eq-default}
 use Rattle.line.specs.declared.Frame.{Frame}
-use Rattle.rowset.specs.declared.RowSet.{RowSet}
-use Rattle.rowset.specs.Set.{member, Empty}
 use Rattle.chain.specs.Over.{linesIn}
 use Rattle.trace.specs.declared.Answer.{Answer}
 use Rattle.trace.specs.declared.Answer.the-variants.{Accepted, Refused}
@@ -28,13 +26,13 @@ use Rattle.admit.specs.declared.Verdict.the-variants as Verdict
 use Rattle.admit.specs.Answer.{admission}
 use Rattle.admit.proofs.Admitted.{refused-only, accepted-only}
 use Rattle.walk.specs.declared.Open.{Open}
+use Rattle.walk.specs.declared.Credit.{Credit}
 use Rattle.walk.specs.Stands.{Stands}
-use Rattle.walk.specs.Gain.{nowhere, ReturnFits, returned, Grown}
+use Rattle.walk.specs.Gain.{creditOf, ReturnFits, Returned}
 use Rattle.walk.proofs.Root.{tree}
 use Rattle.walk.proofs.Room.{lines-in}
 use Rattle.walk.proofs.Zeros.{zeros-at}
-use Rattle.walk.proofs.Around.{none-around}
-use Rattle.walk.proofs.Accepted.{fine, limits, rooms, rows-room, cleared, body, stands, ready, work-is, span-is, count-fits, cells, none-on, rest, first, first-is}
+use Rattle.walk.proofs.Accepted.{fine, limits, rooms, rows-room, cleared, body, stands, ready, row-there, work-is, span-is, count-fits, cells, none-on, rest, first, first-is}
 use Rattle.marks.specs.Shown.{Wiped}
 use Rattle.marks.specs.Reader.{BodyAsks, BodyLeft, BodyLeaves}
 use Rattle.marks.specs.Column.{onGain, ColumnAsks, ColumnLeaves}
@@ -85,24 +83,20 @@ module _ {s : List ℕ} {D M : ℕ} {x : Lent} {count lines : ℕ} (a : Admitted
   pub marks-in : at ≤ length (x .marks)
   marks-in = omega (arith, text-in, lines-in s b at here)
 
-  -- the scratch, the rows, and the marks of the sites were cleared, no row is open around the root, and they go by
-  -- these names
-  pub record Blank (t₁ m₁ r₁ : List ℕ) (set : RowSet) : Type 0 where
+  -- the scratch, the rows, and the marks of the sites were cleared, and go by these names
+  pub record Blank (t₁ m₁ r₁ : List ℕ) : Type 0 where
     pub scratch-is : t₁ ≡ replicate (length (x .scratch)) 0
     pub sites-off : Wiped 0 at (x .marks) m₁
     pub marks-same : length m₁ ≡ length (x .marks)
     pub rows-are : r₁ ≡ rows₀
-    pub empty : Empty set
 
   -- the first reading
-  pub body-asks : {t₁ m₁ r₁ : List ℕ} {set : RowSet} → Blank t₁ m₁ r₁ set → ((i : ℕ) → getD (x .rows) i 0 < 2 ^ 64)
-      → BodyAsks (member set) s at 0 (D - 1) t₁ m₁ r₁
-  body-asks {t₁} {m₁} {r₁} {set} o fits =
-      subst (λ (y : ℕ → Bool). BodyAsks y s at 0 (D - 1) t₁ m₁ r₁) (sym (none-around set (o .empty)))
-      (subst (λ (y : List ℕ). BodyAsks nowhere s at 0 (D - 1) t₁ m₁ y) (sym (o .rows-are))
+  pub body-asks : {t₁ m₁ r₁ : List ℕ} → Blank t₁ m₁ r₁ → BodyAsks s at 0 (D - 1) t₁ m₁ r₁
+  body-asks {t₁} {m₁} {r₁} o =
+      subst (λ (y : List ℕ). BodyAsks s at 0 (D - 1) t₁ m₁ y) (sym (o .rows-are))
       (record {
         sites = sites t;
-        ready = ready marks s D M x t (a .is) count (a .count-is) fits;
+        ready = ready marks s D M x t (a .is) count (a .count-is);
         lines = omega (arith, text-in, o .marks-same);
         zero = λ j. ap (λ (y : List ℕ). getD y j 0) (o .scratch-is) ∙ zeros-at (length (x .scratch)) j;
         room = omega (arith, long .0, bounds .0, ap length (o .scratch-is), length-replicate {A = ℕ} (length (x .scratch)) 0);
@@ -110,41 +104,40 @@ module _ {s : List ℕ} {D M : ℕ} {x : Lent} {count lines : ℕ} (a : Admitted
         k = nothing;
         weighs = refl;
         shows = shows-begun at 0 m₁;
-      }))
+      })
 
-  -- the root was read: its numbers are c, and it left the scratch t₂ zero, the marks m₂ and the rows rows₁
-  pub record Read (c : Open) (t₂ m₂ rows₁ : List ℕ) (set : RowSet) : Type 0 where
+  -- columns 2 and 3 of its row can be taken
+  pub credit-asks : {t₁ m₁ r₁ : List ℕ} → Blank t₁ m₁ r₁ → slot 0 Column.span < length r₁
+  credit-asks o = omega (arith, ap length (o .rows-are), row-there marks s D M x t (a .is) count (a .count-is))
+
+  -- The root was read: its numbers are c, and it left the scratch t₂ zero, the marks m₂ and the rows rows₁. Before it,
+  -- columns 2 and 3 of its row were taken.
+  pub record Read (before : Credit) (c : Open) (t₂ m₂ rows₁ : List ℕ) : Type 0 where
     pub t₁ : List ℕ
     pub m₁ : List ℕ
     pub r₁ : List ℕ
-    pub blank : Blank t₁ m₁ r₁ set
+    pub blank : Blank t₁ m₁ r₁
+    pub taken : before ≡ creditOf r₁ 0
     pub zero : t₂ ≡ replicate (length (x .scratch)) 0
     pub marks-same : length m₂ ≡ length (x .marks)
     pub rows-same : length rows₁ ≡ length (x .rows)
-    pub leaves : BodyLeaves (member set) s at 0 m₁ r₁ c m₂ rows₁
+    pub leaves : BodyLeaves s at 0 m₁ r₁ c m₂ rows₁
 
-  module _ {c : Open} {t₂ m₂ rows₁ : List ℕ} {set : RowSet} (u : Read c t₂ m₂ rows₁ set) where
-    around-none : member set ≡ nowhere
-    around-none = none-around set (u .blank .empty)
+  module _ {before : Credit} {c : Open} {t₂ m₂ rows₁ : List ℕ} (u : Read before c t₂ m₂ rows₁) where
+    took : before ≡ creditOf rows₀ 0
+    took = u .taken ∙ ap (λ (y : List ℕ). creditOf y 0) (u .blank .rows-are)
 
-    left : BodyLeft nowhere at 0 b (u .m₁) rows₀ c m₂ rows₁
-    left =
-        subst (λ (y : List ℕ). BodyLeft nowhere at 0 b (u .m₁) y c m₂ rows₁) (u .blank .rows-are)
-        (subst (λ (o : ℕ → Bool). BodyLeft o at 0 b (u .m₁) (u .r₁) c m₂ rows₁) around-none (u .leaves b here))
+    left : BodyLeft at 0 b (u .m₁) rows₀ c m₂ rows₁
+    left = subst (λ (y : List ℕ). BodyLeft at 0 b (u .m₁) y c m₂ rows₁) (u .blank .rows-are) (u .leaves b here)
 
     at-is : c .at ≡ at + size b
     at-is = ap (λ (y : Open). y .at) (left .done .numbers-are)
 
-    pub count-asks : ReturnFits (member set) rows₁ 0 (c .work) (c .prefix)
-    count-asks =
-        subst (λ (o : ℕ → Bool). ReturnFits o rows₁ 0 (c .work) (c .prefix)) (sym around-none)
-        (count-fits marks s D M x t (a .is) count (a .count-is) c rows₁ (u .rows-same) (left .done))
+    pub count-asks : ReturnFits before rows₁ 0 (c .work) (c .prefix)
+    count-asks = count-fits marks s D M x t (a .is) count (a .count-is) before took c rows₁ (u .rows-same) (left .done)
 
     -- the root was counted
-    module _ (rows₂ : List ℕ) (counted : Grown rows₁ (returned (member set) 0 (c .work) (c .prefix)) rows₂) (lr₂ : length rows₂ ≡ length (x .rows)) where
-      counts : Grown rows₁ (returned nowhere 0 (c .work) (c .prefix)) rows₂
-      counts = subst (λ (o : ℕ → Bool). Grown rows₁ (returned o 0 (c .work) (c .prefix)) rows₂) around-none counted
-
+    module _ (rows₂ : List ℕ) (counts : Returned before 0 (c .work) (c .prefix) rows₁ rows₂) (lr₂ : length rows₂ ≡ length (x .rows)) where
       abbrev p : Parts D t
       p = tree D M t good
 
@@ -171,7 +164,7 @@ module _ {s : List ℕ} {D M : ℕ} {x : Lent} {count lines : ℕ} (a : Admitted
                   fits = λ j l.
                       omega (
                         arith,
-                        none-on marks s D M x t (a .is) count (a .count-is) c rows₁ (u .rows-same) (left .done) rows₂ counts j l,
+                        none-on marks s D M x t (a .is) count (a .count-is) before took c rows₁ (u .rows-same) (left .done) rows₂ counts j l,
                         on-le m₂ (slot j Column.onSpan) b count 0,
                         work-small D t p M good,
                       );
@@ -201,15 +194,15 @@ module _ {s : List ℕ} {D M : ℕ} {x : Lent} {count lines : ℕ} (a : Admitted
             in-rows = omega (arith, slot-in count k j h, rows-in)
 
             go : Dec (j ≡ Column.onSpan) → getD rows₃ (slot k j) 0 ≡ cell count b k j
-            go (no q) = omega (arith, grown (slot k j) in-rows, on-cross m₂ j k q b count 0, cells marks s D M x t (a .is) count (a .count-is) c rows₁ (u .rows-same) (left .done) rows₂ counts k j h q)
+            go (no q) = omega (arith, grown (slot k j) in-rows, on-cross m₂ j k q b count 0, cells marks s D M x t (a .is) count (a .count-is) before took c rows₁ (u .rows-same) (left .done) rows₂ counts k j h q)
             go (yes e) =
-                rw e (omega (arith, grown (slot k Column.onSpan) (omega (arith, rows-in)), none-on marks s D M x t (a .is) count (a .count-is) c rows₁ (u .rows-same) (left .done) rows₂ counts k h, on-is k))
+                rw e (omega (arith, grown (slot k Column.onSpan) (omega (arith, rows-in)), none-on marks s D M x t (a .is) count (a .count-is) before took c rows₁ (u .rows-same) (left .done) rows₂ counts k h, on-is k))
 
         rest-is : (i : ℕ) → columns * (count + 1) ≤ i → getD rows₃ i 0 ≡ getD (x .rows) i 0
         rest-is i h = go (decLt i (length (x .rows)))
           where
             go : Dec (i < length (x .rows)) → getD rows₃ i 0 ≡ getD (x .rows) i 0
-            go (yes q) = omega (arith, grown i q, on-out m₂ count D 1 i b at 0 within (omega arith) h, rest marks s D M x t (a .is) count (a .count-is) c rows₁ (u .rows-same) (left .done) rows₂ counts i h q)
+            go (yes q) = omega (arith, grown i q, on-out m₂ count D 1 i b at 0 within (omega arith) h, rest marks s D M x t (a .is) count (a .count-is) before took c rows₁ (u .rows-same) (left .done) rows₂ counts i h q)
             go (no q) = List·getD-eq-default rows₃ 0 {n = i} (omega arith) ∙ sym (List·getD-eq-default (x .rows) 0 {n = i} (omega arith))
 
         marks-are : (k : ℕ) → k < at + size b → getD m₂ k 0 ≡ cond (has k (linesIn (chainOf at 0 b))) 1 0
@@ -225,7 +218,7 @@ module _ {s : List ℕ} {D M : ℕ} {x : Lent} {count lines : ℕ} (a : Admitted
         by-tree : ProfileBy marks count at b x answer (lent t₃ m₂ rows₃)
         by-tree =
             record {
-              answer = ap (λ (y : ℕ). Accepted y (c .prefix) count lines) (work-is marks s D M x t (a .is) count (a .count-is) c rows₁ (u .rows-same) (left .done)) ∙ ap (λ (y : ℕ). Accepted (workOf b) y count lines) (span-is marks s D M x t (a .is) count (a .count-is) c rows₁ (u .rows-same) (left .done)) ∙ ap (Accepted (workOf b) (spanOf b) count) lines-are;
+              answer = ap (λ (y : ℕ). Accepted y (c .prefix) count lines) (work-is marks s D M x t (a .is) count (a .count-is) before took c rows₁ (u .rows-same) (left .done)) ∙ ap (λ (y : ℕ). Accepted (workOf b) y count lines) (span-is marks s D M x t (a .is) count (a .count-is) before took c rows₁ (u .rows-same) (left .done)) ∙ ap (Accepted (workOf b) (spanOf b) count) lines-are;
               rows = record { same-length = lr₃; cells = cells-are; rest = rest-is };
               scratch = same ∙ u .zero;
               marked = record { same-length = u .marks-same; marks-are = marks-are; rest = λ k l. left .kept k (λ v w. omega (arith, at-is)) ∙ u .blank .sites-off .rest k (λ v w. omega arith) };

@@ -4,7 +4,6 @@
 ghost use mathlib.Core.Path.{_≡_};
 ghost use Prim.Native.Nat.{_+_, _*_, _^_, _≤_, _<_};
 ghost use lib.ListN.{length, getD, set, replicate};
-ghost use Rattle.rowset.specs.Set.{member};
 ghost use Rattle.trace.specs.Column.{Column, slot};
 ghost use Rattle.trace.specs.Promise.{Engine, Promise};
 ghost use Rattle.walk.specs.Weight.{weightAt};
@@ -191,8 +190,7 @@ fn load(t: &mut [u64]) -> Zones
 }
 
 // Reads the items of an invocation, which has come to z, up to its return, and leaves the join to its caller.
-// At most deep more invocations open inside one another. The set has the rows that are open at the items, but for the
-// root's, which no line makes.
+// At most deep more invocations open inside one another.
 fn read_items(
     trace: &[u8],
     z: Zones,
@@ -200,17 +198,16 @@ fn read_items(
     t: &mut [u64],
     marks: &mut [u8],
     rows: &mut [u64],
-    around: rowset::RowSet,
 ) -> Zones
-    requires { ⌜ Lent (member around) (now trace) deep z (now t) (now marks) (now rows) ⌝ }
-    ensures { λ r. ⌜ ItemsLeave (member around) (now (trace .entry)) deep z (now (t .entry)) (now (marks .entry))
-        (now (rows .entry)) r (now (marks .exit)) (now (rows .exit)) ⌝ }
+    requires { ⌜ Lent (now trace) deep z (now t) (now marks) (now rows) ⌝ }
+    ensures { λ r. ⌜ ItemsLeave (now (trace .entry)) deep z (now (t .entry)) (now (marks .entry)) (now (rows .entry))
+        r (now (marks .exit)) (now (rows .exit)) ⌝ }
     ensures { λ _. ⌜ now (t .exit) ≡ now (t .entry) ⌝ }
 {
     let mut a = z;
     let mut kind = line::kind_at(trace, z.own.at);
     while kind != 5 {
-        a = item(trace, kind, a, deep, t, marks, rows, around);
+        a = item(trace, kind, a, deep, t, marks, rows);
         kind = line::kind_at(trace, a.own.at);
     }
     a
@@ -225,10 +222,9 @@ fn body(
     t: &mut [u64],
     marks: &mut [u8],
     rows: &mut [u64],
-    around: rowset::RowSet,
 ) -> walk::Open
-    requires { ⌜ BodyAsks (member around) (now trace) from row deep (now t) (now marks) (now rows) ⌝ }
-    ensures { λ r. ⌜ BodyLeaves (member around) (now (trace .entry)) from row (now (marks .entry)) (now (rows .entry)) r
+    requires { ⌜ BodyAsks (now trace) from row deep (now t) (now marks) (now rows) ⌝ }
+    ensures { λ r. ⌜ BodyLeaves (now (trace .entry)) from row (now (marks .entry)) (now (rows .entry)) r
         (now (marks .exit)) (now (rows .exit)) ⌝ }
     ensures { λ _. ⌜ now (t .exit) ≡ now (t .entry) ⌝ }
 {
@@ -239,7 +235,6 @@ fn body(
         t,
         marks,
         rows,
-        around,
     );
     let end = join(marks, z);
     end.own
@@ -254,10 +249,9 @@ fn item(
     t: &mut [u64],
     marks: &mut [u8],
     rows: &mut [u64],
-    around: rowset::RowSet,
 ) -> Zones
-    requires { ⌜ ItemAsks (member around) (now trace) kind deep z (now t) (now marks) (now rows) ⌝ }
-    ensures { λ r. ⌜ ItemLeaves (member around) (now (trace .entry)) z (now (marks .entry)) (now (rows .entry)) r (now (marks .exit))
+    requires { ⌜ ItemAsks (now trace) kind deep z (now t) (now marks) (now rows) ⌝ }
+    ensures { λ r. ⌜ ItemLeaves (now (trace .entry)) z (now (marks .entry)) (now (rows .entry)) r (now (marks .exit))
         (now (rows .exit)) ⌝ }
     ensures { λ _. ⌜ now (t .exit) ≡ now (t .entry) ⌝ }
 {
@@ -271,20 +265,11 @@ fn item(
         return join(marks, z);
     }
     let site = line::site_at(trace, at) as usize;
-    let inside = rowset::with(around, site);
+    let before = walk::credit_of(rows, site);
     store(t, z);
-    let c = body(
-        trace,
-        at + 1,
-        site,
-        deep - 1,
-        &mut t[8..],
-        marks,
-        rows,
-        inside,
-    );
+    let c = body(trace, at + 1, site, deep - 1, &mut t[8..], marks, rows);
     let back = load(t);
-    walk::returned(rows, site, c.work, c.prefix, around);
+    walk::returned(rows, site, c.work, c.prefix, before);
     if kind == 2 {
         return called(marks, back, c);
     }
@@ -408,9 +393,9 @@ fn accepted(
     // the line at which the root's body begins: behind the sites
     let first = count;
     wipe_lines(marks, 0, first);
-    let nowhere = rowset::none();
-    let f = body(text, first, 0, depth - 1, scratch, marks, rows, nowhere);
-    walk::returned(rows, 0, f.work, f.prefix, nowhere);
+    let before = walk::credit_of(rows, 0);
+    let f = body(text, first, 0, depth - 1, scratch, marks, rows);
+    walk::returned(rows, 0, f.work, f.prefix, before);
     column(text, first, lines, scratch, marks, rows);
     trace::Answer::Accepted(f.work, f.prefix, count, lines)
 }

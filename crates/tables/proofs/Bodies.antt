@@ -1,6 +1,5 @@
 -- The body reader: what its loop keeps from item to item, with no code in sight.
 use mathlib.Core.Path.{_≡_, refl, ap, _∙_, sym, subst}
-use mathlib.Core.Bool.{Bool}
 use mathlib.Core.List.{List, []}
 use Prim.Native.Nat.{ℕ, _+_, _-_, _<_}
 use native.Mathlib.Omega.{arith}
@@ -21,33 +20,33 @@ use Rattle.tables.specs.Blocks.{Holds, Joined}
 use Rattle.tables.specs.Reader.{Lent, ItemAsks, ItemLeaves, ItemsLeave, BodyAsks, BodyLeaves}
 use Rattle.tables.proofs.Held.{holds-two, alone-shows}
 
-module _ (around : ℕ → Bool) (s : List ℕ) (row deep n w : ℕ) where
+module _ (s : List ℕ) (row deep n w : ℕ) where
   -- the loop has come from f₀ to f: what is left of the body, and what it comes to, are as from f₀ on
   abbrev Turns : (f₀ : Open) (t₀ rows₀ : List ℕ) (f : Open) (t rows : List ℕ) → Type 0
   Turns f₀ t₀ rows₀ f t rows = (b : Body) (k₀ : Chains) → Stands s (f₀ .at) (linesOf b) → f₀ ≡ numbers (f₀ .at) (f₀ .work) k₀ → Holds n w t₀ k₀ []
-      → (l : Body) × (k : Chains) × Turn around s row f₀ rows₀ b k₀ f rows l k × Holds n w t k []
+      → (l : Body) × (k : Chains) × Turn s row f₀ rows₀ b k₀ f rows l k × Holds n w t k []
 
   turns-start : (f : Open) (t rows : List ℕ) → Turns f t rows f t rows
-  turns-start f t rows b k h e sh = (b, k, turn-start around s row f rows b k h e, sh)
+  turns-start f t rows b k h e sh = (b, k, turn-start s row f rows b k h e, sh)
 
   module _ (kind : ℕ) (f : Open) (t rows : List ℕ) (says : Says kindOf s (f .at) kind) where
-    more : (kind ≡ 5 → ⊥) → (l : Lent around s row deep f t rows n w) → More (l .ready .body)
+    more : (kind ≡ 5 → ⊥) → (l : Lent s row deep f t rows n w) → More (l .ready .body)
     more k5 l = is-more s (f .at) kind says (l .ready .body) (l .ready .stands) k5
 
-    module _ (l : Lent around s row deep f t rows n w) (k5 : kind ≡ 5 → ⊥) (r : Open) (t′ rows′ : List ℕ) (lt : length t′ ≡ length t) (lr : length rows′ ≡ length rows)
-        (done : ItemLeaves around s row f t rows n w r t′ rows′) where
-      left : ItemDone around row f rows (l .ready .body) (l .k) r rows′ × Holds n w t′ (itemChains (f .at) row (l .ready .body) (l .k)) []
+    module _ (l : Lent s row deep f t rows n w) (k5 : kind ≡ 5 → ⊥) (r : Open) (t′ rows′ : List ℕ) (lt : length t′ ≡ length t) (lr : length rows′ ≡ length rows)
+        (done : ItemLeaves s row f t rows n w r t′ rows′) where
+      left : ItemDone row f rows (l .ready .body) (l .k) r rows′ × Holds n w t′ (itemChains (f .at) row (l .ready .body) (l .k)) []
       left = done (l .ready .body) (l .k) (more k5 l) (l .ready .stands) (l .weighs) (l .holds)
 
       goes-on : f .at < r .at
-      goes-on = farther around s row (l .m) deep f rows (l .ready) (more k5 l) (l .k) (l .weighs) r rows′ lr (left .0)
+      goes-on = farther s row (l .m) deep f rows (l .ready) (more k5 l) (l .k) (l .weighs) r rows′ lr (left .0)
 
-      lent-again : Lent around s row deep r t′ rows′ n w
+      lent-again : Lent s row deep r t′ rows′ n w
       lent-again =
           let b = l .ready .body in
           record {
             m = l .m;
-            ready = ready-again around s row (l .m) deep f rows (l .ready) (more k5 l) (l .k) (l .weighs) r rows′ lr (left .0);
+            ready = ready-again s row (l .m) deep f rows (l .ready) (more k5 l) (l .k) (l .weighs) r rows′ lr (left .0);
             blocks = l .blocks;
             wide = l .wide;
             room = omega (arith, l .room, lt);
@@ -61,69 +60,69 @@ module _ (around : ℕ → Bool) (s : List ℕ) (row deep n w : ℕ) where
           let u = turns b k₀ h e sh in
           let m = is-more s (f .at) kind says (u .0) (u .2 .stands) k5 in
           let d = done (u .0) (u .1) m (u .2 .stands) (u .2 .weighs) (u .3) in
-          (rest (u .0), itemChains (f .at) row (u .0) (u .1), turn-again around s row f₀ rows₀ b k₀ f rows (u .0) (u .1) (u .2) len r rows′ m (d .0), d .1)
+          (rest (u .0), itemChains (f .at) row (u .0) (u .1), turn-again s row f₀ rows₀ b k₀ f rows (u .0) (u .1) (u .2) len r rows′ m (d .0), d .1)
 
     turns-done : (f₀ : Open) (t₀ rows₀ : List ℕ) → length rows ≡ length rows₀ → Turns f₀ t₀ rows₀ f t rows → kind ≡ 5 → (b : Body) (k₀ : Chains) → Stands s (f₀ .at) (linesOf b)
-        → f₀ ≡ numbers (f₀ .at) (f₀ .work) k₀ → Holds n w t₀ k₀ [] → ItemsDone around row f₀ rows₀ b k₀ f rows × Holds n w t (run (f₀ .at) row b k₀) []
+        → f₀ ≡ numbers (f₀ .at) (f₀ .work) k₀ → Holds n w t₀ k₀ [] → ItemsDone row f₀ rows₀ b k₀ f rows × Holds n w t (run (f₀ .at) row b k₀) []
     turns-done f₀ t₀ rows₀ len turns k5 b k₀ h e sh =
         let u = turns b k₀ h e sh in
         let z = is-done s (f .at) kind says (u .0) (u .2 .stands) k5 in
         let c : u .1 ≡ run (f₀ .at) row b k₀ = sym (ap (λ (x : Body). run (f .at) row x (u .1)) z) ∙ u .2 .same-chains in
-        (turn-done around s row f₀ rows₀ b k₀ f rows (u .0) (u .1) (u .2) len z, subst (λ (x : Chains). Holds n w t x []) c (u .3))
+        (turn-done s row f₀ rows₀ b k₀ f rows (u .0) (u .1) (u .2) len z, subst (λ (x : Chains). Holds n w t x []) c (u .3))
 
 -- the loop has come from f₀ to f, whose next line is of this kind
-pub record Loop (around : ℕ → Bool) (s : List ℕ) (row deep : ℕ) (f₀ : Open) (t₀ rows₀ t rows : List ℕ) (n w : ℕ) (f : Open) (kind : ℕ) : Type 0 where
+pub record Loop (s : List ℕ) (row deep : ℕ) (f₀ : Open) (t₀ rows₀ t rows : List ℕ) (n w : ℕ) (f : Open) (kind : ℕ) : Type 0 where
   pub kind-is : kind ≡ kindAt s (f .at)
   pub scratch-long : length t ≡ length t₀
   pub rows-long : length rows ≡ length rows₀
-  pub lent : Lent around s row deep f t rows n w
-  pub turns : Turns around s row deep n w f₀ t₀ rows₀ f t rows
+  pub lent : Lent s row deep f t rows n w
+  pub turns : Turns s row deep n w f₀ t₀ rows₀ f t rows
 
-pub loop-start : {around : ℕ → Bool} {s : List ℕ} {row deep : ℕ} {f : Open} {t rows : List ℕ} {n w : ℕ} → Lent around s row deep f t rows n w → (kind : ℕ) → kind ≡ kindAt s (f .at) → Loop around s row deep f t rows t rows n w f kind
-loop-start {around} {s} {row} {deep} {f} {t} {rows} {n} {w} asks kind k = record { kind-is = k; scratch-long = refl; rows-long = refl; lent = asks; turns = turns-start around s row deep n w f t rows }
+pub loop-start : {s : List ℕ} {row deep : ℕ} {f : Open} {t rows : List ℕ} {n w : ℕ} → Lent s row deep f t rows n w → (kind : ℕ) → kind ≡ kindAt s (f .at) → Loop s row deep f t rows t rows n w f kind
+loop-start {s} {row} {deep} {f} {t} {rows} {n} {w} asks kind k = record { kind-is = k; scratch-long = refl; rows-long = refl; lent = asks; turns = turns-start s row deep n w f t rows }
 
-module _ {around : ℕ → Bool} {s : List ℕ} {row deep : ℕ} {f₀ : Open} {t₀ rows₀ t rows : List ℕ} {n w : ℕ} {f : Open} {kind : ℕ} (l : Loop around s row deep f₀ t₀ rows₀ t rows n w f kind) where
+module _ {s : List ℕ} {row deep : ℕ} {f₀ : Open} {t₀ rows₀ t rows : List ℕ} {n w : ℕ} {f : Open} {kind : ℕ} (l : Loop s row deep f₀ t₀ rows₀ t rows n w f kind) where
   says : Says kindOf s (f .at) kind
   says = kind-says s (f .at) (f .at) kind refl (l .kind-is)
 
-  pub loop-asks : (kind ≡ 5 → ⊥) → ItemAsks around s kind row deep f t rows n w
-  loop-asks k5 = record { lent = l .lent; kind-is = l .kind-is; more = more around s row deep n w kind f t rows says k5 (l .lent) }
+  pub loop-asks : (kind ≡ 5 → ⊥) → ItemAsks s kind row deep f t rows n w
+  loop-asks k5 = record { lent = l .lent; kind-is = l .kind-is; more = more s row deep n w kind f t rows says k5 (l .lent) }
 
   -- an item was read: r, and the room behind it
   pub record Next (r : Open) (t′ rows′ : List ℕ) : Type 0 where
     pub more-lines : kind ≡ 5 → ⊥
     pub scratch-long : length t′ ≡ length t
     pub rows-long : length rows′ ≡ length rows
-    pub leaves : ItemLeaves around s row f t rows n w r t′ rows′
+    pub leaves : ItemLeaves s row f t rows n w r t′ rows′
 
   module _ {r : Open} {t′ rows′ : List ℕ} (i : Next r t′ rows′) where
     pub loop-less : 65536 - r .at < 65536 - f .at
     loop-less =
-        let h = goes-on around s row deep n w kind f t rows says (l .lent) (i .more-lines) r t′ rows′ (i .scratch-long) (i .rows-long) (i .leaves) in
+        let h = goes-on s row deep n w kind f t rows says (l .lent) (i .more-lines) r t′ rows′ (i .scratch-long) (i .rows-long) (i .leaves) in
         omega (arith, l .lent .ready .ends, size-some (l .lent .ready .body))
 
-    pub loop-again : (next : ℕ) → next ≡ kindAt s (r .at) → Loop around s row deep f₀ t₀ rows₀ t′ rows′ n w r next
+    pub loop-again : (next : ℕ) → next ≡ kindAt s (r .at) → Loop s row deep f₀ t₀ rows₀ t′ rows′ n w r next
     loop-again next k =
         record {
           kind-is = k;
           scratch-long = i .scratch-long ∙ l .scratch-long;
           rows-long = i .rows-long ∙ l .rows-long;
-          lent = lent-again around s row deep n w kind f t rows says (l .lent) (i .more-lines) r t′ rows′ (i .scratch-long) (i .rows-long) (i .leaves);
-          turns = turns-again around s row deep n w kind f t rows says (l .lent) (i .more-lines) r t′ rows′ (i .scratch-long) (i .rows-long) (i .leaves) f₀ t₀ rows₀ (l .rows-long) (l .turns);
+          lent = lent-again s row deep n w kind f t rows says (l .lent) (i .more-lines) r t′ rows′ (i .scratch-long) (i .rows-long) (i .leaves);
+          turns = turns-again s row deep n w kind f t rows says (l .lent) (i .more-lines) r t′ rows′ (i .scratch-long) (i .rows-long) (i .leaves) f₀ t₀ rows₀ (l .rows-long) (l .turns);
         }
 
-  pub loop-done : kind ≡ 5 → ItemsLeave around s row deep f₀ t₀ rows₀ n w f t rows
-  loop-done k5 = record { lent = l .lent; leaves = turns-done around s row deep n w kind f t rows says f₀ t₀ rows₀ (l .rows-long) (l .turns) k5 }
+  pub loop-done : kind ≡ 5 → ItemsLeave s row deep f₀ t₀ rows₀ n w f t rows
+  loop-done k5 = record { lent = l .lent; leaves = turns-done s row deep n w kind f t rows says f₀ t₀ rows₀ (l .rows-long) (l .turns) k5 }
 
 -- the body may be read from its first line on
-pub begins : {around : ℕ → Bool} {s : List ℕ} {from row deep : ℕ} {t rows : List ℕ} {n w : ℕ} (f : Open) → f ≡ numbers from 0 nothing → BodyAsks around s from row deep t rows n w → Lent around s row deep f t rows n w
-begins {around} {s} {from} {row} {deep} {t} {rows} {n} {w} f e a = subst (λ (x : Open). Lent around s row deep x t rows n w) (sym e) a
+pub begins : {s : List ℕ} {from row deep : ℕ} {t rows : List ℕ} {n w : ℕ} (f : Open) → f ≡ numbers from 0 nothing → BodyAsks s from row deep t rows n w → Lent s row deep f t rows n w
+begins {s} {from} {row} {deep} {t} {rows} {n} {w} f e a = subst (λ (x : Open). Lent s row deep x t rows n w) (sym e) a
 
 -- its items were read from there on, and the join at the return follows
-pub body-leaves : {around : ℕ → Bool} {s : List ℕ} {from row deep : ℕ} {t rows : List ℕ} {n w : ℕ} {f : Open} {t₁ rows₁ : List ℕ} (f₀ : Open) → f₀ ≡ numbers from 0 nothing → ItemsLeave around s row deep f₀ t rows n w f t₁ rows₁
-    → (r : Open) (t₂ : List ℕ) → Joined n w t₁ f r t₂ → BodyLeaves around s from row t rows n w r t₂ rows₁
-body-leaves {around} {s} {from} {row} {deep} {t} {rows} {n} {w} {f} {t₁} {rows₁} f₀ e₀ i r t₂ j b h sh =
-    let o = subst (λ (x : Open). ItemsLeave around s row deep x t rows n w f t₁ rows₁) e₀ i .leaves b nothing h refl (holds-two n w t [] [] sh) in
+pub body-leaves : {s : List ℕ} {from row deep : ℕ} {t rows : List ℕ} {n w : ℕ} {f : Open} {t₁ rows₁ : List ℕ} (f₀ : Open) → f₀ ≡ numbers from 0 nothing → ItemsLeave s row deep f₀ t rows n w f t₁ rows₁
+    → (r : Open) (t₂ : List ℕ) → Joined n w t₁ f r t₂ → BodyLeaves s from row t rows n w r t₂ rows₁
+body-leaves {s} {from} {row} {deep} {t} {rows} {n} {w} {f} {t₁} {rows₁} f₀ e₀ i r t₂ j b h sh =
+    let o = subst (λ (x : Open). ItemsLeave s row deep x t rows n w f t₁ rows₁) e₀ i .leaves b nothing h refl (holds-two n w t [] [] sh) in
     let weighs = own-numbers f (f .at) (0 + workOf b) (run from row b nothing) (o .0 .numbers-are) in
     let d = j (run from row b nothing) weighs (o .1) in
-    (body-done around from row rows b f rows₁ (o .0) r (d .0), alone-shows n w t₂ (chainOf from row b) (d .1))
+    (body-done from row rows b f rows₁ (o .0) r (d .0), alone-shows n w t₂ (chainOf from row b) (d .1))

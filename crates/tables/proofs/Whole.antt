@@ -1,16 +1,13 @@
 -- From acceptance to the promise: the root's room, and what its reading comes to.
 use mathlib.Core.Path.{_≡_, refl, ap, _∙_, sym, subst}
-use mathlib.Core.Bool.{Bool}
 use mathlib.Core.List.{List, [], _++_}
-use Prim.Native.Nat.{ℕ, suc, _+_, _*_, _-_, _^_, _≤_, _<_}
+use Prim.Native.Nat.{ℕ, suc, _+_, _*_, _-_, _≤_, _<_}
 use native.Mathlib.Nat.{suc-mul, mul-comm, mul-assoc}
 use native.Mathlib.Decide.{decLt}
 use native.Mathlib.Omega.{arith}
 use lib.ListN.{length, getD, drop, replicate, length-replicate, List·getD-eq-default}
 use lib.Seq.{ext-getD}
 use Rattle.line.specs.declared.Frame.{Frame}
-use Rattle.rowset.specs.declared.RowSet.{RowSet}
-use Rattle.rowset.specs.Set.{member, Empty}
 use Rattle.trace.specs.declared.Answer.{Answer}
 use Rattle.trace.specs.declared.Answer.the-variants.{Accepted, Refused}
 use Rattle.trace.specs.Shape.{sites}
@@ -29,12 +26,12 @@ use Rattle.admit.specs.declared.Verdict.the-variants as Verdict
 use Rattle.admit.specs.Answer.{admission}
 use Rattle.admit.proofs.Admitted.{refused-only, accepted-only}
 use Rattle.walk.specs.declared.Open.{Open}
-use Rattle.walk.specs.Gain.{nowhere, ReturnFits, returned, Grown}
+use Rattle.walk.specs.declared.Credit.{Credit}
+use Rattle.walk.specs.Gain.{creditOf, ReturnFits, Returned}
 use Rattle.walk.specs.Reader.{alone, BodyDone}
 use Rattle.walk.proofs.Zeros.{zeros-at}
 use Rattle.walk.proofs.Root.{tree}
 use Rattle.walk.proofs.Accepted as root
-use Rattle.walk.proofs.Around.{none-around}
 use Rattle.tables.specs.Blocks.{Shows}
 use Rattle.tables.specs.Reader.{BodyAsks, BodyLeaves}
 use Rattle.tables.specs.Root.{lent, Admitted, Settled}
@@ -71,61 +68,59 @@ module _ {s : List ℕ} {D M : ℕ} {scratch rows : List ℕ} {count lines : ℕ
   abbrev rows₁ : List ℕ
   rows₁ = replicate (columns * (count + 1)) 0 ++ drop (columns * (count + 1)) rows
 
-  -- the room was cleared, no row is open around the root, and they go by these names
-  pub record Blank (t₁ r₁ : List ℕ) (set : RowSet) : Type 0 where
+  -- the room was cleared, and goes by these names
+  pub record Blank (t₁ r₁ : List ℕ) : Type 0 where
     pub scratch-is : t₁ ≡ replicate (length scratch) 0
     pub rows-are : r₁ ≡ rows₁
-    pub empty : Empty set
 
-  pub root-asks : {t₁ r₁ : List ℕ} {set : RowSet} → Blank t₁ r₁ set → ((i : ℕ) → getD rows i 0 < 2 ^ 64)
-      → BodyAsks (member set) s first 0 (D - 1) t₁ r₁ (M + 3) (count + 1)
-  root-asks {t₁} {r₁} {set} z fits =
-      subst (λ (o : ℕ → Bool). BodyAsks o s first 0 (D - 1) t₁ r₁ (M + 3) (count + 1)) (sym (none-around set (z .empty)))
-      (subst (λ (x : List ℕ). BodyAsks nowhere s first 0 (D - 1) x r₁ (M + 3) (count + 1)) (sym (z .scratch-is))
-      (subst (λ (y : List ℕ). BodyAsks nowhere s first 0 (D - 1) (replicate (length scratch) 0) y (M + 3) (count + 1)) (sym (z .rows-are))
+  pub root-asks : {t₁ r₁ : List ℕ} → Blank t₁ r₁ → BodyAsks s first 0 (D - 1) t₁ r₁ (M + 3) (count + 1)
+  root-asks {t₁} {r₁} z =
+      subst (λ (x : List ℕ). BodyAsks s first 0 (D - 1) x r₁ (M + 3) (count + 1)) (sym (z .scratch-is))
+      (subst (λ (y : List ℕ). BodyAsks s first 0 (D - 1) (replicate (length scratch) 0) y (M + 3) (count + 1)) (sym (z .rows-are))
       (record {
         m = sites (a .t);
-        ready = root.ready tables s D M (lent scratch rows) (a .t) (a .is) count (a .count-is) fits;
+        ready = root.ready tables s D M (lent scratch rows) (a .t) (a .is) count (a .count-is);
         blocks = omega (arith, limits .3);
         wide = omega (arith, a .count-is);
         room = omega (arith, scratch-long, room-is D (M + 3) (limits .0), length-replicate {A = ℕ} (length scratch) 0);
         k = nothing;
         weighs = refl;
         holds = holds-two (M + 3) (count + 1) (replicate (length scratch) 0) [] [] (zeros-show (M + 3) (count + 1) (length scratch));
-      })))
+      }))
 
-  -- the root was read: its numbers are c, and it left the scratch t₂ and the rows rows₂
-  pub record Read (c : Open) (t₂ rows₂ : List ℕ) (set : RowSet) : Type 0 where
+  -- columns 2 and 3 of its row can be taken
+  pub credit-asks : {t₁ r₁ : List ℕ} → Blank t₁ r₁ → slot 0 Column.span < length r₁
+  credit-asks z = omega (arith, ap length (z .rows-are), root.row-there tables s D M (lent scratch rows) (a .t) (a .is) count (a .count-is))
+
+  -- The root was read: its numbers are c, and it left the scratch t₂ and the rows rows₂. Before it, columns 2 and 3 of its
+  -- row were taken.
+  pub record Read (before : Credit) (c : Open) (t₂ rows₂ : List ℕ) : Type 0 where
     pub t₁ : List ℕ
     pub r₁ : List ℕ
-    pub blank : Blank t₁ r₁ set
+    pub blank : Blank t₁ r₁
+    pub taken : before ≡ creditOf r₁ 0
     pub scratch-same : length t₂ ≡ length scratch
     pub rows-same : length rows₂ ≡ length rows
-    pub leaves : BodyLeaves (member set) s first 0 t₁ r₁ (M + 3) (count + 1) c t₂ rows₂
+    pub leaves : BodyLeaves s first 0 t₁ r₁ (M + 3) (count + 1) c t₂ rows₂
 
   -- what its reading comes to
-  module _ {c : Open} {t₂ rows₂ : List ℕ} {set : RowSet} (u : Read c t₂ rows₂ set) where
-    around-none : member set ≡ nowhere
-    around-none = none-around set (u .blank .empty)
+  module _ {before : Credit} {c : Open} {t₂ rows₂ : List ℕ} (u : Read before c t₂ rows₂) where
+    took : before ≡ creditOf rows₁ 0
+    took = u .taken ∙ ap (λ (y : List ℕ). creditOf y 0) (u .blank .rows-are)
 
     abbrev b : Body
     b = root.body tables s D M (lent scratch rows) (a .t) (a .is) count (a .count-is)
 
-    left : BodyDone nowhere first 0 rows₁ b c rows₂ × Shows (M + 3) (count + 1) t₂ (alone (chainOf first 0 b)) []
+    left : BodyDone first 0 rows₁ b c rows₂ × Shows (M + 3) (count + 1) t₂ (alone (chainOf first 0 b)) []
     left =
         let h = u .leaves b (root.stands tables s D M (lent scratch rows) (a .t) (a .is) count (a .count-is)) (subst (λ (x : List ℕ). Shows (M + 3) (count + 1) x nothing []) (sym (u .blank .scratch-is)) (zeros-show (M + 3) (count + 1) (length scratch))) in
-        (subst (λ (y : List ℕ). BodyDone nowhere first 0 y b c rows₂) (u .blank .rows-are) (subst (λ (o : ℕ → Bool). BodyDone o first 0 (u .r₁) b c rows₂) around-none (h .0)), h .1)
+        (subst (λ (y : List ℕ). BodyDone first 0 y b c rows₂) (u .blank .rows-are) (h .0), h .1)
 
-    pub root-counts : ReturnFits (member set) rows₂ 0 (c .work) (c .prefix)
-    root-counts =
-        subst (λ (o : ℕ → Bool). ReturnFits o rows₂ 0 (c .work) (c .prefix)) (sym around-none)
-        (root.count-fits tables s D M (lent scratch rows) (a .t) (a .is) count (a .count-is) c rows₂ (u .rows-same) (left .0))
+    pub root-counts : ReturnFits before rows₂ 0 (c .work) (c .prefix)
+    root-counts = root.count-fits tables s D M (lent scratch rows) (a .t) (a .is) count (a .count-is) before took c rows₂ (u .rows-same) (left .0)
 
     -- the root itself, and its table
-    module _ {rows₃ : List ℕ} (counted : Grown rows₂ (returned (member set) 0 (c .work) (c .prefix)) rows₃) {t₃ rows₄ : List ℕ} (settled : Settled (count + 1) t₂ rows₃ t₃ rows₄) (l₃ : length t₃ ≡ length scratch) (l₄ : length rows₄ ≡ length rows) where
-      counts : Grown rows₂ (returned nowhere 0 (c .work) (c .prefix)) rows₃
-      counts = subst (λ (o : ℕ → Bool). Grown rows₂ (returned o 0 (c .work) (c .prefix)) rows₃) around-none counted
-
+    module _ {rows₃ : List ℕ} (counts : Returned before 0 (c .work) (c .prefix) rows₂ rows₃) {t₃ rows₄ : List ℕ} (settled : Settled (count + 1) t₂ rows₃ t₃ rows₄) (l₃ : length t₃ ≡ length scratch) (l₄ : length rows₄ ≡ length rows) where
       abbrev answer : Answer
       answer = Accepted (c .work) (c .prefix) count lines
 
@@ -135,7 +130,7 @@ module _ {s : List ℕ} {D M : ℕ} {scratch rows : List ℕ} {count lines : ℕ
           go : Dec (j ≡ Column.onSpan) → getD rows₄ (slot k j) 0 ≡ cell count b k j
           go (no q) =
               settled .others (slot k j) (λ x y e. q (slot-apart k x j Column.onSpan e .1))
-              ∙ root.cells tables s D M (lent scratch rows) (a .t) (a .is) count (a .count-is) c rows₂ (u .rows-same) (left .0) rows₃ counts k j h q
+              ∙ root.cells tables s D M (lent scratch rows) (a .t) (a .is) count (a .count-is) before took c rows₂ (u .rows-same) (left .0) rows₃ counts k j h q
           go (yes e) =
               let z : k ≡ 0 + k = omega arith in
               rw e (settled .on-span k (omega arith) ∙ ap (λ (x : ℕ). getD t₂ x 0) z ∙ left .1 .P k (omega arith))
@@ -145,7 +140,7 @@ module _ {s : List ℕ} {D M : ℕ} {scratch rows : List ℕ} {count lines : ℕ
         where
           go : Dec (i < length rows) → getD rows₄ i 0 ≡ getD rows i 0
           go (yes q) =
-              settled .others i (λ x y e. omega arith) ∙ root.rest tables s D M (lent scratch rows) (a .t) (a .is) count (a .count-is) c rows₂ (u .rows-same) (left .0) rows₃ counts i h q
+              settled .others i (λ x y e. omega arith) ∙ root.rest tables s D M (lent scratch rows) (a .t) (a .is) count (a .count-is) before took c rows₂ (u .rows-same) (left .0) rows₃ counts i h q
           go (no q) = List·getD-eq-default rows₄ 0 {n = i} (omega arith) ∙ sym (List·getD-eq-default rows 0 {n = i} (omega arith))
 
       scratch-zero : t₃ ≡ replicate (length scratch) 0
@@ -158,8 +153,8 @@ module _ {s : List ℕ} {D M : ℕ} {scratch rows : List ℕ} {count lines : ℕ
       by-tree : ProfileBy tables count first b (lent scratch rows) answer (lent t₃ rows₄)
       by-tree =
           let fine = root.fine tables s D M (lent scratch rows) (a .t) (a .is) count (a .count-is) in
-          let work-is = root.work-is tables s D M (lent scratch rows) (a .t) (a .is) count (a .count-is) c rows₂ (u .rows-same) (left .0) in
-          let span-is = root.span-is tables s D M (lent scratch rows) (a .t) (a .is) count (a .count-is) c rows₂ (u .rows-same) (left .0) in
+          let work-is = root.work-is tables s D M (lent scratch rows) (a .t) (a .is) count (a .count-is) before took c rows₂ (u .rows-same) (left .0) in
+          let span-is = root.span-is tables s D M (lent scratch rows) (a .t) (a .is) count (a .count-is) before took c rows₂ (u .rows-same) (left .0) in
           record {
             answer =
                 ap (λ (x : ℕ). Accepted x (c .prefix) count lines) work-is

@@ -9,7 +9,6 @@
 ghost use mathlib.Core.Path.{_≡_};
 ghost use Prim.Native.Nat.{ℕ, _+_, _*_, _^_, _≤_, _<_};
 ghost use lib.ListN.{length, getD};
-ghost use Rattle.rowset.specs.Set.{member};
 ghost use Rattle.trace.specs.Rows.{columns};
 ghost use Rattle.trace.specs.Promise.{tables, Promise};
 ghost use Rattle.tables.specs.Blocks.{Added, Cleared, Weighed, sinceAt, partAt, Asks, Spent, Joined, Called, Spawned};
@@ -162,8 +161,7 @@ fn spawned(t: &mut [u64], n: usize, w: usize, f: walk::Open, s: usize, c: walk::
 }
 
 // Reads the items of an invocation of a row, which has come to f, up to its return, and leaves the join to its caller.
-// At most deep more invocations open inside one another. The set has the rows that are open at the items, but for the
-// root's, which no line makes.
+// At most deep more invocations open inside one another.
 fn read_items(
     trace: &[u8],
     f: walk::Open,
@@ -173,16 +171,15 @@ fn read_items(
     rows: &mut [u64],
     n: usize,
     w: usize,
-    around: rowset::RowSet,
 ) -> walk::Open
-    requires { ⌜ Lent (member around) (now trace) row deep f (now t) (now rows) n w ⌝ }
-    ensures { λ r. ⌜ ItemsLeave (member around) (now (trace .entry)) row deep f (now (t .entry)) (now (rows .entry)) n w r
+    requires { ⌜ Lent (now trace) row deep f (now t) (now rows) n w ⌝ }
+    ensures { λ r. ⌜ ItemsLeave (now (trace .entry)) row deep f (now (t .entry)) (now (rows .entry)) n w r
         (now (t .exit)) (now (rows .exit)) ⌝ }
 {
     let mut g = f;
     let mut kind = line::kind_at(trace, f.at);
     while kind != 5 {
-        g = item(trace, kind, g, row, deep, t, rows, n, w, around);
+        g = item(trace, kind, g, row, deep, t, rows, n, w);
         kind = line::kind_at(trace, g.at);
     }
     g
@@ -198,23 +195,12 @@ fn body(
     rows: &mut [u64],
     n: usize,
     w: usize,
-    around: rowset::RowSet,
 ) -> walk::Open
-    requires { ⌜ BodyAsks (member around) (now trace) from row deep (now t) (now rows) n w ⌝ }
-    ensures { λ r. ⌜ BodyLeaves (member around) (now (trace .entry)) from row (now (t .entry)) (now (rows .entry)) n w r
+    requires { ⌜ BodyAsks (now trace) from row deep (now t) (now rows) n w ⌝ }
+    ensures { λ r. ⌜ BodyLeaves (now (trace .entry)) from row (now (t .entry)) (now (rows .entry)) n w r
         (now (t .exit)) (now (rows .exit)) ⌝ }
 {
-    let f = read_items(
-        trace,
-        walk::Open::new(from),
-        row,
-        deep,
-        t,
-        rows,
-        n,
-        w,
-        around,
-    );
+    let f = read_items(trace, walk::Open::new(from), row, deep, t, rows, n, w);
     join(t, n, w, f)
 }
 
@@ -229,10 +215,9 @@ fn item(
     rows: &mut [u64],
     n: usize,
     w: usize,
-    around: rowset::RowSet,
 ) -> walk::Open
-    requires { ⌜ ItemAsks (member around) (now trace) kind row deep f (now t) (now rows) n w ⌝ }
-    ensures { λ r. ⌜ ItemLeaves (member around) (now (trace .entry)) row f (now (t .entry)) (now (rows .entry)) n w r (now (t .exit))
+    requires { ⌜ ItemAsks (now trace) kind row deep f (now t) (now rows) n w ⌝ }
+    ensures { λ r. ⌜ ItemLeaves (now (trace .entry)) row f (now (t .entry)) (now (rows .entry)) n w r (now (t .exit))
         (now (rows .exit)) ⌝ }
 {
     let at = f.at;
@@ -245,20 +230,10 @@ fn item(
         return join(t, n, w, f);
     }
     let site = line::site_at(trace, at) as usize;
-    let inside = rowset::with(around, site);
     let o = part(n, f);
-    let c = body(
-        trace,
-        at + 1,
-        site,
-        deep - 1,
-        &mut t[o..],
-        rows,
-        n,
-        w,
-        inside,
-    );
-    walk::returned(rows, site, c.work, c.prefix, around);
+    let before = walk::credit_of(rows, site);
+    let c = body(trace, at + 1, site, deep - 1, &mut t[o..], rows, n, w);
+    walk::returned(rows, site, c.work, c.prefix, before);
     if kind == 2 {
         return called(t, n, w, f, site, c);
     }
@@ -296,7 +271,7 @@ fn accepted(
     walk::zero(rows, trace::COLUMNS * (count + 1));
     // the line at which the root's body begins: behind the sites
     let first = count;
-    let nowhere = rowset::none();
+    let before = walk::credit_of(rows, 0);
     let f = body(
         text,
         first,
@@ -306,9 +281,8 @@ fn accepted(
         rows,
         sites + 3,
         count + 1,
-        nowhere,
     );
-    walk::returned(rows, 0, f.work, f.prefix, nowhere);
+    walk::returned(rows, 0, f.work, f.prefix, before);
     settle(scratch, rows, count + 1);
     trace::Answer::Accepted(f.work, f.prefix, count, lines)
 }

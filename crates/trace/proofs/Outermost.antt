@@ -5,13 +5,12 @@ use mathlib.Core.List.{List, [], _∷_, _++_, append-assoc}
 use Prim.Native.Nat.{ℕ, zero, suc, _+_, _≤_}
 use native.Mathlib.Omega.{arith}
 use lib.Dec.{eqb}
-use borrow.Author.Tests.{ne-eqb}
 use Rattle.line.specs.declared.Frame.{Frame}
 use Rattle.trace.specs.Shape.{Is, root, openAt, has}
 use Rattle.trace.specs.Series.{Span}
 use Rattle.trace.specs.Rows.{made, hasOf, enclosed, unenclosed, outermost, total, inside, Sum, work, Spans}
 use Rattle.trace.specs.Refusals.{accepted, verdict}
-use Rattle.trace.specs.Tree.{Way, opening, Body, done, leaf, child, linesOf, size, Within, Parts, workOf, spanOf, outerSum, outerRow, workIn, spansIn, rootAt}
+use Rattle.trace.specs.Tree.{Way, opening, Body, done, leaf, child, linesOf, size, Parts, workOf, spanOf, outerSum, outerRow, workIn, spansIn, rootAt}
 use Rattle.trace.proofs.Sums.{not-made, has-made}
 use Rattle.trace.proofs.Recurrence.{Paid}
 use Rattle.trace.proofs.Context.{Ctx, at-open}
@@ -102,18 +101,6 @@ outer-sum D t x p h is (suc s) =
     subst (λ (z : List ℕ). Sum p (unenclosed t (suc s) z) (outerSum h (suc s) (x .body))) (sym (made-whole D t x (suc s)))
     (subst (Sum p (unenclosed t (suc s) (made (rootAt x) (linesOf (x .body) ++ []) (suc s)))) f
     (adds t s p h is (x .body) (rootAt x) root [] [] 0 false (root-paid D t x) k (root-ctx D t x) refl))
-
--- no site is 0
-pub no-outer-from-root : (h : Body → ℕ) (m D d : ℕ) (b : Body) → Within m D d b → outerSum h 0 b ≡ 0
-no-outer-from-root h m D d done w = refl
-no-outer-from-root h m D d (leaf l r) w = no-outer-from-root h m D d r (w .1)
-no-outer-from-root h m D d (child k i g r) w =
-    omega (
-      arith,
-      ap (λ (b : Bool). cond b (h g) (outerSum h 0 g)) (ne-eqb i 0 (λ q. omega (arith, w .0))),
-      no-outer-from-root h m D (suc d) g (w .3),
-      no-outer-from-root h m D d r (w .4),
-    )
 
 -- ── columns 2 and 3, and no row above the whole ──
 

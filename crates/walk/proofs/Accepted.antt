@@ -3,8 +3,7 @@
 use mathlib.Core.Path.{_≡_, ap, _∙_, subst}
 use mathlib.Core.Bool.{_&&_}
 use mathlib.Core.List.{List, _++_}
-use Prim.Native.Nat.{ℕ, _+_, _*_, _-_, _^_, _≤_, _<_}
-use native.Mathlib.Decide.{decLt}
+use Prim.Native.Nat.{ℕ, _+_, _*_, _-_, _≤_, _<_}
 use native.Mathlib.Omega.{arith}
 use lib.Dec.{leb}
 use lib.ListN.{length, getD, drop, replicate}
@@ -23,14 +22,15 @@ use Rattle.trace.proofs.Slots.{slot-in}
 use Rattle.trace.proofs.Scan.{Fine, accepted-is, accepted-fine}
 use Rattle.trace.proofs.Invocations.{root-behind-sites}
 use Rattle.trace.proofs.Accept.{sites-le-M}
-use Rattle.trace.proofs.Recurrence.{weight-chain}
 use Rattle.walk.specs.declared.Open.{Open}
+use Rattle.walk.specs.declared.Credit.{Credit}
 use Rattle.walk.specs.Stands.{Stands}
 use Rattle.walk.specs.Numbers.{numbers}
-use Rattle.walk.specs.Gain.{nowhere, ColumnFits, ReturnFits, returned, made, Grown}
+use Rattle.walk.specs.Gain.{creditOf, ReturnFits, Returned, made, Grown}
 use Rattle.walk.specs.Reader.{Ready, BodyDone}
-use Rattle.walk.proofs.Columns.{whole-on}
-use Rattle.walk.proofs.Root.{tree, whole-small, root-stands, root-ready, cells-are, behind}
+use Rattle.walk.proofs.Return.{Came, came, return-fits, made-grown}
+use Rattle.walk.proofs.Columns.{root-on}
+use Rattle.walk.proofs.Root.{tree, root-small, root-stands, root-ready, cells-are, behind}
 use Rattle.walk.proofs.Zeros.{cleared-length, cleared-front, cleared-back}
 
 module _ (e : Engine) (s : List ℕ) (D M : ℕ) (x : Lent) (t : List Frame) (is : verdict s D M (enough e s D M x) ≡ accepted t) (count : ℕ) (count-is : sites t ≡ count) where
@@ -74,51 +74,50 @@ module _ (e : Engine) (s : List ℕ) (D M : ℕ) (x : Lent) (t : List Frame) (is
   pub stands : Stands s first (linesOf body)
   stands = subst (λ (k : ℕ). Stands s k (linesOf body)) first-is (root-stands D M t fine s (enough e s D M x) is)
 
-  pub ready : ((i : ℕ) → getD (x .rows) i 0 < 2 ^ 64) → Ready nowhere s 0 (sites t) (D - 1) (numbers first 0 nothing) cleared
-  ready fits =
-      subst (λ (k : ℕ). Ready nowhere s 0 (sites t) (D - 1) (numbers k 0 nothing) cleared) first-is
-      (root-ready D M t fine s (enough e s D M x) is cleared (omega (arith, cleared-long, rows-room, count-is)) zeros (λ i. small i (decLt i (columns * (count + 1)))))
-    where
-      small : (i : ℕ) → Dec (i < columns * (count + 1)) → getD cleared i 0 < 2 ^ 64
-      small i (yes l) = omega (arith, zeros i (omega (arith, count-is)))
-      small i (no l) = omega (arith, cleared-back (x .rows) (columns * (count + 1)) rows-room i (omega arith), fits i)
+  pub ready : Ready s 0 (sites t) (D - 1) (numbers first 0 nothing) cleared
+  ready =
+      subst (λ (k : ℕ). Ready s 0 (sites t) (D - 1) (numbers k 0 nothing) cleared) first-is
+      (root-ready D M t fine s (enough e s D M x) is cleared (omega (arith, cleared-long, rows-room, count-is)) zeros)
 
-  -- the root's body was read: its numbers are c
-  module _ (c : Open) (rows₁ : List ℕ) (same : length rows₁ ≡ length (x .rows)) (done : BodyDone nowhere first 0 cleared body c rows₁) where
+  -- the root's row is there
+  pub row-there : slot 0 Column.span < length cleared
+  row-there = omega (arith, cleared-long, rows-room)
+
+  -- The root's body was read: its numbers are c, and before is what columns 2 and 3 of its row held.
+  module _ (before : Credit) (before-is : before ≡ creditOf cleared 0) (c : Open) (rows₁ : List ℕ) (same : length rows₁ ≡ length (x .rows))
+      (done : BodyDone first 0 cleared body c rows₁) where
+    read : Came 0 body cleared before (c .work) (c .prefix) rows₁
+    read = came first 0 body cleared before c rows₁ before-is (omega (arith, same, cleared-long)) done
+
     pub work-is : c .work ≡ workOf body
-    work-is = ap (λ (y : Open). y .work) (done .numbers-are)
+    work-is = read .work-is
 
     pub span-is : c .prefix ≡ spanOf body
-    span-is = ap (λ (y : Open). y .prefix) (done .numbers-are) ∙ weight-chain body first 0
+    span-is = read .span-is
 
-    pub count-fits : ReturnFits nowhere rows₁ 0 (c .work) (c .prefix)
-    count-fits = (fits Column.calls 1 (omega arith), λ e. (fits Column.work (c .work) (omega (arith, work-is)), fits Column.span (c .prefix) (omega (arith, span-is))))
-      where
-        fits : (k : Column) (v : ℕ) → v ≤ made nowhere 0 body (slot 0 k) → ColumnFits rows₁ 0 k v
-        fits k v h =
-            let i = slot-in count 0 k (omega arith) in
-            (omega (arith, same, rows-room), omega (arith, done .rows-are (slot 0 k) (omega (arith, cleared-long, rows-room)), zeros (slot 0 k) (omega (arith, count-is)), whole-small D M t fine (slot 0 k)))
+    pub count-fits : ReturnFits before rows₁ 0 (c .work) (c .prefix)
+    count-fits = return-fits read row-there (λ k. omega (arith, zeros (slot 0 k) (omega (arith, slot-in count 0 k (omega arith), count-is)), root-small D M t fine))
 
     -- and the root was counted
-    module _ (rows₂ : List ℕ) (counts : Grown rows₁ (returned nowhere 0 (c .work) (c .prefix)) rows₂) where
-      itself : Grown rows₁ (made nowhere 0 body) rows₂
-      itself i l = counts i l ∙ ap (λ (y : ℕ). getD rows₁ i 0 + returned nowhere 0 y (c .prefix) i) work-is ∙ ap (λ (y : ℕ). getD rows₁ i 0 + returned nowhere 0 (workOf body) y i) span-is
+    module _ (rows₂ : List ℕ) (counts : Returned before 0 (c .work) (c .prefix) rows₁ rows₂) where
+      grown : Grown cleared (made 0 body) rows₂
+      grown = made-grown read rows₂ counts
 
       long : columns * (sites t + 1) ≤ length cleared
       long = omega (arith, cleared-long, rows-room, count-is)
 
       pub cells : (k : ℕ) (j : Column) → k ≤ count → (j ≡ Column.onSpan → ⊥) → getD rows₂ (slot k j) 0 ≡ cell count body k j
       cells k j h l =
-          cells-are D M t fine cleared rows₁ rows₂ long (omega (arith, same, cleared-long)) zeros (done .rows-are) itself k j (omega (arith, count-is)) l
+          cells-are D M t fine cleared rows₂ long zeros grown k j (omega (arith, count-is)) l
           ∙ ap (λ (m : ℕ). cell m body k j) count-is
 
       -- column 5 is still zero
       pub none-on : (k : ℕ) → k ≤ count → getD rows₂ (slot k Column.onSpan) 0 ≡ 0
       none-on k h =
           let w = tree D M t fine .within in
-          omega (arith, itself (slot k Column.onSpan) (omega (arith, same, rows-room)), done .rows-are (slot k Column.onSpan) (omega (arith, cleared-long, rows-room)), zeros (slot k Column.onSpan) (omega (arith, count-is)), whole-on (sites t) D 1 body w k)
+          omega (arith, grown (slot k Column.onSpan) (omega (arith, cleared-long, rows-room)), zeros (slot k Column.onSpan) (omega (arith, count-is)), root-on (sites t) D 1 body w k)
 
       pub rest : (i : ℕ) → columns * (count + 1) ≤ i → i < length (x .rows) → getD rows₂ i 0 ≡ getD (x .rows) i 0
       rest i h l =
-          behind D M t fine cleared rows₁ rows₂ long (omega (arith, same, cleared-long)) zeros (done .rows-are) itself i (omega (arith, count-is)) (omega (arith, cleared-long))
+          behind D M t fine cleared rows₂ long zeros grown i (omega (arith, count-is)) (omega (arith, cleared-long))
           ∙ cleared-back (x .rows) (columns * (count + 1)) rows-room i h

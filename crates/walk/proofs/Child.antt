@@ -3,27 +3,28 @@
 use mathlib.Core.Path.{_≡_, refl, ap, _∙_, sym, subst}
 use mathlib.Core.Bool.{Bool, true, false}
 use mathlib.Core.List.{List}
-use Prim.Native.Nat.{ℕ, suc, _+_, _-_, _^_, _≤_, _<_}
+use Prim.Native.Nat.{ℕ, suc, _+_, _*_, _-_, _^_, _≤_, _<_}
 use native.Mathlib.Omega.{arith}
 use lib.Dec.{eqb}
 use lib.ListN.{length, getD}
 use borrow.Author.Tests.{eqb-true, eqb-false}
 use Rattle.line.specs.declared.Frame.the-variants.{Call, Spawn, Cost}
 use Rattle.chain.specs.Plan.{weight}
+use Rattle.trace.specs.Rows.{columns}
 use Rattle.trace.specs.Column.{Column, slot}
-use Rattle.trace.specs.Tree.{Way, call, spawn, spend, Body, leaf, child, linesOf, size, Within, workOf, spanOf}
+use Rattle.trace.specs.Tree.{Way, call, spawn, spend, Body, leaf, child, linesOf, size, Within, workOf}
 use Rattle.trace.specs.Fold.{Chains, nothing, chainOf}
 use Rattle.trace.proofs.Slots.{slot-in}
-use Rattle.trace.proofs.Recurrence.{weight-chain}
 use Rattle.walk.specs.declared.Open.{Open}
+use Rattle.walk.specs.declared.Credit.{Credit}
 use Rattle.walk.specs.Stands.{Stands, Says, kindOf, siteOf, valueOf}
 use Rattle.walk.specs.Numbers.{numbers}
-use Rattle.walk.specs.Gain.{also, unless, ColumnFits, ReturnFits, credited, returned, made, gain, Grown}
+use Rattle.walk.specs.Gain.{ColumnFits, creditOf, ReturnFits, Returned, made}
 use Rattle.walk.specs.Item.{More}
 use Rattle.walk.specs.Reader.{Ready, BodyDone}
 use Rattle.walk.proofs.Items.{stands-left}
 use Rattle.walk.proofs.Lines.{is-spend, is-call, is-spawn}
-use Rattle.walk.proofs.Rows.{one-same}
+use Rattle.walk.proofs.Return.{came, return-fits, made-grown}
 
 -- what stands at line n, where a line of this kind does
 module _ (s : List ℕ) (n kind : ℕ) (says : Says kindOf s n kind) where
@@ -69,12 +70,12 @@ child-is s n kind site says sited k6 k4 b h m = go (eqb kind 2) refl
 pub within-child : (s : List ℕ) (n site m D d : ℕ) (b : Body) (c : Child s n site b) → Within m D d b → (site ≤ m) × (suc d ≤ D) × Within m D (suc d) (c .g) × (1 + size (c .g) ≤ size b)
 within-child s n site m D d b c w = let h = subst (Within m D d) (c .is) w in (h .1, h .2, h .3, omega (arith, ap size (c .is)))
 
-module _ (around : ℕ → Bool) (s : List ℕ) (row m deep : ℕ) (f : Open) (rows : List ℕ) (y : Ready around s row m deep f rows) where
+module _ (s : List ℕ) (row m deep : ℕ) (f : Open) (rows : List ℕ) (y : Ready s row m deep f rows) where
   -- a cost of v fits the rows, the work and the chains
   pub cost-fits : (v : ℕ) (r : Body) → y .body ≡ leaf (spend v) r
       → ColumnFits rows row Column.local v × ((f .work + v < 2 ^ 64) × (f .prefix + (f .longest + f .since) + v < 2 ^ 64))
   cost-fits v r e = (
-    (omega (arith, y .row-in, y .rows-long), omega (arith, y .rows-fit (slot row Column.local), ap (λ (x : Body). gain around row x (slot row Column.local)) e, one-same (slot row Column.local) v)),
+    (omega (arith, y .row-in, y .rows-long), omega (arith, y .rows-fit (slot row Column.local) (slot-in m row Column.local (y .row-in)), ap workOf e)),
     (omega (arith, y .work-fits, ap workOf e), omega (arith, y .load-fits, ap workOf e)),
   )
 
@@ -86,9 +87,6 @@ module _ (around : ℕ → Bool) (s : List ℕ) (row m deep : ℕ) (f : Open) (r
     pub child-work : (f .work + workOf inner < 2 ^ 64) × (f .prefix + (f .longest + f .since) + workOf inner < 2 ^ 64)
     child-work = (omega (arith, y .work-fits, ap workOf (c .is)), omega (arith, y .load-fits, ap workOf (c .is)))
 
-    child-gains : (i : ℕ) → getD rows i 0 + (made around site inner i + gain (also site around) site inner i) < 2 ^ 64
-    child-gains i = omega (arith, y .rows-fit i, ap (λ (x : Body). gain around row x i) (c .is))
-
     in-it : (site ≤ m) × (suc (y .d) ≤ y .D) × Within m (y .D) (suc (y .d)) inner × (1 + size inner ≤ size (y .body))
     in-it = within-child s (f .at) site m (y .D) (y .d) (y .body) c (y .within)
 
@@ -98,7 +96,14 @@ module _ (around : ℕ → Bool) (s : List ℕ) (row m deep : ℕ) (f : Open) (r
     pub child-ends : f .at + 1 + size inner ≤ f .at + size (y .body)
     child-ends = omega (arith, in-it .3)
 
-    pub child-ready : Ready (also site around) s site m (deep - 1) (numbers (f .at + 1) 0 nothing) rows
+    child-fits : (i : ℕ) → i < columns * (m + 1) → getD rows i 0 + (1 + size inner + workOf inner) < 2 ^ 64
+    child-fits i l = omega (arith, y .rows-fit i l, in-it .3, ap workOf (c .is))
+
+    -- its row is there
+    pub child-row : slot site Column.span < length rows
+    child-row = omega (arith, slot-in m site Column.span (in-it .0), y .rows-long)
+
+    pub child-ready : Ready s site m (deep - 1) (numbers (f .at + 1) 0 nothing) rows
     child-ready =
         record {
           body = inner;
@@ -108,58 +113,37 @@ module _ (around : ℕ → Bool) (s : List ℕ) (row m deep : ℕ) (f : Open) (r
           within = in-it .2;
           depth = omega (arith, y .depth, deeper);
           row-in = in-it .0;
-          few = y .few;
           rows-long = y .rows-long;
           ends = omega (arith, child-ends, y .ends);
           work-fits = omega (arith, child-work .0);
           load-fits = omega (arith, child-work .1);
-          rows-fit = λ i. omega (arith, child-gains i);
+          rows-fit = λ i l. omega (arith, child-fits i l);
         }
 
     -- what the child came to can be counted
-    module _ (r : Open) (rows₁ : List ℕ) (len : length rows₁ ≡ length rows) (done : BodyDone (also site around) (f .at + 1) site rows inner r rows₁) where
-      work-is : r .work ≡ workOf inner
-      work-is = ap (λ (x : Open). x .work) (done .numbers-are)
-
-      pub span-is : r .prefix ≡ spanOf inner
-      span-is = ap (λ (x : Open). x .prefix) (done .numbers-are) ∙ weight-chain inner (f .at + 1) site
-
-      pub count-fits : ReturnFits around rows₁ site (r .work) (r .prefix)
-      count-fits = (
-        fits Column.calls 1 (omega (arith, one-same (slot site Column.calls) 1)),
-        λ e. (
-          fits Column.work (r .work) (omega (arith, credit e Column.work, one-same (slot site Column.work) (workOf inner), work-is)),
-          fits Column.span (r .prefix) (omega (arith, credit e Column.span, one-same (slot site Column.span) (spanOf inner), span-is)),
-        ),
-      )
-        where
-          -- where the site is not open around it, the child is credited
-          credit : around site ≡ false → (k : Column) → credited site (workOf inner) (spanOf inner) (slot site k) ≤ made around site inner (slot site k)
-          credit e k = omega (arith, ap (λ (z : Bool). unless z (credited site (workOf inner) (spanOf inner) (slot site k))) e)
-
-          fits : (k : Column) (v : ℕ) → v ≤ made around site inner (slot site k) → ColumnFits rows₁ site k v
-          fits k v h =
-              let i = slot-in m site k (in-it .0) in
-              (omega (arith, len, y .rows-long), omega (arith, done .rows-are (slot site k) (omega (arith, y .rows-long)), child-gains (slot site k)))
+    pub count-fits : (before : Credit) (r : Open) (rows₁ : List ℕ) → before ≡ creditOf rows site → length rows₁ ≡ length rows
+        → BodyDone (f .at + 1) site rows inner r rows₁ → ReturnFits before rows₁ site (r .work) (r .prefix)
+    count-fits before r rows₁ b len done =
+        return-fits (came (f .at + 1) site inner rows before r rows₁ b len done) child-row
+        (λ k. child-fits (slot site k) (slot-in m site k (in-it .0)))
 
 -- the numbers and the rows behind a child that was counted, whatever body it is
-pub record ChildDone (around : ℕ → Bool) (f : Open) (site : ℕ) (rows : List ℕ) (g : Body) (r : Open) (rows₂ : List ℕ) : Type 0 where
+pub record ChildDone (f : Open) (site : ℕ) (rows : List ℕ) (g : Body) (r : Open) (rows₂ : List ℕ) : Type 0 where
   pub at-is : r .at ≡ f .at + (1 + size g)
   pub work-is : r .work ≡ workOf g
   pub chain : weight (chainOf (f .at + 1) site g) ≡ r .prefix
-  pub rows-are : (i : ℕ) → i < length rows → getD rows₂ i 0 ≡ getD rows i 0 + (made around site g i + gain (also site around) site g i)
+  pub rows-are : (i : ℕ) → i < length rows → getD rows₂ i 0 ≡ getD rows i 0 + made site g i
   pub numbers-are : (k : Chains) → numbers (r .at) (f .work + r .work) k ≡ numbers (f .at + (1 + size g)) (f .work + workOf g) k
 
-pub child-done : (around : ℕ → Bool) (f : Open) (site : ℕ) (rows rows₁ rows₂ : List ℕ) (g : Body) (r : Open) → length rows₁ ≡ length rows → BodyDone (also site around) (f .at + 1) site rows g r rows₁ → Grown rows₁ (returned around site (r .work) (r .prefix)) rows₂ → ChildDone around f site rows g r rows₂
-child-done around f site rows rows₁ rows₂ g r len done counts =
-    let p : r .prefix ≡ weight (chainOf (f .at + 1) site g) = ap (λ (x : Open). x .prefix) (done .numbers-are) in
-    let v : r .work ≡ workOf g = ap (λ (x : Open). x .work) (done .numbers-are) in
-    let u : r .prefix ≡ spanOf g = p ∙ weight-chain g (f .at + 1) site in
+pub child-done : (f : Open) (site : ℕ) (rows : List ℕ) (before : Credit) (rows₁ rows₂ : List ℕ) (g : Body) (r : Open) → before ≡ creditOf rows site
+    → length rows₁ ≡ length rows → BodyDone (f .at + 1) site rows g r rows₁ → Returned before site (r .work) (r .prefix) rows₁ rows₂ → ChildDone f site rows g r rows₂
+child-done f site rows before rows₁ rows₂ g r b len done back =
+    let c = came (f .at + 1) site g rows before r rows₁ b len done in
     let a : r .at ≡ f .at + (1 + size g) = omega (arith, ap (λ (x : Open). x .at) (done .numbers-are)) in
     record {
       at-is = a;
-      work-is = v;
-      chain = sym p;
-      rows-are = λ i l. omega (arith, counts i (omega (arith, len)), ap (λ (x : ℕ). returned around site x (r .prefix) i) v, ap (λ (x : ℕ). returned around site (workOf g) x i) u, done .rows-are i l);
-      numbers-are = λ k. ap (λ (j : ℕ). numbers j (f .work + r .work) k) a ∙ ap (λ (j : ℕ). numbers (f .at + (1 + size g)) (f .work + j) k) v;
+      work-is = c .work-is;
+      chain = sym (ap (λ (x : Open). x .prefix) (done .numbers-are));
+      rows-are = made-grown c rows₂ back;
+      numbers-are = λ k. ap (λ (j : ℕ). numbers j (f .work + r .work) k) a ∙ ap (λ (j : ℕ). numbers (f .at + (1 + size g)) (f .work + j) k) (c .work-is);
     }

@@ -6,19 +6,22 @@ use mathlib.Core.List.{List, [], _∷_, _++_}
 use Prim.Native.Nat.{ℕ, suc, _+_, _≤_, _<_}
 use native.Mathlib.Numerals.{add-one}
 use native.Mathlib.Omega.{arith}
-use lib.Dec.{ltb}
+use lib.Dec.{eqb, ltb}
 use lib.ListN.{length}
 use Rattle.line.specs.declared.Frame.{Frame}
 use Rattle.chain.specs.Plan.{CostLine, weight, choose}
 use Rattle.chain.proofs.Lists.{weight-append}
 use Rattle.chain.proofs.Choose.{choose-cases}
+use Rattle.trace.specs.Column.{Column, slot}
 use Rattle.trace.specs.Tree.{Way, call, spawn, Leaf, spend, sync, leafWork, Body, done, leaf, child, linesOf, size, Within, workOf}
 use Rattle.trace.specs.Fold.{costAt, Chains, nothing, joined, spawned, leafChains, ended, childChains, run, chainOf}
+use Rattle.trace.proofs.Basics.{cond-le}
 use Rattle.trace.proofs.Tree.{size-is}
 use Rattle.walk.specs.Stands.{Stands}
 use Rattle.walk.specs.Numbers.{load}
 use Rattle.walk.specs.Gain.{gain}
 use Rattle.walk.specs.Item.{More, rest, itemSize, itemWork, itemGain, itemChains}
+use Rattle.walk.proofs.Return.{made-le}
 
 pub size-item : (b : Body) → More b → size b ≡ itemSize b + size (rest b)
 size-item done h = absurd h
@@ -40,10 +43,15 @@ work-item done = refl
 work-item (leaf l r) = refl
 work-item (child w j g r) = refl
 
-pub gain-item : (around : ℕ → Bool) (b : Body) (s i : ℕ) → gain around s b i ≡ itemGain around s b i + gain around s (rest b) i
-gain-item around done s i = refl
-gain-item around (leaf l r) s i = refl
-gain-item around (child w j g r) s i = omega arith
+pub gain-item : (b : Body) (s i : ℕ) → gain s b i ≡ itemGain s b i + gain s (rest b) i
+gain-item done s i = refl
+gain-item (leaf l r) s i = refl
+gain-item (child w j g r) s i = refl
+
+pub item-gain-le : (s : ℕ) (b : Body) → More b → (i : ℕ) → itemGain s b i ≤ itemSize b + itemWork b
+item-gain-le s done h i = absurd h
+item-gain-le s (leaf l r) h i = omega (arith, cond-le (eqb (slot s Column.local) i) (leafWork l))
+item-gain-le s (child w j g r) h i = made-le j g i
 
 -- the line behind an item of one line and z more
 behind : (n z : ℕ) → n + (1 + z) ≡ suc n + z

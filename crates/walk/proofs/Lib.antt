@@ -2,12 +2,12 @@ pub mod Items
 pub mod Numbers
 pub mod Lines
 pub mod Rows
+pub mod Return
 pub mod Reader
 pub mod Says
 pub mod Columns
 pub mod Root
 pub mod Zeros
 pub mod Child
-pub mod Around
 pub mod Room
 pub mod Accepted

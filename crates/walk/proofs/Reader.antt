@@ -1,11 +1,9 @@
 -- One item further: what a reader asks for holds again, and the outcome is the same.
 use mathlib.Core.Path.{_≡_, refl, ap, _∙_, sym, subst}
-use mathlib.Core.Bool.{Bool}
 use mathlib.Core.List.{List}
-use Prim.Native.Nat.{ℕ, _+_, _^_, _<_}
-use native.Mathlib.Decide.{decLt}
+use Prim.Native.Nat.{ℕ, _+_, _<_}
 use native.Mathlib.Omega.{arith}
-use lib.ListN.{length, getD, List·getD-eq-default}
+use lib.ListN.{length}
 use Rattle.trace.specs.Tree.{Body, done, linesOf, size, workOf}
 use Rattle.trace.specs.Fold.{Chains, nothing, joined, run}
 use Rattle.walk.specs.declared.Open.{Open}
@@ -14,7 +12,7 @@ use Rattle.walk.specs.Numbers.{numbers, load}
 use Rattle.walk.specs.Gain.{gain}
 use Rattle.walk.specs.Item.{More, rest, itemSize, itemWork, itemChains}
 use Rattle.walk.specs.Reader.{Ready, ItemDone, ItemsDone, BodyDone, Turn}
-use Rattle.walk.proofs.Items.{size-item, item-some, work-item, gain-item, run-item, load-item, stands-rest, within-rest}
+use Rattle.walk.proofs.Items.{size-item, item-some, work-item, gain-item, item-gain-le, run-item, load-item, stands-rest, within-rest}
 
 -- what the numbers of f are, where they are those of chains
 pub load-is : (f : Open) (k : Chains) → f ≡ numbers (f .at) (f .work) k → f .prefix + (f .longest + f .since) ≡ load k
@@ -24,16 +22,16 @@ load-is f k e = omega (arith, ap (λ (x : Open). x .prefix) e, ap (λ (x : Open)
 pub own-numbers : (f : Open) (n w : ℕ) (k : Chains) → f ≡ numbers n w k → f ≡ numbers (f .at) (f .work) k
 own-numbers f n w k e = e ∙ ap (λ (j : ℕ). numbers j w k) (sym (ap (λ (x : Open). x .at) e)) ∙ ap (λ (j : ℕ). numbers (f .at) j k) (sym (ap (λ (x : Open). x .work) e))
 
-module _ (around : ℕ → Bool) (s : List ℕ) (row m deep : ℕ) (f : Open) (rows : List ℕ) (r : Ready around s row m deep f rows) (more : More (r .body))
+module _ (s : List ℕ) (row m deep : ℕ) (f : Open) (rows : List ℕ) (r : Ready s row m deep f rows) (more : More (r .body))
     (k : Chains) (weighs : f ≡ numbers (f .at) (f .work) k) (f′ : Open) (rows′ : List ℕ) (len : length rows′ ≡ length rows)
-    (h : ItemDone around row f rows (r .body) k f′ rows′) where
+    (h : ItemDone row f rows (r .body) k f′ rows′) where
   at-is : f′ .at ≡ f .at + itemSize (r .body)
   at-is = ap (λ (x : Open). x .at) (h .numbers-are)
 
   pub farther : f .at < f′ .at
   farther = omega (arith, at-is, item-some (r .body) more)
 
-  pub ready-again : Ready around s row m deep f′ rows′
+  pub ready-again : Ready s row m deep f′ rows′
   ready-again =
       let b = r .body in
       record {
@@ -44,25 +42,19 @@ module _ (around : ℕ → Bool) (s : List ℕ) (row m deep : ℕ) (f : Open) (r
         within = within-rest (m) (r .D) (r .d) b (r .within);
         depth = r .depth;
         row-in = r .row-in;
-        few = r .few;
         rows-long = omega (arith, r .rows-long, len);
         ends = omega (arith, at-is, size-item b more, r .ends);
         work-fits = omega (arith, ap (λ (x : Open). x .work) (h .numbers-are), work-item b, r .work-fits);
         load-fits = omega (arith, ap (λ (x : Open). x .prefix) (h .numbers-are), ap (λ (x : Open). x .longest) (h .numbers-are), ap (λ (x : Open). x .since) (h .numbers-are), load-item b (f .at) row k, load-is f k weighs, work-item b, r .load-fits);
-        rows-fit = λ i. fit i (decLt i (length rows));
+        rows-fit = λ i l. omega (arith, h .rows-are i (omega (arith, r .rows-long)), item-gain-le row b more i, size-item b more, work-item b, r .rows-fit i l);
       }
-    where
-      fit : (i : ℕ) → Dec (i < length rows) → getD rows′ i 0 + gain around row (rest (r .body)) i < 2 ^ 64
-      fit i (yes l) = omega (arith, h .rows-are i l, gain-item around (r .body) row i, r .rows-fit i)
-      fit i (no l) =
-          omega (arith, List·getD-eq-default rows′ 0 {n = i} (omega (arith, len)), List·getD-eq-default rows 0 {n = i} (omega arith), gain-item around (r .body) row i, r .rows-fit i)
 
-module _ (around : ℕ → Bool) (s : List ℕ) (row : ℕ) (f₀ : Open) (rows₀ : List ℕ) (b : Body) (k₀ : Chains) where
-  pub turn-start : Stands s (f₀ .at) (linesOf b) → f₀ ≡ numbers (f₀ .at) (f₀ .work) k₀ → Turn around s row f₀ rows₀ b k₀ f₀ rows₀ b k₀
+module _ (s : List ℕ) (row : ℕ) (f₀ : Open) (rows₀ : List ℕ) (b : Body) (k₀ : Chains) where
+  pub turn-start : Stands s (f₀ .at) (linesOf b) → f₀ ≡ numbers (f₀ .at) (f₀ .work) k₀ → Turn s row f₀ rows₀ b k₀ f₀ rows₀ b k₀
   turn-start h e = record { stands = h; weighs = e; same-end = refl; same-work = refl; same-chains = refl; same-rows = λ i l. refl }
 
-  module _ (f : Open) (rows : List ℕ) (l : Body) (k : Chains) (u : Turn around s row f₀ rows₀ b k₀ f rows l k) (len : length rows ≡ length rows₀) where
-    pub turn-again : (f′ : Open) (rows′ : List ℕ) → More l → ItemDone around row f rows l k f′ rows′ → Turn around s row f₀ rows₀ b k₀ f′ rows′ (rest l) (itemChains (f .at) row l k)
+  module _ (f : Open) (rows : List ℕ) (l : Body) (k : Chains) (u : Turn s row f₀ rows₀ b k₀ f rows l k) (len : length rows ≡ length rows₀) where
+    pub turn-again : (f′ : Open) (rows′ : List ℕ) → More l → ItemDone row f rows l k f′ rows′ → Turn s row f₀ rows₀ b k₀ f′ rows′ (rest l) (itemChains (f .at) row l k)
     turn-again f′ rows′ more h =
         let at : f′ .at ≡ f .at + itemSize l = ap (λ (x : Open). x .at) (h .numbers-are) in
         record {
@@ -71,24 +63,24 @@ module _ (around : ℕ → Bool) (s : List ℕ) (row : ℕ) (f₀ : Open) (rows�
           same-end = omega (arith, at, size-item l more, u .same-end);
           same-work = omega (arith, ap (λ (x : Open). x .work) (h .numbers-are), work-item l, u .same-work);
           same-chains = ap (λ (j : ℕ). run j row (rest l) (itemChains (f .at) row l k)) at ∙ sym (run-item l (f .at) row k more) ∙ u .same-chains;
-          same-rows = λ i q. omega (arith, h .rows-are i (omega (arith, len)), gain-item around l row i, u .same-rows i q);
+          same-rows = λ i q. omega (arith, h .rows-are i (omega (arith, len)), gain-item l row i, u .same-rows i q);
         }
 
     -- at the return
-    pub turn-done : l ≡ done → ItemsDone around row f₀ rows₀ b k₀ f rows
+    pub turn-done : l ≡ done → ItemsDone row f₀ rows₀ b k₀ f rows
     turn-done e =
         let c : k ≡ run (f₀ .at) row b k₀ = sym (ap (λ (x : Body). run (f .at) row x k) e) ∙ u .same-chains in
         let w : f .work ≡ f₀ .work + workOf b = omega (arith, u .same-work, ap workOf e) in
         record {
           at-is = omega (arith, u .same-end, ap size e);
           numbers-are = u .weighs ∙ ap (λ (x : ℕ). numbers (f .at) x k) w ∙ ap (numbers (f .at) (f₀ .work + workOf b)) c;
-          rows-are = λ i q. omega (arith, u .same-rows i q, ap (λ (x : Body). gain around row x i) e);
+          rows-are = λ i q. omega (arith, u .same-rows i q, ap (λ (x : Body). gain row x i) e);
         }
 
 -- a body that was read from its first line on, and the join at its return
-pub body-done : (around : ℕ → Bool) (n row : ℕ) (rows : List ℕ) (b : Body) (f : Open) (rows′ : List ℕ) → ItemsDone around row (numbers n 0 nothing) rows b nothing f rows′ → (r : Open)
-    → r ≡ numbers (f .at + 1) (f .work) (joined (run n row b nothing)) → BodyDone around n row rows b r rows′
-body-done around n row rows b f rows′ d r e =
+pub body-done : (n row : ℕ) (rows : List ℕ) (b : Body) (f : Open) (rows′ : List ℕ) → ItemsDone row (numbers n 0 nothing) rows b nothing f rows′ → (r : Open)
+    → r ≡ numbers (f .at + 1) (f .work) (joined (run n row b nothing)) → BodyDone n row rows b r rows′
+body-done n row rows b f rows′ d r e =
     let w : f .work ≡ workOf b = omega (arith, ap (λ (x : Open). x .work) (d .numbers-are)) in
     record {
       numbers-are = e ∙ ap (λ (j : ℕ). numbers j (f .work) (joined (run n row b nothing))) (d .at-is) ∙ ap (λ (x : ℕ). numbers (n + size b) x (joined (run n row b nothing))) w;

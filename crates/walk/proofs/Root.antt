@@ -1,9 +1,8 @@
 -- An accepted trace: its root's lines stand in the text, and no number that reading them comes to is too large.
-use mathlib.Core.Path.{_≡_, refl, ap, subst}
+use mathlib.Core.Path.{_≡_, refl, subst}
 use mathlib.Core.Bool.{Bool}
 use mathlib.Core.List.{List, [], _∷_}
 use Prim.Native.Nat.{ℕ, suc, _+_, _*_, _-_, _^_, _≤_, _<_}
-use native.Mathlib.Decide.{decLt}
 use native.Mathlib.Omega.{arith}
 use lib.ListN.{length, getD}
 use Rattle.line.specs.declared.Frame.{Frame}
@@ -14,19 +13,18 @@ use Rattle.trace.specs.Rows.{columns}
 use Rattle.trace.specs.Column.{Column, slot}
 use Rattle.trace.specs.Refusals.{verdict, accepted}
 use Rattle.trace.specs.ByTree.{cell}
-use Rattle.trace.specs.Tree.{Body, linesOf, Parts, rootAt}
+use Rattle.trace.specs.Tree.{Body, linesOf, size, workOf, Parts, rootAt}
 use Rattle.trace.specs.Fold.{nothing}
-use Rattle.trace.proofs.Slots.{rowOf, columnOf, slot-of, slot-in, is-column}
+use Rattle.trace.proofs.Slots.{slot-in}
 use Rattle.trace.proofs.Scan.{Fine, accepted-reads}
 use Rattle.trace.proofs.Parse.{parts}
-use Rattle.trace.proofs.Accept.{sites-le-M}
-use Rattle.trace.proofs.Outcome.{cell-small, work-small, length-is}
+use Rattle.trace.proofs.Outcome.{work-small, length-is}
 use Rattle.walk.specs.Stands.{Stands}
 use Rattle.walk.specs.Numbers.{numbers}
-use Rattle.walk.specs.Gain.{nowhere, made, gain, Grown}
+use Rattle.walk.specs.Gain.{made, Grown}
 use Rattle.walk.specs.Reader.{Ready}
 use Rattle.walk.proofs.Items.{stands-right}
-use Rattle.walk.proofs.Columns.{gain-out, whole, whole-cell, whole-on, whole-out}
+use Rattle.walk.proofs.Columns.{root-cell, root-out}
 
 stands-all : (s : List ℕ) (u : List Frame) (n : ℕ) → ((i : ℕ) (f : Frame) → Is u i f → readAt s (n + i) ≡ Line (n + i) f) → Stands s n u
 stands-all s [] n h = tt
@@ -41,13 +39,9 @@ module _ (D M : ℕ) (t : List Frame) (fine : Fine D M t) where
   abbrev body : Body
   body = tree .body
 
-  -- whatever number of whatever row: it is small
-  pub whole-small : (i : ℕ) → whole body i < 2 ^ 54
-  whole-small i = subst (λ (j : ℕ). whole body j < 2 ^ 54) (slot-of i) (small (rowOf i) (columnOf i) (is-column (columnOf i) Column.onSpan))
-    where
-      small : (s : ℕ) (k : Column) → Dec (k ≡ Column.onSpan) → whole body (slot s k) < 2 ^ 54
-      small s k (yes e) = omega (arith, ap (λ (l : Column). whole body (slot s l)) e, whole-on (sites t) D 1 body (tree .within) s)
-      small s k (no h) = omega (arith, whole-cell (sites t) D 1 body (tree .within) (rootAt tree) s k h, cell-small D t tree M fine s k)
+  -- its lines and its costs together are few
+  pub root-small : size body + workOf body < 2 ^ 55
+  root-small = omega (arith, length-is D t tree, fine .lines-most, work-small D t tree M fine)
 
   module _ (s : List ℕ) (room : Bool) (acc : verdict s D M room ≡ accepted t) where
     pub root-stands : Stands s (rootAt tree) (linesOf body)
@@ -58,9 +52,9 @@ module _ (D M : ℕ) (t : List Frame) (fine : Fine D M t) where
         subst (λ (k : ℕ). Stands s k (linesOf body)) e here
 
     -- what a reader asks for at the root, where the row numbers of the trace are zero
-    pub root-ready : (rows : List ℕ) → columns * (sites t + 1) ≤ length rows → ((i : ℕ) → i < columns * (sites t + 1) → getD rows i 0 ≡ 0) → ((i : ℕ) → getD rows i 0 < 2 ^ 64)
-        → Ready nowhere s 0 (sites t) (D - 1) (numbers (rootAt tree) 0 nothing) rows
-    root-ready rows long zeros fits =
+    pub root-ready : (rows : List ℕ) → columns * (sites t + 1) ≤ length rows → ((i : ℕ) → i < columns * (sites t + 1) → getD rows i 0 ≡ 0)
+        → Ready s 0 (sites t) (D - 1) (numbers (rootAt tree) 0 nothing) rows
+    root-ready rows long zeros =
         record {
           body = body;
           stands = root-stands;
@@ -69,32 +63,24 @@ module _ (D M : ℕ) (t : List Frame) (fine : Fine D M t) where
           within = tree .within;
           depth = omega (arith, fine .least);
           row-in = omega arith;
-          few = omega (arith, sites-le-M D M t fine, fine .sites-most);
           rows-long = long;
           ends = omega (arith, length-is D t tree, fine .lines-most);
           work-fits = omega (arith, work-small D t tree M fine);
           load-fits = omega (arith, work-small D t tree M fine);
-          rows-fit = λ i. fit i (decLt i (columns * (sites t + 1)));
+          rows-fit = λ i l. omega (arith, zeros i l, root-small);
         }
-      where
-        fit : (i : ℕ) → Dec (i < columns * (sites t + 1)) → getD rows i 0 + gain nowhere 0 body i < 2 ^ 64
-        fit i (yes l) = omega (arith, zeros i l, whole-small i)
-        fit i (no l) = omega (arith, fits i, gain-out (sites t) i (omega arith) D 1 nowhere 0 body (tree .within) (omega arith))
 
 -- The rows at the end, but for column 5: what was zero is the tree's columns, and what stands behind the rows is as
 -- it was.
-module _ (D M : ℕ) (t : List Frame) (fine : Fine D M t) (rows₀ rows₁ rows₂ : List ℕ) (long : columns * (sites t + 1) ≤ length rows₀) (same : length rows₁ ≡ length rows₀)
-    (zeros : (i : ℕ) → i < columns * (sites t + 1) → getD rows₀ i 0 ≡ 0) (inside : Grown rows₀ (gain nowhere 0 (tree D M t fine .body)) rows₁) (itself : Grown rows₁ (made nowhere 0 (tree D M t fine .body)) rows₂) where
+module _ (D M : ℕ) (t : List Frame) (fine : Fine D M t) (rows₀ rows₂ : List ℕ) (long : columns * (sites t + 1) ≤ length rows₀)
+    (zeros : (i : ℕ) → i < columns * (sites t + 1) → getD rows₀ i 0 ≡ 0) (grown : Grown rows₀ (made 0 (tree D M t fine .body)) rows₂) where
   abbrev x : Parts D t
   x = tree D M t fine
-
-  grown : (i : ℕ) → i < length rows₀ → getD rows₂ i 0 ≡ getD rows₀ i 0 + whole (x .body) i
-  grown i l = omega (arith, inside i l, itself i (omega (arith, same)))
 
   pub cells-are : (s : ℕ) (k : Column) → s ≤ sites t → (k ≡ Column.onSpan → ⊥) → getD rows₂ (slot s k) 0 ≡ cell (sites t) (x .body) s k
   cells-are s k h l =
       let i = slot-in (sites t) s k h in
-      omega (arith, grown (slot s k) (omega arith), zeros (slot s k) i, whole-cell (sites t) D 1 (x .body) (x .within) (sites t) s k l)
+      omega (arith, grown (slot s k) (omega arith), zeros (slot s k) i, root-cell (sites t) D 1 (x .body) (x .within) (sites t) s k l)
 
   pub behind : (i : ℕ) → columns * (sites t + 1) ≤ i → i < length rows₀ → getD rows₂ i 0 ≡ getD rows₀ i 0
-  behind i h l = omega (arith, grown i l, whole-out (sites t) D 1 (x .body) (x .within) i h)
+  behind i h l = omega (arith, grown i l, root-out (sites t) D 1 (x .body) (x .within) i h)

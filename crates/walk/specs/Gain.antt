@@ -2,32 +2,31 @@
 -- columns 1 to 4.
 use Prim.Native.Nat.{ℕ, _+_, _^_, _<_}
 use mathlib.Core.Path.{_≡_}
-use mathlib.Core.Bool.{Bool, false, cond, _||_}
+use mathlib.Core.Bool.{cond}
 use mathlib.Core.List.{List}
 use lib.Dec.{eqb}
-use lib.ListN.{length, getD}
+use lib.ListN.{length, getD, set}
 use Rattle.trace.specs.Column.{Column, slot}
 use Rattle.trace.specs.Tree.{leafWork, Body, done, leaf, child, workOf, spanOf}
+use Rattle.walk.specs.declared.Credit.{Credit}
 
 -- column k of row s is there, and has room for v more
 abbrev pub ColumnFits : List ℕ → ℕ → Column → ℕ → Type 0
 ColumnFits rows s k v = (slot s k < length rows) × (getD rows (slot s k) 0 + v < 2 ^ 64)
 
--- The rows of the open invocations, but for the root's, which no line makes: none, and row s besides those around.
-abbrev pub nowhere : ℕ → Bool
-nowhere q = false
+-- what columns 2 and 3 of row s hold
+abbrev pub creditOf : List ℕ → ℕ → Credit
+creditOf rows s = record { work = getD rows (slot s Column.work) 0; span = getD rows (slot s Column.span) 0 }
 
-abbrev pub also : ℕ → (ℕ → Bool) → ℕ → Bool
-also s around q = eqb s q || around q
+-- they are now these
+abbrev pub credited : ℕ → ℕ → ℕ → List ℕ → List ℕ
+credited s work span rows = set (set rows (slot s Column.work) work) (slot s Column.span) span
 
--- v, and nothing where the test holds
-abbrev pub unless : Bool → ℕ → ℕ
-unless b v = cond b 0 v
-
--- columns 1 to 3 of row s have room for an invocation with this work and this span, these rows being open around it
-abbrev pub ReturnFits : (ℕ → Bool) → List ℕ → ℕ → ℕ → ℕ → Type 0
-ReturnFits around rows s work span = ColumnFits rows s Column.calls 1
-    × (around s ≡ false → ColumnFits rows s Column.work work × ColumnFits rows s Column.span span)
+-- Columns 1 to 3 of row s are there and have room for an invocation with this work and this span; before is what columns 2
+-- and 3 held before it was read.
+abbrev pub ReturnFits : Credit → List ℕ → ℕ → ℕ → ℕ → Type 0
+ReturnFits before rows s work span = ColumnFits rows s Column.calls 1 × (slot s Column.span < length rows)
+    × (before .work + work < 2 ^ 64) × (before .span + span < 2 ^ 64)
 
 -- v where row number i is number j, else nothing
 abbrev pub one : ℕ → ℕ → ℕ → ℕ
@@ -37,24 +36,26 @@ one j v i = cond (eqb j i) v 0
 abbrev pub oneCall : ℕ → ℕ → ℕ
 oneCall s i = one (slot s Column.calls) 1 i
 
--- columns 2 and 3 of row s: an invocation's work and its span
-abbrev pub credited : ℕ → ℕ → ℕ → ℕ → ℕ
-credited s work span i = one (slot s Column.work) work i + one (slot s Column.span) span i
+-- What is x in row number i where an invocation of site s returns: one call more, and columns 2 and 3 of the row are now
+-- these, whatever they were. So nothing stays of what invocations of the site inside it came to: "Columns 2 and 3 from now
+-- on count only invocations with no enclosing invocation from the same site."
+abbrev pub returned : ℕ → ℕ → ℕ → ℕ → ℕ → ℕ
+returned s work span x i = cond (eqb (slot s Column.span) i) span (cond (eqb (slot s Column.work) i) work (x + oneCall s i))
 
--- Both, of an invocation of site s that has returned, these rows open around it: "Columns 2 and 3 from now on count
--- only invocations with no enclosing invocation from the same site."
-abbrev pub returned : (ℕ → Bool) → ℕ → ℕ → ℕ → ℕ → ℕ
-returned around s work span i = oneCall s i + unless (around s) (credited s work span i)
+-- an invocation of site s with this work and this span has returned; before is what its columns 2 and 3 held before it
+abbrev pub Returned : Credit → ℕ → ℕ → ℕ → List ℕ → List ℕ → Type 0
+Returned before s work span rows rows′ = (i : ℕ) → i < length rows
+    → getD rows′ i 0 ≡ returned s (before .work + work) (before .span + span) (getD rows i 0) i
 
--- the same by its body
-abbrev pub made : (ℕ → Bool) → ℕ → Body → ℕ → ℕ
-made around s g i = returned around s (workOf g) (spanOf g) i
+-- s is the row of the invocation whose body is read
+abbrev pub gain : ℕ → Body → ℕ → ℕ
+gain s done i = 0
+gain s (leaf l r) i = one (slot s Column.local) (leafWork l) i + gain s r i
+gain s (child w j g r) i = returned j (workOf g) (spanOf g) (gain j g i) i + gain s r i
 
--- s is the row of the invocation whose body is read; around are the rows that are open at its lines
-abbrev pub gain : (ℕ → Bool) → ℕ → Body → ℕ → ℕ
-gain around s done i = 0
-gain around s (leaf l r) i = one (slot s Column.local) (leafWork l) i + gain around s r i
-gain around s (child w j g r) i = made around j g i + (gain (also j around) j g i + gain around s r i)
+-- a whole invocation of row s with the body g
+abbrev pub made : ℕ → Body → ℕ → ℕ
+made s g i = returned s (workOf g) (spanOf g) (gain s g i) i
 
 -- the rows grew by g, number by number
 abbrev pub Grown : List ℕ → (ℕ → ℕ) → List ℕ → Type 0

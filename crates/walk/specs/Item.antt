@@ -1,11 +1,10 @@
 -- For proofs and engines, not for the reader of document 01: the first item of a body, its lines, what it does, and what
 -- stands behind it.
 use Prim.Native.Nat.{ℕ, _+_}
-use mathlib.Core.Bool.{Bool}
 use Rattle.trace.specs.Column.{Column, slot}
 use Rattle.trace.specs.Tree.{leafWork, Body, done, leaf, child, size, workOf}
 use Rattle.trace.specs.Fold.{Chains, leafChains, childChains, run}
-use Rattle.walk.specs.Gain.{also, one, made, gain}
+use Rattle.walk.specs.Gain.{one, made}
 
 -- the body is not at its return
 abbrev pub More : Body → Type 0
@@ -31,11 +30,11 @@ itemWork done = 0
 itemWork (leaf l r) = leafWork l
 itemWork (child w j g r) = workOf g
 
--- by how much row number i grows; around are the rows open at its first line
-abbrev pub itemGain : (ℕ → Bool) → ℕ → Body → ℕ → ℕ
-itemGain around s done i = 0
-itemGain around s (leaf l r) i = one (slot s Column.local) (leafWork l) i
-itemGain around s (child w j g r) i = made around j g i + gain (also j around) j g i
+-- by how much row number i grows
+abbrev pub itemGain : ℕ → Body → ℕ → ℕ
+itemGain s done i = 0
+itemGain s (leaf l r) i = one (slot s Column.local) (leafWork l) i
+itemGain s (child w j g r) i = made j g i
 
 -- the chains behind it; n is its first line
 abbrev pub itemChains : ℕ → ℕ → Body → Chains → Chains

@@ -2,7 +2,6 @@
 -- leaves, whichever engine it serves.
 use Prim.Native.Nat.{ℕ, _+_, _*_, _^_, _≤_, _<_}
 use mathlib.Core.Path.{_≡_}
-use mathlib.Core.Bool.{Bool}
 use mathlib.Core.List.{List, []}
 use lib.ListN.{length, getD}
 use Rattle.chain.specs.Plan.{CostLine}
@@ -16,9 +15,9 @@ use Rattle.walk.specs.Gain.{gain}
 use Rattle.walk.specs.Item.{itemSize, itemWork, itemGain, itemChains}
 
 -- The lines of s from line f .at on are those of a body. Its sites are at most m, at most deep invocations open
--- inside one another, and whatever number reading it comes to, from the invocation's numbers f and the rows, fits.
--- Here and below, around are the rows that are open at the lines that are read.
-pub record Ready (around : ℕ → Bool) (s : List ℕ) (row m deep : ℕ) (f : Open) (rows : List ℕ) : Type 0 where
+-- inside one another, and whatever number reading it comes to, from the invocation's numbers f and the rows, fits: no
+-- row number grows by more than lines and costs are left.
+pub record Ready (s : List ℕ) (row m deep : ℕ) (f : Open) (rows : List ℕ) : Type 0 where
   pub body : Body
   pub stands : Stands s (f .at) (linesOf body)
   pub D : ℕ
@@ -26,39 +25,38 @@ pub record Ready (around : ℕ → Bool) (s : List ℕ) (row m deep : ℕ) (f : 
   pub within : Within m D d body
   pub depth : d + deep ≡ D
   pub row-in : row ≤ m
-  pub few : m ≤ 255
   pub rows-long : columns * (m + 1) ≤ length rows
   pub ends : f .at + size body ≤ 65536
   pub work-fits : f .work + workOf body < 2 ^ 64
   pub load-fits : f .prefix + (f .longest + f .since) + workOf body < 2 ^ 64
-  pub rows-fit : (i : ℕ) → getD rows i 0 + gain around row body i < 2 ^ 64
+  pub rows-fit : (i : ℕ) → i < columns * (m + 1) → getD rows i 0 + (size body + workOf body) < 2 ^ 64
 
 -- behind the first item of b: the numbers r and the rows
-pub record ItemDone (around : ℕ → Bool) (row : ℕ) (f : Open) (rows : List ℕ) (b : Body) (k : Chains) (r : Open) (rows′ : List ℕ) : Type 0 where
+pub record ItemDone (row : ℕ) (f : Open) (rows : List ℕ) (b : Body) (k : Chains) (r : Open) (rows′ : List ℕ) : Type 0 where
   pub numbers-are : r ≡ numbers (f .at + itemSize b) (f .work + itemWork b) (itemChains (f .at) row b k)
-  pub rows-are : (i : ℕ) → i < length rows → getD rows′ i 0 ≡ getD rows i 0 + itemGain around row b i
+  pub rows-are : (i : ℕ) → i < length rows → getD rows′ i 0 ≡ getD rows i 0 + itemGain row b i
 
 -- at the return of b, read from the numbers f and the chains k on: the numbers r, not yet joined, and the rows
-pub record ItemsDone (around : ℕ → Bool) (row : ℕ) (f : Open) (rows : List ℕ) (b : Body) (k : Chains) (r : Open) (rows′ : List ℕ) : Type 0 where
+pub record ItemsDone (row : ℕ) (f : Open) (rows : List ℕ) (b : Body) (k : Chains) (r : Open) (rows′ : List ℕ) : Type 0 where
   pub at-is : r .at + 1 ≡ f .at + size b
   pub numbers-are : r ≡ numbers (r .at) (f .work + workOf b) (run (f .at) row b k)
-  pub rows-are : (i : ℕ) → i < length rows → getD rows′ i 0 ≡ getD rows i 0 + gain around row b i
+  pub rows-are : (i : ℕ) → i < length rows → getD rows′ i 0 ≡ getD rows i 0 + gain row b i
 
 -- an invocation that has come to one chain
 abbrev pub alone : List CostLine → Chains
 alone c = record { p = c; l = []; c = [] }
 
 -- behind the whole body b, which begins at line n
-pub record BodyDone (around : ℕ → Bool) (n row : ℕ) (rows : List ℕ) (b : Body) (r : Open) (rows′ : List ℕ) : Type 0 where
+pub record BodyDone (n row : ℕ) (rows : List ℕ) (b : Body) (r : Open) (rows′ : List ℕ) : Type 0 where
   pub numbers-are : r ≡ numbers (n + size b) (workOf b) (alone (chainOf n row b))
-  pub rows-are : (i : ℕ) → i < length rows → getD rows′ i 0 ≡ getD rows i 0 + gain around row b i
+  pub rows-are : (i : ℕ) → i < length rows → getD rows′ i 0 ≡ getD rows i 0 + gain row b i
 
 -- Inside the body b, which is read from the numbers f₀ and the chains k₀ on: what is left of it, and that what b comes to
 -- is what this comes to from f and k on.
-pub record Turn (around : ℕ → Bool) (s : List ℕ) (row : ℕ) (f₀ : Open) (rows₀ : List ℕ) (b : Body) (k₀ : Chains) (f : Open) (rows : List ℕ) (left : Body) (k : Chains) : Type 0 where
+pub record Turn (s : List ℕ) (row : ℕ) (f₀ : Open) (rows₀ : List ℕ) (b : Body) (k₀ : Chains) (f : Open) (rows : List ℕ) (left : Body) (k : Chains) : Type 0 where
   pub stands : Stands s (f .at) (linesOf left)
   pub weighs : f ≡ numbers (f .at) (f .work) k
   pub same-end : f .at + size left ≡ f₀ .at + size b
   pub same-work : f .work + workOf left ≡ f₀ .work + workOf b
   pub same-chains : run (f .at) row left k ≡ run (f₀ .at) row b k₀
-  pub same-rows : (i : ℕ) → i < length rows₀ → getD rows i 0 + gain around row left i ≡ getD rows₀ i 0 + gain around row b i
+  pub same-rows : (i : ℕ) → i < length rows₀ → getD rows i 0 + gain row left i ≡ getD rows₀ i 0 + gain row b i

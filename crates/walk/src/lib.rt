@@ -8,11 +8,10 @@ ghost use mathlib.Core.Path.{_≡_};
 ghost use Prim.Native.Nat.{_+_, _*_, _^_, _≤_, _<_};
 ghost use mathlib.Core.List.{_++_};
 ghost use lib.ListN.{length, getD, set, drop, replicate};
-ghost use Rattle.rowset.specs.Set.{member};
 ghost use Rattle.trace.specs.Column.{Column, slot};
 ghost use Rattle.trace.specs.Fold.{nothing};
 ghost use Rattle.walk.specs.Weight.{weightAt};
-ghost use Rattle.walk.specs.Gain.{ColumnFits, ReturnFits, one, oneCall, credited, returned, Grown};
+ghost use Rattle.walk.specs.Gain.{ColumnFits, creditOf, credited, ReturnFits, one, oneCall, Returned, Grown};
 ghost use Rattle.walk.specs.Numbers.{numbers, spentN, laterHeavier, joinedN, calledN, childLonger, spawnedN};
 
 // An open invocation: its next line, the work so far, and what its three chains weigh: up to the last join, the
@@ -152,27 +151,43 @@ fn count(rows: &mut [u64], s: usize)
     add(rows, COLUMNS * s + CALLS, 1);
 }
 
-// Columns 2 and 3 of row s: an invocation's work and its span.
-fn credit(rows: &mut [u64], s: usize, work: u64, span: u64)
-    requires { ⌜ ColumnFits (now rows) s Column.work work × ColumnFits (now rows) s Column.span span ⌝ }
-    ensures { λ _. ⌜ Grown (now (rows .entry)) (credited s work span) (now (rows .exit)) ⌝ }
-{
-    let i = COLUMNS * s;
-    add(rows, i + WORK, work);
-    add(rows, i + SPAN, span);
+// Columns 2 and 3 of a row.
+pub struct Credit {
+    pub work: u64,
+    pub span: u64,
 }
 
-// An invocation of site s with this work and this span has returned, these rows open around it: columns 1 to 3 of its
-// row, 2 and 3 only where no invocation of the site is open.
-pub fn returned(rows: &mut [u64], s: usize, work: u64, span: u64, around: rowset::RowSet)
-    requires { ⌜ ReturnFits (member around) (now rows) s work span ⌝ }
-    ensures { λ _. ⌜ Grown (now (rows .entry)) (returned (member around) s work span) (now (rows .exit)) ⌝ }
+// What columns 2 and 3 of row s hold.
+pub fn credit_of(rows: &[u64], s: usize) -> Credit
+    requires { ⌜ slot s Column.span < length (now rows) ⌝ }
+    ensures { λ r. ⌜ r ≡ creditOf (now (rows .entry)) s ⌝ }
+{
+    let i = COLUMNS * s;
+    Credit {
+        work: rows[i + WORK],
+        span: rows[i + SPAN],
+    }
+}
+
+// Columns 2 and 3 of row s are now these.
+fn put_credit(rows: &mut [u64], s: usize, work: u64, span: u64)
+    requires { ⌜ slot s Column.span < length (now rows) ⌝ }
+    ensures { λ _. ⌜ now (rows .exit) ≡ credited s work span (now (rows .entry)) ⌝ }
+{
+    let i = COLUMNS * s;
+    rows[i + WORK] = work;
+    rows[i + SPAN] = span;
+}
+
+// An invocation of site s with this work and this span has returned; before is what columns 2 and 3 of its row held
+// before it was read. Column 1 counts it. Columns 2 and 3 are what they were before it and its own, so that what
+// invocations of the site inside it had added is gone.
+pub fn returned(rows: &mut [u64], s: usize, work: u64, span: u64, before: Credit)
+    requires { ⌜ ReturnFits before (now rows) s work span ⌝ }
+    ensures { λ _. ⌜ Returned before s work span (now (rows .entry)) (now (rows .exit)) ⌝ }
 {
     count(rows, s);
-    if rowset::has(around, s) {
-        return;
-    }
-    credit(rows, s, work, span);
+    put_credit(rows, s, before.work + work, before.span + span);
 }
 
 // Column 4 of row s: a cost of v directly in an invocation of it.

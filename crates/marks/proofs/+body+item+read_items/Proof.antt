@@ -12,7 +12,7 @@ use Rattle.marks.specs.Reader.{begun}
 use Rattle.marks.specs.Steps.{Called, Spawned}
 use Rattle.marks.proofs.Park.{Stored, stored-room, part-zero, part-length, back-room, load-is, load-clear}
 use Rattle.marks.proofs.Bodies.{begins, Loop, loop-start, loop-asks, Next, loop-less, loop-again, loop-done, body-leaves}
-use Rattle.marks.proofs.Items.{line-fits, join-asks, sync-leaves, Costs, rows-asks, spend-asks, cost-leaves, Calls, deeper, room, body-asks, Back, count-asks, called-asks, spawned-asks, call-leaves, spawn-leaves}
+use Rattle.marks.proofs.Items.{line-fits, join-asks, sync-leaves, Costs, rows-asks, spend-asks, cost-leaves, Calls, deeper, room, credit-asks, body-asks, Back, count-asks, called-asks, spawned-asks, call-leaves, spawn-leaves}
 use borrow.Fn.Kinds.{In, Out}
 use borrow.Fn.PlainCycle.{Measures, is, falls, and}
 use Rattle.marks.proofs.body.Reads as body
@@ -26,8 +26,7 @@ use Rattle.marks.proofs.item.Kinds as item-kinds
 use Rattle.marks.proofs.+body+item+read_items.Lts-item as item-lts
 use Rattle.line.proofs.kind_at.Reads as kind-at-reads
 use Rattle.line.proofs.site_at.Reads as site-at-reads
-use Rattle.rowset.specs.Set.{member}
-use Rattle.rowset.proofs.with.Reads as with-reads
+use Rattle.walk.proofs.credit_of.Reads as credit-of-reads
 use Rattle.marks.proofs.Zones.prefix.Reads as prefix-reads
 use Rattle.marks.proofs.called.Reads as called-reads
 use Rattle.marks.proofs.join.Reads as join-reads
@@ -77,13 +76,13 @@ abbrev items-calls : ℕ → items-lts.Claims
 items-calls t = (kind-at-reads.Asked, kind-at-reads.Learnt, item-below t, item.Post)
 
 abbrev item-calls : ℕ → item-lts.Claims
-item-calls t = (weight-at-reads.Asked, weight-at-reads.Learnt, spend-reads′.Asked, spend-reads′.Learnt, spend-reads.Asked, spend-reads.Learnt, join-reads.Asked, join-reads.Learnt, site-at-reads.Asked, site-at-reads.Learnt, with-reads.Asked, with-reads.Learnt, store-reads.Asked, store-reads.Learnt, body-below t, body.Post, load-reads.Asked, load-reads.Learnt, returned-reads.Asked, returned-reads.Learnt, called-reads.Asked, called-reads.Learnt, spawned-reads.Asked, spawned-reads.Learnt)
+item-calls t = (weight-at-reads.Asked, weight-at-reads.Learnt, spend-reads′.Asked, spend-reads′.Learnt, spend-reads.Asked, spend-reads.Learnt, join-reads.Asked, join-reads.Learnt, site-at-reads.Asked, site-at-reads.Learnt, credit-of-reads.Asked, credit-of-reads.Learnt, store-reads.Asked, store-reads.Learnt, body-below t, body.Post, load-reads.Asked, load-reads.Learnt, returned-reads.Asked, returned-reads.Learnt, called-reads.Asked, called-reads.Learnt, spawned-reads.Asked, spawned-reads.Learnt)
 
 abbrev Inv-loop : items-lts.InvT-loop
-Inv-loop trace deep t₀ marks₀ rows₀ around z₀ kind₀ t marks rows z kind = Loop (member around) trace deep z₀ t₀ marks₀ rows₀ t marks rows z kind
+Inv-loop trace deep t₀ marks₀ rows₀ z₀ kind₀ t marks rows z kind = Loop trace deep z₀ t₀ marks₀ rows₀ t marks rows z kind
 
 abbrev μ-loop : items-lts.MeasureT-loop
-μ-loop trace deep t₀ marks₀ rows₀ around z₀ kind₀ t marks rows z kind = 65536 - z .own .at
+μ-loop trace deep t₀ marks₀ rows₀ z₀ kind₀ t marks rows z kind = 65536 - z .own .at
 
 module _ (t : ℕ) where
   -- a place of `body`, or what is needed there
@@ -236,11 +235,17 @@ module _ (t : ℕ) where
   abbrev item-join : Item item-lts.After-slice-known6 → Item item-lts.After-join
   item-join c = c .before .before
 
-  abbrev child-start : Item item-lts.After-with → Item item-lts.Start
-  child-start c = item-start (c .before .before .before .before)
+  abbrev child-start : Item item-lts.After-site-at → Item item-lts.Start
+  child-start c = item-start (c .before .before .before)
 
-  abbrev store-site : Item item-lts.After-store → Item item-lts.After-with
-  store-site c = c .before .before
+  abbrev credit-site : Item item-lts.After-credit-of → Item item-lts.After-site-at
+  credit-site c = c .before .before
+
+  abbrev store-credit : Item item-lts.After-store → Item item-lts.After-credit-of
+  store-credit c = c .before .before
+
+  abbrev store-site : Item item-lts.After-store → Item item-lts.After-site-at
+  store-site c = credit-site (store-credit c)
 
   abbrev part-store : Item item-lts.After-slice-known7 → Item item-lts.After-store
   part-store c = c .before .before
@@ -284,21 +289,13 @@ module _ (t : ℕ) where
 
   -- what is known where a weight was read
   at-weight : (c : Item item-lts.After-weight-at) → (
-      let a = item-start (weight-test c) .args in Costs (member (a .around)) (a .trace .now) (a .deep) (a .z) (a .t .now) (a .marks .now) (a .rows .now) (a .kind) (c .weight-at .result))
+      let a = item-start (weight-test c) .args in Costs (a .trace .now) (a .deep) (a .z) (a .t .now) (a .marks .now) (a .rows .now) (a .kind) (c .weight-at .result))
   at-weight c = record { asks = item-start (weight-test c) .pre .1; weight-is = c .weight-at .ensures; cost = c .before .if1 .taken }
 
-  -- where a site was read and put into the set
-  at-site : (c : Item item-lts.After-with) → (
-      let a = child-start c .args in Calls (a .around) (a .trace .now) (a .deep) (a .z) (a .t .now) (a .marks .now) (a .rows .now) (a .kind) (c .before .site-at .result) (c .with .result))
-  at-site c =
-      let s = c .before in
-      record {
-        asks = child-start c .pre .1;
-        site-is = s .site-at .ensures;
-        no-cost = s .before .before .if1 .left;
-        no-sync = s .before .if2 .left;
-        inside-is = c .with .ensures;
-      }
+  -- where a site was read
+  at-site : (c : Item item-lts.After-site-at) → (
+      let a = child-start c .args in Calls (a .trace .now) (a .deep) (a .z) (a .t .now) (a .marks .now) (a .rows .now) (a .kind) (c .site-at .result))
+  at-site c = record { asks = child-start c .pre .1; site-is = c .site-at .ensures; no-cost = c .before .before .if1 .left; no-sync = c .before .if2 .left }
 
   -- where the invocation is stored
   at-store : (c : Item item-lts.After-store) → (
@@ -306,8 +303,8 @@ module _ (t : ℕ) where
   at-store c = record { room = room (at-site (store-site c)); zero = child-start (store-site c) .pre .1 .lent .zero; is = c .store .ensures }
 
   -- where the child has returned
-  at-body : (c : Item item-lts.After-body) → Back (at-site (store-site (body-store c))) (c .body .result) (body-marks c) (body-rows c)
-  at-body c = record { marks-long = c .body .kept .1 .1 .1 .1 .1 .0; rows-long = c .body .kept .1 .1 .1 .1 .1 .1 .0; leaves = c .body .ensures .0 }
+  at-body : (c : Item item-lts.After-body) → Back (at-site (store-site (body-store c))) (store-credit (body-store c) .credit-of .result) (c .body .result) (body-marks c) (body-rows c)
+  at-body c = record { taken = store-credit (body-store c) .credit-of .ensures; marks-long = c .body .kept .1 .1 .1 .1 .1 .0; rows-long = c .body .kept .1 .1 .1 .1 .1 .1 .0; leaves = c .body .ensures .0 }
 
   -- where the invocation is loaded again: it is as it was, and so is the scratch
   loaded : (c : Item item-lts.After-load) → c .load .result ≡ child-start (store-site (body-store (load-body (c .before)))) .args .z
@@ -356,11 +353,11 @@ module _ (t : ℕ) where
   item-cast-site : Item item-lts.Need-cast-site
   item-cast-site c = search needs
 
-  item-with-requires : Item item-lts.Need-with-requires
-  item-with-requires c κs = search needs
+  item-credit-of-requires : Item item-lts.Need-credit-of-requires
+  item-credit-of-requires c κs = credit-asks (at-site (c .before))
 
   item-store-requires : Item item-lts.Need-store-requires
-  item-store-requires c κs = room (at-site (c .before))
+  item-store-requires c κs = room (at-site (credit-site (c .before)))
 
   item-add-body : Item item-lts.Need-add-body
   item-add-body c = record { fits = line-fits (child-start (store-site (part-store c)) .pre .1 .lent) }
@@ -470,7 +467,7 @@ pub +body+item+read-items-spec : {M : Type 1} → statement M
     (item-returns-2 t)
     (item-site-at-requires t)
     (item-cast-site t)
-    (item-with-requires t)
+    (item-credit-of-requires t)
     (item-store-requires t)
     (item-add-body t)
     (item-sub-body t)

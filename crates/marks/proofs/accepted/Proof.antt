@@ -1,9 +1,9 @@
 -- `marks::accepted` meets its contract: what is cleared, read, counted and read once more comes to the promise.
-use Prim.Native.Nat.{ℕ, _^_, _<_}
+use Prim.Native.Nat.{ℕ}
 use mathlib.Core.List.{List}
-use Rattle.marks.proofs.Whole.{bounds, rows-in, marks-in, Blank, body-asks, Read, count-asks, on-asks, promised}
+use Rattle.marks.proofs.Whole.{bounds, rows-in, marks-in, Blank, credit-asks, body-asks, Read, count-asks, on-asks, promised}
 use Rattle.walk.proofs.Zeros.{cleared-all}
-use lib.ListN.{length, getD, length-replicate}
+use lib.ListN.{length, length-replicate}
 use native.Mathlib.Omega.{arith}
 use mathlib.Core.Path.{_≡_, _∙_, ap}
 use borrow.Author.Needs.{needs}
@@ -20,11 +20,14 @@ zeros c = c .before .before .before
 abbrev wipe-zeros : tie.After-wipe-lines-arg → tie.After-zero2
 wipe-zeros c = c .before .before .before
 
-abbrev body-wipe : tie.After-none → tie.After-wipe-lines
-body-wipe c = c .before .before .before
+abbrev credit-wipe : tie.After-credit-of-arg → tie.After-wipe-lines
+credit-wipe c = c .before .before .before
 
-abbrev body-begins : tie.After-body-arg3 → tie.After-none
-body-begins c = c .before .before .before
+abbrev body-wipe : tie.After-credit-of → tie.After-wipe-lines
+body-wipe c = credit-wipe (c .before)
+
+abbrev body-credit : tie.After-body-arg3 → tie.After-credit-of
+body-credit c = c .before .before .before
 
 abbrev returned-body : tie.After-returned-arg → tie.After-body
 returned-body c = c .before .before .before .before .before .before .before
@@ -42,15 +45,11 @@ cleared c = zero-start (zeros c .before)
 abbrev wiped : tie.After-wipe-lines-arg → tie.Start
 wiped c = cleared (wipe-zeros c .before)
 
-abbrev begun : tie.After-none → tie.Start
+abbrev begun : tie.After-credit-of → tie.Start
 begun c = wiped (body-wipe c .before)
 
 abbrev root-start : tie.After-returned → tie.Start
-root-start c = begun (body-begins (returned-body (c .before) .before))
-
--- the rows lent are numbers of 64 bits
-rows-fit : (c : tie.After-zero-arg) (i : ℕ) → getD (zero-start c .args .rows .now) i 0 < 2 ^ 64
-rows-fit c i = omega (arith, c .before .slice-known3 .given i)
+root-start c = begun (body-credit (returned-body (c .before) .before))
 
 -- what the root left of the scratch, of the marks and of the rows
 abbrev root-scratch : tie.After-body → List ℕ
@@ -69,29 +68,28 @@ column-scratch c = c .column .last .1 .1 .1 .0
 abbrev column-rows : tie.After-column → List ℕ
 column-rows c = c .column .last .1 .1 .1 .1 .1 .0
 
-blank : (c : tie.After-none) → (
-    let w = body-wipe c in let z = wipe-zeros (w .before) in Blank (begun c .pre) (zeros (z .before) .zero .last .0) (w .wipe-lines .last .0) (z .zero2 .last .0) (c .none .result))
+blank : (c : tie.After-wipe-lines) → (
+    let z = wipe-zeros (c .before) in Blank (wiped (c .before) .pre) (zeros (z .before) .zero .last .0) (c .wipe-lines .last .0) (z .zero2 .last .0))
 blank c =
-    let w = body-wipe c in
-    let z = wipe-zeros (w .before) in
+    let z = wipe-zeros (c .before) in
     record {
-      scratch-is = zeros (z .before) .zero .ensures ∙ cleared-all (begun c .args .scratch .now);
-      sites-off = w .wipe-lines .ensures;
-      marks-same = w .wipe-lines .kept .0;
+      scratch-is = zeros (z .before) .zero .ensures ∙ cleared-all (wiped (c .before) .args .scratch .now);
+      sites-off = c .wipe-lines .ensures;
+      marks-same = c .wipe-lines .kept .0;
       rows-are = z .zero2 .ensures;
-      empty = c .none .ensures;
     }
 
-read : (c : tie.After-body) → Read (begun (body-begins (c .before)) .pre) (c .body .result) (root-scratch c) (root-marks c) (root-rows c) (body-begins (c .before) .none .result)
+read : (c : tie.After-body) → Read (begun (body-credit (c .before)) .pre) (body-credit (c .before) .credit-of .result) (c .body .result) (root-scratch c) (root-marks c) (root-rows c)
 read c =
-    let w = body-wipe (body-begins (c .before)) in
+    let w = body-wipe (body-credit (c .before)) in
     let z = wipe-zeros (w .before) in
     record {
       t₁ = zeros (z .before) .zero .last .0;
       m₁ = w .wipe-lines .last .0;
       r₁ = z .zero2 .last .0;
-      blank = blank (body-begins (c .before));
-      zero = c .body .ensures .1 ∙ blank (body-begins (c .before)) .scratch-is;
+      blank = blank w;
+      taken = body-credit (c .before) .credit-of .ensures;
+      zero = c .body .ensures .1 ∙ blank w .scratch-is;
       marks-same = c .body .kept .1 .1 .1 .1 .1 .0 ∙ w .wipe-lines .kept .0;
       rows-same = c .body .kept .1 .1 .1 .1 .1 .1 .0 ∙ z .zero2 .kept .0;
       leaves = c .body .ensures .0;
@@ -118,16 +116,14 @@ zero-requires-2 c κs = rows-in (cleared c .pre)
 wipe-lines-requires : tie.Need-wipe-lines-requires
 wipe-lines-requires c κs = (omega arith, marks-in (wiped c .pre))
 
-none-requires : tie.Need-none-requires
-none-requires c κs = search needs
+credit-of-requires : tie.Need-credit-of-requires
+credit-of-requires c κs = credit-asks _ (blank (credit-wipe c))
 
 sub-body : tie.Need-sub-body
 sub-body c = bounds (begun c .pre) .0
 
 body-requires : tie.Need-body-requires
-body-requires c κs =
-    let w = body-wipe (body-begins c) in
-    body-asks _ (blank (body-begins c)) (rows-fit (zeros (wipe-zeros (w .before) .before) .before))
+body-requires c κs = body-asks _ (blank (body-wipe (body-credit c)))
 
 returned-requires : tie.Need-returned-requires
 returned-requires c κs = count-asks _ (read (returned-body c))
@@ -164,7 +160,7 @@ accepted-spec =
     mul-zero
     zero-requires-2
     wipe-lines-requires
-    none-requires
+    credit-of-requires
     sub-body
     body-requires
     returned-requires

@@ -6,7 +6,7 @@ use mathlib.Core.Path.{_∙_}
 use native.Mathlib.Omega.{arith}
 use borrow.Author.Needs.{needs}
 use Rattle.tables.proofs.Bodies.{begins, Loop, loop-start, loop-asks, Next, loop-less, loop-again, loop-done, body-leaves}
-use Rattle.tables.proofs.Items.{line-fits, own-room, join-asks, sync-leaves, Costs, rows-asks, spend-asks, cost-leaves, Calls, deeper, room, body-asks, Back, back-long, count-asks, child-asks, call-leaves, spawn-leaves}
+use Rattle.tables.proofs.Items.{line-fits, own-room, join-asks, sync-leaves, Costs, rows-asks, spend-asks, cost-leaves, Calls, deeper, room, credit-asks, body-asks, Back, back-long, count-asks, child-asks, call-leaves, spawn-leaves}
 use borrow.Fn.Kinds.{In, Out}
 use borrow.Fn.PlainCycle.{Measures, is, falls, and}
 use Rattle.tables.proofs.body.Reads as body
@@ -20,8 +20,7 @@ use Rattle.tables.proofs.item.Kinds as item-kinds
 use Rattle.tables.proofs.+body+item+read_items.Lts-item as item-lts
 use Rattle.line.proofs.kind_at.Reads as kind-at-reads
 use Rattle.line.proofs.site_at.Reads as site-at-reads
-use Rattle.rowset.specs.Set.{member}
-use Rattle.rowset.proofs.with.Reads as with-reads
+use Rattle.walk.proofs.credit_of.Reads as credit-of-reads
 use Rattle.tables.proofs.called.Reads as called-reads
 use Rattle.tables.proofs.join.Reads as join-reads
 use Rattle.tables.proofs.part.Reads as part-reads
@@ -69,13 +68,13 @@ abbrev items-calls : ℕ → items-lts.Claims
 items-calls t = (kind-at-reads.Asked, kind-at-reads.Learnt, item-below t, item.Post)
 
 abbrev item-calls : ℕ → item-lts.Claims
-item-calls t = (weight-at-reads.Asked, weight-at-reads.Learnt, spend-reads′.Asked, spend-reads′.Learnt, spend-reads.Asked, spend-reads.Learnt, join-reads.Asked, join-reads.Learnt, site-at-reads.Asked, site-at-reads.Learnt, with-reads.Asked, with-reads.Learnt, part-reads.Asked, part-reads.Learnt, body-below t, body.Post, returned-reads.Asked, returned-reads.Learnt, called-reads.Asked, called-reads.Learnt, spawned-reads.Asked, spawned-reads.Learnt)
+item-calls t = (weight-at-reads.Asked, weight-at-reads.Learnt, spend-reads′.Asked, spend-reads′.Learnt, spend-reads.Asked, spend-reads.Learnt, join-reads.Asked, join-reads.Learnt, site-at-reads.Asked, site-at-reads.Learnt, part-reads.Asked, part-reads.Learnt, credit-of-reads.Asked, credit-of-reads.Learnt, body-below t, body.Post, returned-reads.Asked, returned-reads.Learnt, called-reads.Asked, called-reads.Learnt, spawned-reads.Asked, spawned-reads.Learnt)
 
 abbrev Inv-loop : items-lts.InvT-loop
-Inv-loop trace row deep t₀ rows₀ n w around f₀ kind₀ t rows f kind = Loop (member around) trace row deep f₀ t₀ rows₀ t rows n w f kind
+Inv-loop trace row deep t₀ rows₀ n w f₀ kind₀ t rows f kind = Loop trace row deep f₀ t₀ rows₀ t rows n w f kind
 
 abbrev μ-loop : items-lts.MeasureT-loop
-μ-loop trace row deep t₀ rows₀ n w around f₀ kind₀ t rows f kind = 65536 - f .at
+μ-loop trace row deep t₀ rows₀ n w f₀ kind₀ t rows f kind = 65536 - f .at
 
 module _ (t : ℕ) where
   -- a place of `body`, or what is needed there
@@ -210,11 +209,17 @@ module _ (t : ℕ) where
   abbrev item-join : Item item-lts.After-slice-known5 → Item item-lts.After-join
   item-join c = c .before .before
 
-  abbrev child-start : Item item-lts.After-with → Item item-lts.Start
-  child-start c = item-start (c .before .before .before .before)
+  abbrev child-start : Item item-lts.After-site-at → Item item-lts.Start
+  child-start c = item-start (c .before .before .before)
+
+  abbrev credit-part : Item item-lts.After-credit-of → Item item-lts.After-part
+  credit-part c = c .before .before
+
+  abbrev body-credit : Item item-lts.After-body-arg2 → Item item-lts.After-credit-of
+  body-credit c = c .before .before
 
   abbrev body-part : Item item-lts.After-body-arg2 → Item item-lts.After-part
-  body-part c = c .before .before
+  body-part c = credit-part (body-credit c)
 
   abbrev returned-body : Item item-lts.After-returned-arg → Item item-lts.After-body
   returned-body c = c .before .before .before .before .before
@@ -247,18 +252,17 @@ module _ (t : ℕ) where
 
   -- what is known where a weight was read, where the child's part is known, and where the child has returned
   at-weight : (c : Item item-lts.After-weight-at) → (
-      let a = item-start (weight-test c) .args in Costs (member (a .around)) (a .trace .now) (a .kind) (a .row) (a .deep) (a .f) (a .t .now) (a .rows .now) (a .n) (a .w) (c .weight-at .result))
+      let a = item-start (weight-test c) .args in Costs (a .trace .now) (a .kind) (a .row) (a .deep) (a .f) (a .t .now) (a .rows .now) (a .n) (a .w) (c .weight-at .result))
   at-weight c = record { asks = item-start (weight-test c) .pre .1; weight-is = c .weight-at .ensures; cost = c .before .if1 .taken }
 
   at-part : (c : Item item-lts.After-part) → (
-      let a = child-start (c .before) .args in Calls (a .around) (a .trace .now) (a .kind) (a .row) (a .deep) (a .f) (a .t .now) (a .rows .now) (a .n) (a .w) (c .before .before .site-at .result) (c .before .with .result) (c .part .result))
+      let a = child-start (c .before) .args in Calls (a .trace .now) (a .kind) (a .row) (a .deep) (a .f) (a .t .now) (a .rows .now) (a .n) (a .w) (c .before .site-at .result) (c .part .result))
   at-part c =
-      let s = c .before .before in
-      let e = s .before in
-      record { asks = child-start (c .before) .pre .1; site-is = s .site-at .ensures; no-cost = e .before .if1 .left; no-sync = e .if2 .left; inside-is = c .before .with .ensures; begins = c .part .ensures }
+      let e = c .before .before in
+      record { asks = child-start (c .before) .pre .1; site-is = c .before .site-at .ensures; no-cost = e .before .if1 .left; no-sync = e .if2 .left; begins = c .part .ensures }
 
-  at-body : (c : Item item-lts.After-body) → Back (at-part (body-part (c .before))) (c .body .result) (body-scratch c) (body-rows c)
-  at-body c = record { part-long = c .body .kept .1 .1 .1 .1 .0; rows-long = c .body .kept .1 .1 .1 .1 .1 .0; leaves = c .body .ensures }
+  at-body : (c : Item item-lts.After-body) → Back (at-part (body-part (c .before))) (body-credit (c .before) .credit-of .result) (c .body .result) (body-scratch c) (body-rows c)
+  at-body c = record { taken = body-credit (c .before) .credit-of .ensures; part-long = c .body .kept .1 .1 .1 .1 .0; rows-long = c .body .kept .1 .1 .1 .1 .1 .0; leaves = c .body .ensures }
 
   item-weight-at-requires : Item item-lts.Need-weight-at-requires
   item-weight-at-requires c κs = search needs
@@ -300,31 +304,31 @@ module _ (t : ℕ) where
   item-cast-site : Item item-lts.Need-cast-site
   item-cast-site c = search needs
 
-  item-with-requires : Item item-lts.Need-with-requires
-  item-with-requires c κs = search needs
-
   item-part-requires : Item item-lts.Need-part-requires
   item-part-requires c κs =
       let a = child-start c in
       omega (arith, own-room (a .pre .1 .lent), scratch-fits a)
 
+  item-credit-of-requires : Item item-lts.Need-credit-of-requires
+  item-credit-of-requires c κs = credit-asks (at-part (c .before))
+
   item-add-body : Item item-lts.Need-add-body
-  item-add-body c = record { fits = line-fits (child-start (c .before) .pre .1 .lent) }
+  item-add-body c = record { fits = line-fits (child-start (credit-part c .before) .pre .1 .lent) }
 
   item-sub-body : Item item-lts.Need-sub-body
-  item-sub-body c = deeper (at-part c)
+  item-sub-body c = deeper (at-part (credit-part c))
 
   item-mul-body : Item item-lts.Need-mul-body
-  item-mul-body c = omega (arith, room (at-part c), scratch-fits (child-start (c .before)))
+  item-mul-body c = omega (arith, room (at-part (credit-part c)), scratch-fits (child-start (credit-part c .before)))
 
   item-sub-body-2 : Item item-lts.Need-sub-body-2
-  item-sub-body-2 c = room (at-part c)
+  item-sub-body-2 c = room (at-part (credit-part c))
 
   item-part-body-start : Item item-lts.Need-part-body-start
-  item-part-body-start c = omega (arith, room (at-part c))
+  item-part-body-start c = omega (arith, room (at-part (credit-part c)))
 
   item-part-body-end : Item item-lts.Need-part-body-end
-  item-part-body-end c = omega (arith, room (at-part c))
+  item-part-body-end c = omega (arith, room (at-part (credit-part c)))
 
   item-body-requires : Item item-lts.Need-body-requires
   item-body-requires c κs =
@@ -398,8 +402,8 @@ pub +body+item+read-items-spec : {M : Type 1} → statement M
     (item-returns-2 t)
     (item-site-at-requires t)
     (item-cast-site t)
-    (item-with-requires t)
     (item-part-requires t)
+    (item-credit-of-requires t)
     (item-add-body t)
     (item-sub-body t)
     (item-mul-body t)

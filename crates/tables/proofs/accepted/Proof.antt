@@ -1,12 +1,12 @@
 -- `tables::accepted` meets its contract: what is cleared, read, counted and moved comes to the promise.
-use Prim.Native.Nat.{ℕ, _^_, _<_}
+use Prim.Native.Nat.{ℕ}
 use mathlib.Core.List.{List}
 use mathlib.Core.Path.{_≡_, _∙_}
-use lib.ListN.{length, getD}
+use lib.ListN.{length}
 use native.Mathlib.Omega.{arith}
 use borrow.Author.Needs.{needs}
 use Rattle.walk.proofs.Zeros.{cleared-all}
-use Rattle.tables.proofs.Whole.{limits, rows-room, table-room, Blank, root-asks, Read, root-counts, promised}
+use Rattle.tables.proofs.Whole.{limits, rows-room, table-room, Blank, credit-asks, root-asks, Read, root-counts, promised}
 use Rattle.tables.proofs.accepted.Statement.{statement}
 use Rattle.tables.proofs.accepted.Tie as tie
 
@@ -17,11 +17,14 @@ zero-start c = c .before .before .before .before
 abbrev zeros : tie.After-zero-arg2 → tie.After-zero
 zeros c = c .before .before .before
 
-abbrev body-zeros : tie.After-none → tie.After-zero2
-body-zeros c = c .before .before .before
+abbrev credit-zeros : tie.After-credit-of-arg → tie.After-zero2
+credit-zeros c = c .before .before .before
 
-abbrev body-begins : tie.After-body-arg2 → tie.After-none
-body-begins c = c .before .before
+abbrev body-zeros : tie.After-credit-of → tie.After-zero2
+body-zeros c = credit-zeros (c .before)
+
+abbrev body-credit : tie.After-body-arg2 → tie.After-credit-of
+body-credit c = c .before .before
 
 abbrev returned-body : tie.After-returned-arg → tie.After-body
 returned-body c = c .before .before .before .before .before
@@ -37,14 +40,10 @@ abbrev cleared : tie.After-zero-arg2 → tie.Start
 cleared c = zero-start (zeros c .before)
 
 abbrev begun : tie.After-body-arg2 → tie.Start
-begun c = cleared (body-zeros (body-begins c) .before)
+begun c = cleared (body-zeros (body-credit c) .before)
 
 abbrev root-start : tie.After-returned → tie.Start
 root-start c = begun (returned-body (c .before) .before)
-
--- the rows lent are numbers of 64 bits
-rows-fit : (c : tie.After-zero-arg) (i : ℕ) → getD (zero-start c .args .rows .now) i 0 < 2 ^ 64
-rows-fit c i = omega (arith, c .before .slice-known2 .given i)
 
 -- what the root left of the scratch and of the rows
 abbrev root-scratch : tie.After-body → List ℕ
@@ -53,22 +52,17 @@ root-scratch c = c .body .last .1 .1 .1 .1 .0
 abbrev root-rows : tie.After-body → List ℕ
 root-rows c = c .body .last .1 .1 .1 .1 .1 .0
 
-blank : (c : tie.After-none) → (let z = body-zeros c in Blank (cleared (z .before) .pre) (zeros (z .before) .zero .last .0) (z .zero2 .last .0) (c .none .result))
-blank c =
-    let z = body-zeros c in
-    record {
-      scratch-is = zeros (z .before) .zero .ensures ∙ cleared-all (cleared (z .before) .args .scratch .now);
-      rows-are = z .zero2 .ensures;
-      empty = c .none .ensures;
-    }
+blank : (c : tie.After-zero2) → Blank (cleared (c .before) .pre) (zeros (c .before) .zero .last .0) (c .zero2 .last .0)
+blank c = record { scratch-is = zeros (c .before) .zero .ensures ∙ cleared-all (cleared (c .before) .args .scratch .now); rows-are = c .zero2 .ensures }
 
-read : (c : tie.After-body) → Read (begun (c .before) .pre) (c .body .result) (root-scratch c) (root-rows c) (body-begins (c .before) .none .result)
+read : (c : tie.After-body) → Read (begun (c .before) .pre) (body-credit (c .before) .credit-of .result) (c .body .result) (root-scratch c) (root-rows c)
 read c =
-    let z = body-zeros (body-begins (c .before)) in
+    let z = body-zeros (body-credit (c .before)) in
     record {
       t₁ = zeros (z .before) .zero .last .0;
       r₁ = z .zero2 .last .0;
-      blank = blank (body-begins (c .before));
+      blank = blank z;
+      taken = body-credit (c .before) .credit-of .ensures;
       scratch-same = c .body .kept .1 .1 .1 .1 .0 ∙ zeros (z .before) .zero .kept .0;
       rows-same = c .body .kept .1 .1 .1 .1 .1 .0 ∙ z .zero2 .kept .0;
       leaves = c .body .ensures;
@@ -95,8 +89,8 @@ mul-zero c = let l = limits (cleared c .pre) in omega (arith, l .2, l .3)
 zero-requires-2 : tie.Need-zero-requires-2
 zero-requires-2 c κs = rows-room (cleared c .pre)
 
-none-requires : tie.Need-none-requires
-none-requires c κs = search needs
+credit-of-requires : tie.Need-credit-of-requires
+credit-of-requires c κs = let z = credit-zeros c in credit-asks (cleared (z .before) .pre) (blank z)
 
 sub-body : tie.Need-sub-body
 sub-body c = limits (cleared (body-zeros c .before) .pre) .0
@@ -108,7 +102,7 @@ add-body-2 : tie.Need-add-body-2
 add-body-2 c = let l = limits (begun c .pre) in omega (arith, l .2, l .3)
 
 body-requires : tie.Need-body-requires
-body-requires c κs = root-asks (begun c .pre) (blank (body-begins c)) (rows-fit (zeros (body-zeros (body-begins c) .before) .before))
+body-requires c κs = root-asks (begun c .pre) (blank (body-zeros (body-credit c)))
 
 returned-requires : tie.Need-returned-requires
 returned-requires c κs = root-counts _ (read (returned-body c))
@@ -142,7 +136,7 @@ accepted-spec =
     add-zero
     mul-zero
     zero-requires-2
-    none-requires
+    credit-of-requires
     sub-body
     add-body
     add-body-2

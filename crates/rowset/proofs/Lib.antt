@@ -1,3 +1,0 @@
-pub mod Bits
-pub mod Words
-pub mod Unique
