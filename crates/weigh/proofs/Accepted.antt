@@ -47,18 +47,15 @@ module _ (w : Weigh) (tabled : Tabled w) (D M : ℕ) (t : List Frame) where
   abbrev other : List Frame
   other = reweighed w 0 (0 ∷ []) t
 
-  same-sites : sites other ≡ sites t
-  same-sites = reweighed-sites w t 0 (0 ∷ [])
-
   -- LAW: it has the same site lines, and the weighed body
-  pub reweighed-parts : Parts D t → Parts D other
+  abbrev pub reweighed-parts : Parts D t → Parts D other
   reweighed-parts p =
       record {
         heads = p .heads;
         body = weighed w (rootAt p) 0 (p .body);
         lines = ap (reweighed w 0 (0 ∷ [])) (p .lines) ∙ reweighed-trace w (p .heads) (p .body) (p .all-sites);
         all-sites = p .all-sites;
-        within = subst (λ (m : ℕ). Within m D 1 (weighed w (rootAt p) 0 (p .body))) (sym same-sites) (weighed-within w tabled (sites t) D 1 (p .body) (rootAt p) 0 (p .within));
+        within = subst (λ (m : ℕ). Within m D 1 (weighed w (rootAt p) 0 (p .body))) (sym (reweighed-sites w t 0 (0 ∷ []))) (weighed-within w tabled (sites t) D 1 (p .body) (rootAt p) 0 (p .within));
       }
 
   -- LAW: it keeps the rules within the same limits
@@ -72,5 +69,5 @@ module _ (w : Weigh) (tabled : Tabled w) (D M : ℕ) (t : List Frame) where
         body = weighed w (length (x .heads)) 0 (x .body);
         lines = ap (reweighed w 0 (0 ∷ [])) (x .lines) ∙ reweighed-trace w (x .heads) (x .body) (heads-sites M [] (x .heads) (x .heads-ok));
         heads-ok = x .heads-ok;
-        within = subst (λ (m : ℕ). Within m D 1 (weighed w (length (x .heads)) 0 (x .body))) (sym same-sites) (weighed-within w tabled (sites t) D 1 (x .body) (length (x .heads)) 0 (x .within));
+        within = subst (λ (m : ℕ). Within m D 1 (weighed w (length (x .heads)) 0 (x .body))) (sym (reweighed-sites w t 0 (0 ∷ []))) (weighed-within w tabled (sites t) D 1 (x .body) (length (x .heads)) 0 (x .within));
       })

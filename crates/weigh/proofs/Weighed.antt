@@ -6,7 +6,7 @@ use native.Mathlib.Omega.{arith}
 use lib.ListN.{length}
 use Rattle.line.specs.declared.Place.{Place}
 use Rattle.line.specs.declared.Frame.{Frame}
-use Rattle.line.specs.declared.Frame.the-variants.{Site, Return}
+use Rattle.line.specs.declared.Frame.the-variants.{Site, Call, Spawn, Sync, Return, Cost}
 use Rattle.trace.specs.Tree.{Way, call, spawn, opening, Leaf, spend, sync, lineOf, LeafWithin, Body, done, leaf, child, linesOf, size, Within, AllSites}
 use Rattle.trace.proofs.Cases.{IsSite, at-site}
 use Rattle.weigh.specs.Cost.{costing}
@@ -95,3 +95,34 @@ module _ (w : Weigh) where
       ∙ ap (λ (k : ℕ). h ++ reweighed w k (0 ∷ []) (linesOf b)) e
       ∙ ap (λ (l : List Frame). h ++ reweighed w (length h) (0 ∷ []) l) (sym (append-nil (linesOf b)))
       ∙ ap (λ (l : List Frame). h ++ l) (reweighed-lines b (length h) 0 [] [] ∙ append-nil (linesOf (weighed w (length h) 0 b)))
+
+-- ── by what else the lines are weighed ──
+
+same-costing : (g h : ℕ → ℕ) → ((v : ℕ) → g v ≡ h v) → (f : Frame) → costing g f ≡ costing h f
+same-costing g h k (Site s p) = refl
+same-costing g h k (Call s) = refl
+same-costing g h k (Spawn s) = refl
+same-costing g h k Sync = refl
+same-costing g h k Return = refl
+same-costing g h k (Cost v) = ap Cost (k v)
+
+-- LAW: the weighed trace is one where each line weighs the same
+pub reweighed-same : (w x : Weigh) → ((n s v : ℕ) → w n s v ≡ x n s v) → (t : List Frame) (n : ℕ) (o : List ℕ) → reweighed w n o t ≡ reweighed x n o t
+reweighed-same w x k [] n o = refl
+reweighed-same w x k (f ∷ t) n o =
+    ap (λ (e : Frame). e ∷ reweighed w (suc n) (rowStep f o) t) (same-costing (w n (innermost o)) (x n (innermost o)) (k n (innermost o)) f)
+    ∙ ap (λ (l : List Frame). costing (x n (innermost o)) f ∷ l) (reweighed-same w x k t (suc n) (rowStep f o))
+
+plain-costing : (f : Frame) → costing (λ v. v) f ≡ f
+plain-costing (Site s p) = refl
+plain-costing (Call s) = refl
+plain-costing (Spawn s) = refl
+plain-costing Sync = refl
+plain-costing Return = refl
+plain-costing (Cost v) = refl
+
+-- LAW: weighed as it stands, a trace is as it was
+pub reweighed-plainly : (t : List Frame) (n : ℕ) (o : List ℕ) → reweighed plainly n o t ≡ t
+reweighed-plainly [] n o = refl
+reweighed-plainly (f ∷ t) n o =
+    ap (λ (e : Frame). e ∷ reweighed plainly (suc n) (rowStep f o) t) (plain-costing f) ∙ ap (λ (l : List Frame). f ∷ l) (reweighed-plainly t (suc n) (rowStep f o))
