@@ -3,3 +3,5 @@ pub mod Divided
 pub mod Asked
 pub mod Outcome
 pub mod Gain
+pub mod Loops
+pub mod Checked

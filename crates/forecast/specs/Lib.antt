@@ -3,3 +3,4 @@ pub mod Asked
 pub mod Promise
 pub mod Gain
 pub mod ByRow
+pub mod Listed
