@@ -202,7 +202,6 @@ fn read_items(
     factors: &[u64],
 ) -> Zones
     requires { ⌜ Lent (byFactors (now factors)) (now trace) deep z (now t) (now marks) (now rows) ⌝ }
-    requires { ⌜ Factors (now factors) ⌝ }
     ensures { λ r. ⌜ ItemsLeave (byFactors (now (factors .entry))) (now (trace .entry)) deep z (now (t .entry))
         (now (marks .entry)) (now (rows .entry)) r (now (marks .exit)) (now (rows .exit)) ⌝ }
     ensures { λ _. ⌜ now (t .exit) ≡ now (t .entry) ⌝ }
@@ -228,7 +227,6 @@ fn body(
     factors: &[u64],
 ) -> walk::Open
     requires { ⌜ BodyAsks (byFactors (now factors)) (now trace) from row deep (now t) (now marks) (now rows) ⌝ }
-    requires { ⌜ Factors (now factors) ⌝ }
     ensures { λ r. ⌜ BodyLeaves (byFactors (now (factors .entry))) (now (trace .entry)) from row (now (marks .entry))
         (now (rows .entry)) r (now (marks .exit)) (now (rows .exit)) ⌝ }
     ensures { λ _. ⌜ now (t .exit) ≡ now (t .entry) ⌝ }
@@ -258,7 +256,6 @@ fn item(
     factors: &[u64],
 ) -> Zones
     requires { ⌜ ItemAsks (byFactors (now factors)) (now trace) kind deep z (now t) (now marks) (now rows) ⌝ }
-    requires { ⌜ Factors (now factors) ⌝ }
     ensures { λ r. ⌜ ItemLeaves (byFactors (now (factors .entry))) (now (trace .entry)) z (now (marks .entry))
         (now (rows .entry)) r (now (marks .exit)) (now (rows .exit)) ⌝ }
     ensures { λ _. ⌜ now (t .exit) ≡ now (t .entry) ⌝ }
@@ -297,7 +294,6 @@ fn item(
 fn add_marked(trace: &[u8], at: usize, row: usize, marks: &[u8], rows: &mut [u64], factors: &[u64])
     requires { ⌜ (at < length (now marks)) × ColumnFits (now rows) row Column.onSpan
         (marked (getD (now marks) at 0) (weightAt (now factors) (now trace) at row)) ⌝ }
-    requires { ⌜ Factors (now factors) ⌝ }
     ensures { λ _. ⌜ Grown (now (rows .entry)) (one (slot row Column.onSpan) (marked (getD (now (marks .entry)) at 0)
         (weightAt (now (factors .entry)) (now (trace .entry)) at row))) (now (rows .exit)) ⌝ }
 {
@@ -356,7 +352,6 @@ fn on_line(
     factors: &[u64],
 ) -> Present
     requires { ⌜ LineAsks (byFactors (now factors)) (now trace) at a (now t) (now marks) (now rows) ⌝ }
-    requires { ⌜ Factors (now factors) ⌝ }
     ensures { λ r. ⌜ LineLeaves (byFactors (now (factors .entry))) (now (trace .entry)) at a (now (t .entry))
         (now (marks .entry)) (now (rows .entry)) r (now (t .exit)) (now (rows .exit)) ⌝ }
 {
@@ -386,7 +381,6 @@ fn column(
     factors: &[u64],
 )
     requires { ⌜ ColumnAsks (byFactors (now factors)) (now trace) from lines (now t) (now marks) (now rows) ⌝ }
-    requires { ⌜ Factors (now factors) ⌝ }
     ensures { λ _. ⌜ ColumnLeaves (byFactors (now (factors .entry))) (now (trace .entry)) from lines (now (t .entry))
         (now (marks .entry)) (now (rows .entry)) (now (rows .exit)) ⌝ }
     ensures { λ _. ⌜ now (t .exit) ≡ now (t .entry) ⌝ }

@@ -176,7 +176,6 @@ fn read_items(
     factors: &[u64],
 ) -> walk::Open
     requires { ⌜ Lent (byFactors (now factors)) (now trace) row deep f (now t) (now rows) n w ⌝ }
-    requires { ⌜ Factors (now factors) ⌝ }
     ensures { λ r. ⌜ ItemsLeave (byFactors (now (factors .entry))) (now (trace .entry)) row deep f (now (t .entry))
         (now (rows .entry)) n w r (now (t .exit)) (now (rows .exit)) ⌝ }
 {
@@ -202,7 +201,6 @@ fn body(
     factors: &[u64],
 ) -> walk::Open
     requires { ⌜ BodyAsks (byFactors (now factors)) (now trace) from row deep (now t) (now rows) n w ⌝ }
-    requires { ⌜ Factors (now factors) ⌝ }
     ensures { λ r. ⌜ BodyLeaves (byFactors (now (factors .entry))) (now (trace .entry)) from row (now (t .entry))
         (now (rows .entry)) n w r (now (t .exit)) (now (rows .exit)) ⌝ }
 {
@@ -234,7 +232,6 @@ fn item(
     factors: &[u64],
 ) -> walk::Open
     requires { ⌜ ItemAsks (byFactors (now factors)) (now trace) kind row deep f (now t) (now rows) n w ⌝ }
-    requires { ⌜ Factors (now factors) ⌝ }
     ensures { λ r. ⌜ ItemLeaves (byFactors (now (factors .entry))) (now (trace .entry)) row f (now (t .entry))
         (now (rows .entry)) n w r (now (t .exit)) (now (rows .exit)) ⌝ }
 {

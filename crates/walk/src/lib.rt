@@ -10,8 +10,7 @@ ghost use mathlib.Core.List.{_++_};
 ghost use lib.ListN.{length, getD, set, drop, replicate};
 ghost use Rattle.trace.specs.Column.{Column, slot};
 ghost use Rattle.trace.specs.Fold.{nothing};
-ghost use Rattle.forecast.specs.Rewritten.{divided};
-ghost use Rattle.walk.specs.Weight.{Factors, weightAt};
+ghost use Rattle.walk.specs.Weight.{weightAt};
 ghost use Rattle.walk.specs.Gain.{ColumnFits, creditOf, credited, ReturnFits, one, oneCall, Returned, Grown};
 ghost use Rattle.walk.specs.Numbers.{numbers, spentN, laterHeavier, joinedN, calledN, childLonger, spawnedN};
 
@@ -129,23 +128,14 @@ impl Open {
     }
 }
 
-// "divided by its factor and rounded up"
-fn share(v: u64, factor: u64) -> u64
-    requires { ⌜ (v < 2 ^ 32) × ((1 ≤ factor) × (factor ≤ 1000)) ⌝ }
-    ensures { λ r. ⌜ r ≡ divided v factor ⌝ }
-{
-    (v + (factor - 1)) / factor
-}
-
 // What a cost line weighs that is directly in an invocation of a row: its value, divided by the row's factor where the
 // row is among the factors.
 pub fn weight_at(trace: &[u8], at: usize, row: usize, factors: &[u64]) -> u64
-    requires { ⌜ Factors (now factors) ⌝ }
     ensures { λ r. ⌜ r ≡ weightAt (now (factors .entry)) (now (trace .entry)) at row ⌝ }
 {
     let v = line::value_at(trace, at) as u64;
     if row < factors.len() {
-        return share(v, factors[row]);
+        return forecast::share(v, factors[row]);
     }
     v
 }

@@ -118,7 +118,7 @@ module _ (t : ℕ) where
   body-read-items-requires c κs =
       let f = body-first c in
       let a = body-start (f .before) in
-      (omega (arith, a .pre .0), (begins (f .prefix .result) (first f) (a .pre .1 .0), a .pre .1 .1))
+      (omega (arith, a .pre .0), begins (f .prefix .result) (first f) (a .pre .1))
 
   body-join-requires : Body body-lts.Need-join-requires
   body-join-requires c κs = join-asks (body-items c .read-items .ensures .0 .lent)
@@ -178,13 +178,13 @@ module _ (t : ℕ) where
   items-kind-at-requires c κs = search needs
 
   items-loop-holds : Items items-lts.Need-loop-holds
-  items-loop-holds c = loop-start (items-start c .pre .1 .0) (c .kind-at .result) (c .kind-at .ensures)
+  items-loop-holds c = loop-start (items-start c .pre .1) (c .kind-at .result) (c .kind-at .ensures)
 
   items-item-requires : Items items-lts.Need-item-requires
   items-item-requires c κs =
       let i = turn c in
       let a = items-start (i .before .before) in
-      (omega (arith, a .pre .0), (loop-asks (i .before .loop .inv) (i .loop-test .taken), a .pre .1 .1))
+      (omega (arith, a .pre .0), loop-asks (i .before .loop .inv) (i .loop-test .taken))
 
   items-kind-at-requires-2 : Items items-lts.Need-kind-at-requires-2
   items-kind-at-requires-2 c κs = search needs
@@ -292,17 +292,17 @@ module _ (t : ℕ) where
   -- what is known where a weight was read
   at-weight : (c : Item item-lts.After-weight-at) → (
       let a = item-start (weight-test c) .args in Costs (byFactors (a .factors .now)) (a .trace .now) (a .deep) (a .z) (a .t .now) (a .marks .now) (a .rows .now) (a .kind) (c .weight-at .result))
-  at-weight c = record { asks = item-start (weight-test c) .pre .1 .0; weight-is = c .weight-at .ensures; cost = c .before .if1 .taken }
+  at-weight c = record { asks = item-start (weight-test c) .pre .1; weight-is = c .weight-at .ensures; cost = c .before .if1 .taken }
 
   -- where a site was read
   at-site : (c : Item item-lts.After-site-at) → (
       let a = child-start c .args in Calls (byFactors (a .factors .now)) (a .trace .now) (a .deep) (a .z) (a .t .now) (a .marks .now) (a .rows .now) (a .kind) (c .site-at .result))
-  at-site c = record { asks = child-start c .pre .1 .0; site-is = c .site-at .ensures; no-cost = c .before .before .if1 .left; no-sync = c .before .if2 .left }
+  at-site c = record { asks = child-start c .pre .1; site-is = c .site-at .ensures; no-cost = c .before .before .if1 .left; no-sync = c .before .if2 .left }
 
   -- where the invocation is stored
   at-store : (c : Item item-lts.After-store) → (
       let a = child-start (store-site c) .args in Stored (a .z) (a .t .now) (c .store .last .0))
-  at-store c = record { room = room (at-site (store-site c)); zero = child-start (store-site c) .pre .1 .0 .lent .zero; is = c .store .ensures }
+  at-store c = record { room = room (at-site (store-site c)); zero = child-start (store-site c) .pre .1 .lent .zero; is = c .store .ensures }
 
   -- where the child has returned
   at-body : (c : Item item-lts.After-body) → Back (at-site (store-site (body-store c))) (store-credit (body-store c) .credit-of .result) (c .body .result) (body-marks c) (body-rows c)
@@ -316,7 +316,7 @@ module _ (t : ℕ) where
   unloaded c = let b = load-body (c .before) in load-clear (at-store (body-store b)) (body-scratch b) (b .body .ensures .1) (c .load .last .0) (c .load .ensures .1)
 
   item-weight-at-requires : Item item-lts.Need-weight-at-requires
-  item-weight-at-requires c κs = item-start (c .before) .pre .1 .1
+  item-weight-at-requires c κs = search needs
 
   item-spend-requires : Item item-lts.Need-spend-requires
   item-spend-requires c κs = rows-asks (at-weight (c .before))
@@ -337,7 +337,7 @@ module _ (t : ℕ) where
       (cost-leaves (at-weight (rows-weight r)) (e .spend2 .result) (e .spend2 .last .0) (r .spend .last .0) (r .spend .ensures) (e .spend2 .ensures), refl)
 
   item-join-requires : Item item-lts.Need-join-requires
-  item-join-requires c κs = join-asks (sync-start (join-test c) .pre .1 .0 .lent)
+  item-join-requires c κs = join-asks (sync-start (join-test c) .pre .1 .lent)
 
   item-same-length-3 : Item item-lts.Need-same-length-3
   item-same-length-3 c = search needs
@@ -347,7 +347,7 @@ module _ (t : ℕ) where
       let j = item-join c in
       let e = join-test (j .before) in
       let a = sync-start e in
-      (sync-leaves (a .pre .1 .0 .lent) (a .args .kind) (a .pre .1 .0 .kind-is) (e .if2 .taken) (j .join .result) (j .join .last .0) (j .join .ensures), refl)
+      (sync-leaves (a .pre .1 .lent) (a .args .kind) (a .pre .1 .kind-is) (e .if2 .taken) (j .join .result) (j .join .last .0) (j .join .ensures), refl)
 
   item-site-at-requires : Item item-lts.Need-site-at-requires
   item-site-at-requires c κs = search needs
@@ -362,7 +362,7 @@ module _ (t : ℕ) where
   item-store-requires c κs = room (at-site (credit-site (c .before)))
 
   item-add-body : Item item-lts.Need-add-body
-  item-add-body c = record { fits = line-fits (child-start (store-site (part-store c)) .pre .1 .0 .lent) }
+  item-add-body c = record { fits = line-fits (child-start (store-site (part-store c)) .pre .1 .lent) }
 
   item-sub-body : Item item-lts.Need-sub-body
   item-sub-body c = deeper (at-site (store-site (part-store c)))
@@ -382,7 +382,7 @@ module _ (t : ℕ) where
       let h = at-site (store-site p) in
       let s = p .store .last .0 in
       let a = child-start (store-site p) in
-      (omega (arith, a .pre .0, deeper h), (body-asks h (take (length s - 8) (drop 8 s)) (part-zero (at-store p)) (part-length (at-store p)), a .pre .1 .1))
+      (omega (arith, a .pre .0, deeper h), body-asks h (take (length s - 8) (drop 8 s)) (part-zero (at-store p)) (part-length (at-store p)))
 
   item-load-requires : Item item-lts.Need-load-requires
   item-load-requires c κs = let b = load-body c in back-room (at-store (body-store b)) (body-scratch b) (b .body .ensures .1)

@@ -130,7 +130,7 @@ sub-body : tie.Need-sub-body
 sub-body c = bounds (begun c .pre .0) .0
 
 body-requires : tie.Need-body-requires
-body-requires c κs = let a = begun (body-credit c) in (body-asks (a .pre .0) (byFactors (a .args .factors .now)) (tabled a) (blank (body-wipe (body-credit c))), a .pre .1)
+body-requires c κs = let a = begun (body-credit c) in body-asks (a .pre .0) (byFactors (a .args .factors .now)) (tabled a) (blank (body-wipe (body-credit c)))
 
 returned-requires : tie.Need-returned-requires
 returned-requires c κs = count-asks _ _ _ (read (returned-body c))
@@ -138,7 +138,7 @@ returned-requires c κs = count-asks _ _ _ (read (returned-body c))
 column-requires : tie.Need-column-requires
 column-requires c κs =
     let k = column-returned c in
-    (on-asks _ _ _ (read (returned-body (k .before))) (k .returned .last .0) (k .returned .ensures) (counts-long k), root-start k .pre .1)
+    on-asks _ _ _ (read (returned-body (k .before))) (k .returned .last .0) (k .returned .ensures) (counts-long k)
 
 same-length : tie.Need-same-length
 same-length c =

@@ -32,13 +32,13 @@ add-add : tie.Need-add-add
 add-add c = search needs
 
 weight-at-requires : tie.Need-weight-at-requires
-weight-at-requires c κs = start (c .before .before) .pre .1
+weight-at-requires c κs = search needs
 
 add-requires : tie.Need-add-requires
 add-requires c κs =
     let a = weighed-start c in
     let x = a .args in
-    (a .pre .0 .1 .0, omega (arith, a .pre .0 .1 .1, marked-on (getD (x .marks .now) (x .at) 0) (weightAt (x .factors .now) (x .trace .now) (x .at) (x .row)) (c .before .before .if1 .taken), c .weight-at .ensures))
+    (a .pre .1 .0, omega (arith, a .pre .1 .1, marked-on (getD (x .marks .now) (x .at) 0) (weightAt (x .factors .now) (x .trace .now) (x .at) (x .row)) (c .before .before .if1 .taken), c .weight-at .ensures))
 
 same-length : tie.Need-same-length
 same-length c = search needs

@@ -33,7 +33,7 @@ on-line-requires : tie.Need-on-line-requires Inv-loop μ-loop
 on-line-requires c κs =
     let i = turn c in
     let a = start (i .before .before) in
-    (turn-asks (i .before .loop .inv) (i .loop-test .taken) (a .pre .0), a .pre .1)
+    turn-asks (i .before .loop .inv) (i .loop-test .taken) (a .pre)
 
 add-at : tie.Need-add-at Inv-loop μ-loop
 add-at c = search needs
@@ -48,7 +48,7 @@ loop-again c =
     turn-again (i .before .loop .inv) (i .loop-test .taken) (r .on-line .result) (r .on-line .last .1 .1 .1 .0) (r .on-line .last .1 .1 .1 .1 .1 .0) (r .on-line .kept .1 .1 .1 .1 .1 .0) (r .on-line .ensures)
 
 zero : (c : tie.After-loop Inv-loop μ-loop) → c .before .loop .t ≡ start (c .before .before) .args .t .now
-zero c = turn-zero (c .before .loop .inv) (c .loop-test .left) (start (c .before .before) .pre .0)
+zero c = turn-zero (c .before .loop .inv) (c .loop-test .left) (start (c .before .before) .pre)
 
 same-length : tie.Need-same-length Inv-loop μ-loop
 same-length c = ap length (zero c)

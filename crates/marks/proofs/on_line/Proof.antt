@@ -38,7 +38,7 @@ kind-at-requires c κs = search needs
 add-marked-requires : tie.Need-add-marked-requires
 add-marked-requires c κs =
     let k = c .before .before in
-    (add-asks (start k .pre .0) (k .kind-at .result) (k .kind-at .ensures) (c .before .if1 .taken), start k .pre .1)
+    add-asks (start k .pre) (k .kind-at .result) (k .kind-at .ensures) (c .before .if1 .taken)
 
 same-length : tie.Need-same-length
 same-length c = search needs
@@ -47,10 +47,10 @@ returns : tie.Need-returns
 returns c =
     let r = end-cost c in
     let k = cost-kind r in
-    cost-leaves (start k .pre .0) (k .kind-at .result) (k .kind-at .ensures) (r .before .before .if1 .taken) (r .add-marked .last .1 .1 .1 .1 .0) (r .add-marked .ensures)
+    cost-leaves (start k .pre) (k .kind-at .result) (k .kind-at .ensures) (r .before .before .if1 .taken) (r .add-marked .last .1 .1 .1 .1 .0) (r .add-marked .ensures)
 
 leave-requires : tie.Need-leave-requires
-leave-requires c κs = leave-asks (start (return-kind (c .before)) .pre .0)
+leave-requires c κs = leave-asks (start (return-kind (c .before)) .pre)
 
 same-length-2 : tie.Need-same-length-2
 same-length-2 c = search needs
@@ -60,12 +60,12 @@ returns-2 c =
     let r = end-return c in
     let i = return-test r in
     let k = return-kind i in
-    return-leaves (start k .pre .0) (k .kind-at .result) (k .kind-at .ensures) (i .if2 .taken) (r .leave .result) (r .leave .last .0) (r .leave .ensures)
+    return-leaves (start k .pre) (k .kind-at .result) (k .kind-at .ensures) (i .if2 .taken) (r .leave .result) (r .leave .last .0) (r .leave .ensures)
 
 returns-3 : tie.Need-returns-3
 returns-3 c =
     let k = other-kind (c .before) in
-    sync-leaves (start k .pre .0) (k .kind-at .result) (k .kind-at .ensures) (c .if3 .taken)
+    sync-leaves (start k .pre) (k .kind-at .result) (k .kind-at .ensures) (c .if3 .taken)
 
 site-at-requires : tie.Need-site-at-requires
 site-at-requires c κs = search needs
@@ -74,7 +74,7 @@ cast-enter : tie.Need-cast-enter
 cast-enter c = search needs
 
 enter-requires : tie.Need-enter-requires
-enter-requires c κs = enter-asks (start (other-kind (child-test c .before)) .pre .0)
+enter-requires c κs = enter-asks (start (other-kind (child-test c .before)) .pre)
 
 same-length-3 : tie.Need-same-length-3
 same-length-3 c = search needs
@@ -85,7 +85,7 @@ returns-4 c =
     let s = r .before in
     let e = child-test s in
     let k = other-kind (e .before) in
-    child-leaves (start k .pre .0) (k .kind-at .result) (k .kind-at .ensures) (s .site-at .result) (s .site-at .ensures) (e .before .before .if1 .left) (e .before .if2 .left) (e .if3 .left) (r .enter .result) (r .enter .last .0) (r .enter .ensures .0) (r .enter .ensures .1)
+    child-leaves (start k .pre) (k .kind-at .result) (k .kind-at .ensures) (s .site-at .result) (s .site-at .ensures) (e .before .before .if1 .left) (e .before .if2 .left) (e .if3 .left) (r .enter .result) (r .enter .last .0) (r .enter .ensures .0) (r .enter .ensures .1)
 
 pub on-line-spec : {M : Type 1} → statement M
 on-line-spec =

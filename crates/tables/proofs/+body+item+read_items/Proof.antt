@@ -102,7 +102,7 @@ module _ (t : ℕ) where
   body-read-items-requires c κs =
       let f = body-first c in
       let a = body-start f in
-      (omega (arith, a .pre .0), (begins (f .new .result) (f .new .ensures) (a .pre .1 .0), a .pre .1 .1))
+      (omega (arith, a .pre .0), begins (f .new .result) (f .new .ensures) (a .pre .1))
 
   body-join-requires : Body body-lts.Need-join-requires
   body-join-requires c κs = join-asks (body-items c .read-items .ensures .lent)
@@ -155,13 +155,13 @@ module _ (t : ℕ) where
   items-kind-at-requires c κs = search needs
 
   items-loop-holds : Items items-lts.Need-loop-holds
-  items-loop-holds c = loop-start (items-start c .pre .1 .0) (c .kind-at .result) (c .kind-at .ensures)
+  items-loop-holds c = loop-start (items-start c .pre .1) (c .kind-at .result) (c .kind-at .ensures)
 
   items-item-requires : Items items-lts.Need-item-requires
   items-item-requires c κs =
       let i = turn c in
       let a = items-start (i .before .before) in
-      (omega (arith, a .pre .0), (loop-asks (i .before .loop .inv) (i .loop-test .taken), a .pre .1 .1))
+      (omega (arith, a .pre .0), loop-asks (i .before .loop .inv) (i .loop-test .taken))
 
   items-kind-at-requires-2 : Items items-lts.Need-kind-at-requires-2
   items-kind-at-requires-2 c κs = search needs
@@ -255,19 +255,19 @@ module _ (t : ℕ) where
   -- what is known where a weight was read, where the child's part is known, and where the child has returned
   at-weight : (c : Item item-lts.After-weight-at) → (
       let a = item-start (weight-test c) .args in Costs (byFactors (a .factors .now)) (a .trace .now) (a .kind) (a .row) (a .deep) (a .f) (a .t .now) (a .rows .now) (a .n) (a .w) (c .weight-at .result))
-  at-weight c = record { asks = item-start (weight-test c) .pre .1 .0; weight-is = c .weight-at .ensures; cost = c .before .if1 .taken }
+  at-weight c = record { asks = item-start (weight-test c) .pre .1; weight-is = c .weight-at .ensures; cost = c .before .if1 .taken }
 
   at-part : (c : Item item-lts.After-part) → (
       let a = child-start (c .before) .args in Calls (byFactors (a .factors .now)) (a .trace .now) (a .kind) (a .row) (a .deep) (a .f) (a .t .now) (a .rows .now) (a .n) (a .w) (c .before .site-at .result) (c .part .result))
   at-part c =
       let e = c .before .before in
-      record { asks = child-start (c .before) .pre .1 .0; site-is = c .before .site-at .ensures; no-cost = e .before .if1 .left; no-sync = e .if2 .left; begins = c .part .ensures }
+      record { asks = child-start (c .before) .pre .1; site-is = c .before .site-at .ensures; no-cost = e .before .if1 .left; no-sync = e .if2 .left; begins = c .part .ensures }
 
   at-body : (c : Item item-lts.After-body) → Back (at-part (body-part (c .before))) (body-credit (c .before) .credit-of .result) (c .body .result) (body-scratch c) (body-rows c)
   at-body c = record { taken = body-credit (c .before) .credit-of .ensures; part-long = c .body .kept .1 .1 .1 .1 .0; rows-long = c .body .kept .1 .1 .1 .1 .1 .0; leaves = c .body .ensures }
 
   item-weight-at-requires : Item item-lts.Need-weight-at-requires
-  item-weight-at-requires c κs = item-start (c .before) .pre .1 .1
+  item-weight-at-requires c κs = search needs
 
   item-spend-requires : Item item-lts.Need-spend-requires
   item-spend-requires c κs = rows-asks (at-weight (c .before))
@@ -288,7 +288,7 @@ module _ (t : ℕ) where
       cost-leaves (at-weight (rows-weight r)) (e .spend2 .result) (e .spend2 .last .0) (r .spend .last .0) (r .spend .ensures) (e .spend2 .ensures)
 
   item-join-requires : Item item-lts.Need-join-requires
-  item-join-requires c κs = join-asks (sync-start (join-test c) .pre .1 .0 .lent)
+  item-join-requires c κs = join-asks (sync-start (join-test c) .pre .1 .lent)
 
   item-same-length-3 : Item item-lts.Need-same-length-3
   item-same-length-3 c = search needs
@@ -298,7 +298,7 @@ module _ (t : ℕ) where
       let j = item-join c in
       let e = join-test (j .before) in
       let a = sync-start e in
-      sync-leaves (a .pre .1 .0 .lent) (a .args .kind) (a .pre .1 .0 .kind-is) (e .if2 .taken) (j .join .result) (j .join .last .0) (j .join .ensures)
+      sync-leaves (a .pre .1 .lent) (a .args .kind) (a .pre .1 .kind-is) (e .if2 .taken) (j .join .result) (j .join .last .0) (j .join .ensures)
 
   item-site-at-requires : Item item-lts.Need-site-at-requires
   item-site-at-requires c κs = search needs
@@ -309,13 +309,13 @@ module _ (t : ℕ) where
   item-part-requires : Item item-lts.Need-part-requires
   item-part-requires c κs =
       let a = child-start c in
-      omega (arith, own-room (a .pre .1 .0 .lent), scratch-fits a)
+      omega (arith, own-room (a .pre .1 .lent), scratch-fits a)
 
   item-credit-of-requires : Item item-lts.Need-credit-of-requires
   item-credit-of-requires c κs = credit-asks (at-part (c .before))
 
   item-add-body : Item item-lts.Need-add-body
-  item-add-body c = record { fits = line-fits (child-start (credit-part c .before) .pre .1 .0 .lent) }
+  item-add-body c = record { fits = line-fits (child-start (credit-part c .before) .pre .1 .lent) }
 
   item-sub-body : Item item-lts.Need-sub-body
   item-sub-body c = deeper (at-part (credit-part c))
@@ -336,7 +336,7 @@ module _ (t : ℕ) where
   item-body-requires c κs =
       let h = at-part (body-part c) in
       let a = child-start (body-part c .before) in
-      (omega (arith, a .pre .0, deeper h), (body-asks h, a .pre .1 .1))
+      (omega (arith, a .pre .0, deeper h), body-asks h)
 
   item-returned-requires : Item item-lts.Need-returned-requires
   item-returned-requires c κs = count-asks _ (at-body (returned-body c))

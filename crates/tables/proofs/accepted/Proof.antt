@@ -109,7 +109,7 @@ add-body-2 : tie.Need-add-body-2
 add-body-2 c = let l = limits (begun c .pre .0) in omega (arith, l .2, l .3)
 
 body-requires : tie.Need-body-requires
-body-requires c κs = (root-asks (begun c .pre .0) (byFactors (begun c .args .factors .now)) (tabled (begun c)) (blank (body-zeros (body-credit c))), begun c .pre .1)
+body-requires c κs = root-asks (begun c .pre .0) (byFactors (begun c .args .factors .now)) (tabled (begun c)) (blank (body-zeros (body-credit c)))
 
 returned-requires : tie.Need-returned-requires
 returned-requires c κs = root-counts _ _ _ (read (returned-body c))

@@ -1,7 +1,5 @@
 -- `walk::weight_at` meets its contract: the value divided by the row's factor, or as it stands behind the last.
 use mathlib.Core.Path.{ap, _∙_, sym}
-use Prim.Native.Nat.{ℕ}
-use native.Mathlib.Omega.{arith}
 use borrow.Author.Needs.{needs}
 use Rattle.forecast.specs.Rewritten.{divided}
 use Rattle.walk.specs.Weight.{byFactors}
@@ -29,12 +27,7 @@ shared-slice-read-share : tie.Need-shared-slice-read-share
 shared-slice-read-share c = search needs
 
 share-requires : tie.Need-share-requires
-share-requires c κs =
-    let v = valued c in
-    let a = start v in
-    let e = factor-there (a .args .factors .now) (a .args .row) (c .before .if1 .taken) in
-    let h = a .pre (a .args .row) in
-    (omega (arith, v .value-at .ok), (omega (arith, e, h .0), omega (arith, e, h .1)))
+share-requires c κs = search needs
 
 returns : tie.Need-returns
 returns c =
