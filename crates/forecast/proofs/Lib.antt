@@ -5,3 +5,5 @@ pub mod Outcome
 pub mod Gain
 pub mod Loops
 pub mod Checked
+pub mod Entries
+pub mod Taking
