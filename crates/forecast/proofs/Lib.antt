@@ -3,6 +3,7 @@ pub mod Divided
 pub mod Asked
 pub mod Outcome
 pub mod Gain
+pub mod Table
 pub mod Loops
 pub mod Checked
 pub mod Entries
