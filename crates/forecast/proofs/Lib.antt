@@ -8,3 +8,4 @@ pub mod Loops
 pub mod Checked
 pub mod Entries
 pub mod Taking
+pub mod Written
