@@ -9,12 +9,12 @@ use native.Mathlib.Omega.{arith}
 use lib.Dec.{ltb}
 use lib.ListN.{length, take, replicate, length-take}
 use lib.Seq.{take-all, take-append-seam}
-use borrow.Author.Tests.{lt-ltb, le-ltb}
+use borrow.Author.Tests.{lt-ltb, le-ltb, ltb-false}
 use Rattle.trace.proofs.Basics.{below}
 use Rattle.forecast.specs.declared.Entry.{Entry}
 use Rattle.forecast.specs.declared.Listed.{Listed}
-use Rattle.forecast.specs.Asked.{ascending, allDeclared, badFactor, asked}
-use Rattle.forecast.specs.Listed.{none, listed, askedOf}
+use Rattle.forecast.specs.Asked.{tooLong, ascending, allDeclared, badFactor, asked}
+use Rattle.forecast.specs.Listed.{none, listed, askedOf, factorTable}
 
 -- the number by the three questions that are left where the list is not too long
 abbrev answer : Bool → Bool → Bool → ℕ
@@ -65,3 +65,11 @@ asked-listed m es = elim (below 17 (length es)) [
   where
     long : (k : ℕ) → length es ≡ 17 + k → ltb 16 (length es) ≡ true
     long k e = lt-ltb 16 (length es) (omega (arith, e))
+
+-- LAW: where the entries may be asked, the factors of the list by value are those of the lent list
+pub factors-listed : (m : ℕ) (es : List Entry) → asked m es ≡ 0 → factorTable (take (listed es .count) (listed es .entries)) ≡ factorTable es
+factors-listed m es h = ap factorTable (held es (few (tooLong es) refl))
+  where
+    few : (b : Bool) → tooLong es ≡ b → length es ≤ 16
+    few false e = ltb-false 16 (length es) e
+    few true e = let z : _≡_ {A = ℕ} 0 19 = sym h ∙ ap (λ (b : Bool). cond (b || not (ascending es) || not (allDeclared m es)) 19 (cond (badFactor es) 20 0)) e in absurd (omega (arith, z))

@@ -68,7 +68,7 @@ value-rewritten es t k v h = value-line es t 0 (root ∷ []) t k v h
 -- ── no number grows ──
 
 module _ (es : List Entry) (good : badFactor es ≡ false) (t : List Frame) where
-  least : (o : List ℕ) → 1 ≤ factorAt es t o
+  pub least : (o : List ℕ) → 1 ≤ factorAt es t o
   least [] = omega arith
   least (F ∷ o) = factor-of-range es t F good .0
 

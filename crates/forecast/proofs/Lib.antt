@@ -3,5 +3,9 @@ pub mod Divided
 pub mod Asked
 pub mod Outcome
 pub mod Gain
+pub mod Table
 pub mod Loops
 pub mod Checked
+pub mod Entries
+pub mod Taking
+pub mod Written

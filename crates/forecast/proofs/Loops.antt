@@ -1,20 +1,20 @@
 -- The loops over the first entries of an array, an entry at a time.
 use mathlib.Core.Path.{_≡_, refl, sym, _∙_, ap}
 use mathlib.Core.Logic.{inl, inr}
-use mathlib.Core.Bool.{Bool, true, false, cond, _&&_, _||_}
+use mathlib.Core.Bool.{Bool, true, false, _&&_, _||_}
 use mathlib.Core.List.{List, [], _∷_}
-use Prim.Native.Nat.{ℕ, zero, suc, _+_, _-_, _<_, _≤_, min}
+use Prim.Native.Nat.{ℕ, suc, _+_, _-_, _<_, _≤_, min}
 use native.Mathlib.Nat.{min-le-right, min-eq-left, min-eq-right}
 use native.Mathlib.Omega.{arith}
-use lib.Dec.{ltb, leb, eqb}
+use lib.Dec.{ltb}
 use lib.ListN.{length, getD, set, take, drop, replicate, drop-of-length-le, length-drop}
 use lib.Seq.{drop-cons, getD-take, length-take-le, take-all}
-use borrow.Author.Tests.{lt-ltb, le-ltb, le-leb, lt-leb, eq-eqb, ne-eqb}
+use borrow.Author.Tests.{lt-ltb, le-ltb, le-leb, lt-leb}
 use Rattle.trace.proofs.Basics.{no-way, below}
 use Rattle.forecast.specs.declared.Entry.{Entry}
 use Rattle.forecast.specs.Asked.{above, ascending, allDeclared, badFactor}
-use Rattle.forecast.specs.ByRow.{rowFactor}
-use Rattle.forecast.specs.Listed.{none, numbers, factorTable}
+use Rattle.forecast.specs.Listed.{none, factorTable}
+use Rattle.forecast.proofs.Table.{table-none, table-in, table-out}
 
 module _ (es : List Entry) (count : ℕ) (within : count ≤ length es) where
   -- the entries from i on
@@ -85,43 +85,7 @@ module _ (es : List Entry) (count : ℕ) (within : count ≤ length es) where
       go (e ∷ []) k = refl
       go (e ∷ f ∷ l) k = absurd (omega arith)
 
--- ── the factor of every row ──
-
-numbers-same : (f g : ℕ → ℕ) (n r : ℕ) → ((k : ℕ) → r ≤ k → k < r + n → f k ≡ g k) → numbers f r n ≡ numbers g r n
-numbers-same f g zero r same = refl
-numbers-same f g (suc n) r same =
-    ap (λ (k : ℕ). k ∷ numbers f (suc r) n) (same r (omega arith) (omega arith))
-    ∙ ap (λ (l : List ℕ). g r ∷ l) (numbers-same f g n (suc r) (λ k l m. same k (omega arith) (omega arith)))
-
--- a number set in a table of numbers
-pub numbers-set : (f g : ℕ → ℕ) (n r j : ℕ) → j < n → ((k : ℕ) → (k ≡ r + j → ⊥) → g k ≡ f k) → set (numbers f r n) j (g (r + j)) ≡ numbers g r n
-numbers-set f g zero r j h same = absurd (omega arith)
-numbers-set f g (suc n) r zero h same =
-    let e : r + 0 ≡ r = omega arith in
-    ap (λ (k : ℕ). g k ∷ numbers f (suc r) n) e ∙ ap (λ (l : List ℕ). g r ∷ l) (numbers-same f g n (suc r) (λ k l m. sym (same k (λ q. omega arith))))
-numbers-set f g (suc n) r (suc j) h same =
-    let e : r + suc j ≡ suc r + j = omega arith in
-    ap (λ (k : ℕ). f r ∷ set (numbers f (suc r) n) j (g k)) e
-    ∙ ap (λ (k : ℕ). k ∷ set (numbers f (suc r) n) j (g (suc r + j))) (sym (same r (λ q. omega arith)))
-    ∙ ap (λ (l : List ℕ). g r ∷ l) (numbers-set f g n (suc r) j (omega arith) (λ k q. same k (λ z. q (omega arith))))
-
--- what the first entries say of every row, with one entry more in front
-table-in : (e : Entry) (es : List Entry) → e .row < 256 → set (factorTable es) (e .row) (e .factor) ≡ factorTable (e ∷ es)
-unfolding factorTable
-table-in e es h =
-    let here : rowFactor (e ∷ es) (0 + e .row) ≡ e .factor = ap (λ (b : Bool). cond b (e .factor) (rowFactor es (0 + e .row))) (eq-eqb (0 + e .row) (e .row) (omega arith)) in
-    ap (λ (v : ℕ). set (factorTable es) (e .row) v) (sym here)
-    ∙ numbers-set (rowFactor es) (rowFactor (e ∷ es)) 256 0 (e .row) h (λ k q. ap (λ (b : Bool). cond b (e .factor) (rowFactor es k)) (ne-eqb k (e .row) (λ z. q (omega arith))))
-
-table-out : (e : Entry) (es : List Entry) → 256 ≤ e .row → factorTable es ≡ factorTable (e ∷ es)
-unfolding factorTable
-table-out e es h = numbers-same (rowFactor es) (rowFactor (e ∷ es)) 256 0 (λ k l m. sym (ap (λ (b : Bool). cond b (e .factor) (rowFactor es k)) (ne-eqb k (e .row) (λ z. omega arith))))
-
-table-none : replicate 256 1 ≡ factorTable []
-unfolding factorTable
-table-none = refl
-
--- ── as many as the list holds ──
+-- ── the factor of every row, as many entries as the list holds ──
 
 module _ (es : List Entry) (count : ℕ) (whole : length es ≡ 16) where
   abbrev n : ℕ

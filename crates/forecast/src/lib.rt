@@ -1,11 +1,11 @@
 // Forecast entries: what a caller asks for, whether it may be asked, and what a cost line then weighs.
 
 ghost use mathlib.Core.Path.{_≡_};
-ghost use Prim.Native.Nat.{_≤_, min};
-ghost use lib.ListN.{take};
+ghost use Prim.Native.Nat.{_≤_, _<_, min};
+ghost use lib.ListN.{length, getD, set, take, replicate};
 ghost use Rattle.forecast.specs.Rewritten.{divided};
 ghost use Rattle.forecast.specs.Asked.{ascending, allDeclared, badFactor};
-ghost use Rattle.forecast.specs.Listed.{askedOf, factorTable};
+ghost use Rattle.forecast.specs.Listed.{none, listed, askedOf, factorTable};
 
 // "each a row number and a factor"
 pub struct Entry {
@@ -27,6 +27,49 @@ fn few(count: usize) -> usize
         return 16;
     }
     count
+}
+
+// The thin lookup in the lent slice of entries.
+fn entry_at(entries: &[Entry], i: usize) -> Entry
+    requires { ⌜ i < length (now entries) ⌝ }
+    ensures { λ r. ⌜ r ≡ getD (now (entries .entry)) i none ⌝ }
+{
+    entries[i]
+}
+
+// A list by value that holds no entry yet.
+fn blank(count: usize) -> Listed
+    ensures { λ r. ⌜ r ≡ record { count = count; entries = replicate 16 none } ⌝ }
+{
+    Listed {
+        count,
+        entries: [Entry { row: 0, factor: 0 }; 16],
+    }
+}
+
+// The list with an entry in its place.
+fn with(list: Listed, i: usize, entry: Entry) -> Listed
+    requires { ⌜ i < 16 ⌝ }
+    ensures { λ r. ⌜ r ≡ record { count = list .count; entries = set (list .entries) i entry } ⌝ }
+{
+    let mut next = list;
+    next.entries[i] = entry;
+    next
+}
+
+// The lent entries by value.
+pub fn taken(entries: &[Entry]) -> Listed
+    ensures { λ r. ⌜ r ≡ listed (now (entries .entry)) ⌝ }
+{
+    let count = entries.len();
+    let mut list = blank(count);
+    let end = few(count);
+    let mut i = 0;
+    while i < end {
+        list = with(list, i, entry_at(entries, i));
+        i += 1;
+    }
+    list
 }
 
 // Whether the rows of the first `count` entries are strictly ascending.

@@ -1,6 +1,6 @@
 -- `forecast::by_row` meets its contract. The invariant: the table has the factors of the entries behind. The measure: the
 -- entries to come.
-use mathlib.Core.Path.{_≡_, refl, sym, _∙_, ap}
+use mathlib.Core.Path.{_≡_, _∙_, ap}
 use mathlib.Core.List.{List}
 use Prim.Native.Nat.{ℕ, _-_, _≤_, min}
 use native.Mathlib.Nat.{min-le-right}

@@ -1,6 +1,5 @@
 -- `forecast::share` meets its contract: a quotient, and one more where something remains; a factor of 0 gives 0.
-use mathlib.Core.Path.{_≡_, sym, _∙_, ap}
-use Prim.Native.Nat.{ℕ, _≤_}
+use mathlib.Core.Path.{sym, _∙_, ap}
 use native.Mathlib.Omega.{arith}
 use borrow.Author.Needs.{needs}
 use Rattle.forecast.specs.Rewritten.{divided}
