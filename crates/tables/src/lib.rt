@@ -11,6 +11,8 @@ ghost use Prim.Native.Nat.{ℕ, _+_, _*_, _^_, _≤_, _<_};
 ghost use lib.ListN.{length, getD};
 ghost use Rattle.trace.specs.Rows.{columns};
 ghost use Rattle.trace.specs.Promise.{tables, Promise};
+ghost use Rattle.walk.specs.Weight.{byFactors, Factors};
+ghost use Rattle.walk.specs.Profiled.{Profiled};
 ghost use Rattle.tables.specs.Blocks.{Added, Cleared, Weighed, sinceAt, partAt, Asks, Spent, Joined, Called, Spawned};
 ghost use Rattle.tables.specs.Root.{lent, Admitted, Settled};
 ghost use Rattle.tables.specs.Reader.{Lent, ItemAsks, ItemLeaves, ItemsLeave, BodyAsks, BodyLeaves};
@@ -171,15 +173,16 @@ fn read_items(
     rows: &mut [u64],
     n: usize,
     w: usize,
+    factors: &[u64],
 ) -> walk::Open
-    requires { ⌜ Lent (now trace) row deep f (now t) (now rows) n w ⌝ }
-    ensures { λ r. ⌜ ItemsLeave (now (trace .entry)) row deep f (now (t .entry)) (now (rows .entry)) n w r
-        (now (t .exit)) (now (rows .exit)) ⌝ }
+    requires { ⌜ Lent (byFactors (now factors)) (now trace) row deep f (now t) (now rows) n w ⌝ }
+    ensures { λ r. ⌜ ItemsLeave (byFactors (now (factors .entry))) (now (trace .entry)) row deep f (now (t .entry))
+        (now (rows .entry)) n w r (now (t .exit)) (now (rows .exit)) ⌝ }
 {
     let mut g = f;
     let mut kind = line::kind_at(trace, f.at);
     while kind != 5 {
-        g = item(trace, kind, g, row, deep, t, rows, n, w);
+        g = item(trace, kind, g, row, deep, t, rows, n, w, factors);
         kind = line::kind_at(trace, g.at);
     }
     g
@@ -195,12 +198,23 @@ fn body(
     rows: &mut [u64],
     n: usize,
     w: usize,
+    factors: &[u64],
 ) -> walk::Open
-    requires { ⌜ BodyAsks (now trace) from row deep (now t) (now rows) n w ⌝ }
-    ensures { λ r. ⌜ BodyLeaves (now (trace .entry)) from row (now (t .entry)) (now (rows .entry)) n w r
-        (now (t .exit)) (now (rows .exit)) ⌝ }
+    requires { ⌜ BodyAsks (byFactors (now factors)) (now trace) from row deep (now t) (now rows) n w ⌝ }
+    ensures { λ r. ⌜ BodyLeaves (byFactors (now (factors .entry))) (now (trace .entry)) from row (now (t .entry))
+        (now (rows .entry)) n w r (now (t .exit)) (now (rows .exit)) ⌝ }
 {
-    let f = read_items(trace, walk::Open::new(from), row, deep, t, rows, n, w);
+    let f = read_items(
+        trace,
+        walk::Open::new(from),
+        row,
+        deep,
+        t,
+        rows,
+        n,
+        w,
+        factors,
+    );
     join(t, n, w, f)
 }
 
@@ -215,14 +229,15 @@ fn item(
     rows: &mut [u64],
     n: usize,
     w: usize,
+    factors: &[u64],
 ) -> walk::Open
-    requires { ⌜ ItemAsks (now trace) kind row deep f (now t) (now rows) n w ⌝ }
-    ensures { λ r. ⌜ ItemLeaves (now (trace .entry)) row f (now (t .entry)) (now (rows .entry)) n w r (now (t .exit))
-        (now (rows .exit)) ⌝ }
+    requires { ⌜ ItemAsks (byFactors (now factors)) (now trace) kind row deep f (now t) (now rows) n w ⌝ }
+    ensures { λ r. ⌜ ItemLeaves (byFactors (now (factors .entry))) (now (trace .entry)) row f (now (t .entry))
+        (now (rows .entry)) n w r (now (t .exit)) (now (rows .exit)) ⌝ }
 {
     let at = f.at;
     if kind == 6 {
-        let v = walk::weight_at(trace, at);
+        let v = walk::weight_at(trace, at, row, factors);
         walk::spend(rows, row, v);
         return spend(t, n, w, f, row, v);
     }
@@ -232,7 +247,17 @@ fn item(
     let site = line::site_at(trace, at) as usize;
     let o = part(n, f);
     let before = walk::credit_of(rows, site);
-    let c = body(trace, at + 1, site, deep - 1, &mut t[o..], rows, n, w);
+    let c = body(
+        trace,
+        at + 1,
+        site,
+        deep - 1,
+        &mut t[o..],
+        rows,
+        n,
+        w,
+        factors,
+    );
     walk::returned(rows, site, c.work, c.prefix, before);
     if kind == 2 {
         return called(t, n, w, f, site, c);
@@ -253,7 +278,8 @@ fn settle(t: &mut [u64], rows: &mut [u64], w: usize)
     }
 }
 
-// An accepted trace of count sites and lines lines: the room is cleared, the root is read, and its table is moved out.
+// An accepted trace of count sites and lines lines, each cost weighed by its row's factor: the room is cleared, the root
+// is read, and its table is moved out.
 fn accepted(
     text: &[u8],
     depth: usize,
@@ -262,10 +288,12 @@ fn accepted(
     lines: usize,
     scratch: &mut [u64],
     rows: &mut [u64],
+    factors: &[u64],
 ) -> trace::Answer
     requires { ⌜ Admitted (now text) depth sites (now scratch) (now rows) count lines ⌝ }
-    ensures { λ r. ⌜ Promise tables (now (text .entry)) depth sites (lent (now (scratch .entry)) (now (rows .entry)))
-        r (lent (now (scratch .exit)) (now (rows .exit))) ⌝ }
+    requires { ⌜ Factors (now factors) ⌝ }
+    ensures { λ r. ⌜ Profiled tables (byFactors (now (factors .entry))) (now (text .entry)) depth sites
+        (lent (now (scratch .entry)) (now (rows .entry))) r (lent (now (scratch .exit)) (now (rows .exit))) ⌝ }
 {
     walk::zero(scratch, scratch.len());
     walk::zero(rows, trace::COLUMNS * (count + 1));
@@ -281,6 +309,7 @@ fn accepted(
         rows,
         sites + 3,
         count + 1,
+        factors,
     );
     walk::returned(rows, 0, f.work, f.prefix, before);
     settle(scratch, rows, count + 1);
@@ -307,6 +336,7 @@ pub fn profile(
             lines,
             scratch,
             rows,
+            &[],
         ),
         admit::Verdict::Refused(number, line) => trace::Answer::Refused(number, line),
     }
