@@ -66,10 +66,14 @@ asked-listed m es = elim (below 17 (length es)) [
     long : (k : ℕ) → length es ≡ 17 + k → ltb 16 (length es) ≡ true
     long k e = lt-ltb 16 (length es) (omega (arith, e))
 
--- LAW: where the entries may be asked, the factors of the list by value are those of the lent list
-pub factors-listed : (m : ℕ) (es : List Entry) → asked m es ≡ 0 → factorTable (take (listed es .count) (listed es .entries)) ≡ factorTable es
-factors-listed m es h = ap factorTable (held es (few (tooLong es) refl))
+-- where the entries may be asked, those that the list by value holds are the lent ones
+pub listed-held : (m : ℕ) (es : List Entry) → asked m es ≡ 0 → take (listed es .count) (listed es .entries) ≡ es
+listed-held m es h = held es (few (tooLong es) refl)
   where
     few : (b : Bool) → tooLong es ≡ b → length es ≤ 16
     few false e = ltb-false 16 (length es) e
     few true e = let z : _≡_ {A = ℕ} 0 19 = sym h ∙ ap (λ (b : Bool). cond (b || not (ascending es) || not (allDeclared m es)) 19 (cond (badFactor es) 20 0)) e in absurd (omega (arith, z))
+
+-- LAW: so its factors are theirs
+pub factors-listed : (m : ℕ) (es : List Entry) → asked m es ≡ 0 → factorTable (take (listed es .count) (listed es .entries)) ≡ factorTable es
+factors-listed m es h = ap factorTable (listed-held m es h)

@@ -4,3 +4,4 @@ pub mod Promise
 pub mod Gain
 pub mod ByRow
 pub mod Listed
+pub mod OfList

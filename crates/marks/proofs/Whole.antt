@@ -24,6 +24,8 @@ use Rattle.admit.specs.declared.Verdict.the-variants as Verdict
 use Rattle.admit.specs.Answer.{admission}
 use Rattle.admit.proofs.Admitted.{refused-only, accepted-only}
 use Rattle.weigh.specs.Weighed.{Weigh, Tabled, reweighed}
+use Rattle.forecast.specs.declared.Listed.{Listed}
+use Rattle.forecast.specs.OfList.{ForecastOf}
 use Rattle.walk.specs.declared.Open.{Open}
 use Rattle.walk.specs.declared.Credit.{Credit}
 use Rattle.walk.specs.Weight.{byFactors}
@@ -31,7 +33,7 @@ use Rattle.walk.specs.Reads.{Reads}
 use Rattle.walk.specs.Gain.{creditOf, ReturnFits, Returned}
 use Rattle.walk.specs.Profiled.{Profiled}
 use Rattle.walk.proofs.Weight.{weight-plain}
-use Rattle.walk.proofs.Profiled.{kept-refused, plain-promise}
+use Rattle.walk.proofs.Profiled.{kept-refused, text-refused, plain-promise}
 use Rattle.walk.proofs.Room.{lines-in}
 use Rattle.walk.proofs.Zeros.{zeros-at}
 use Rattle.walk.proofs.Accepted.{limits, rooms, rows-room, cleared, first, row-there, trace, root, body, first-is, lines-are, within, small, reads, ready, profiled, work-is, span-is, count-fits, cells, none-on, rest}
@@ -239,6 +241,11 @@ module _ (s : List ℕ) (D M : ℕ) (x : Lent) where
       let v = verdict s D M (enough marks s D M x) in
       kept-refused marks v x number line (refused-only v number line e)
 
+  -- whatever is asked
+  pub unasked : (l : Listed) (number line : ℕ) → Verdict.Refused number line ≡ admission marks s D M (length (x .scratch)) (length (x .rows)) (length (x .marks))
+      → ForecastOf marks l s D M x (Refused number line) x
+  unasked l number line e = text-refused marks s D M x l number line (refused-only (verdict s D M (enough marks s D M x)) number line e)
+
 -- with no factor it is the plain profile
 pub plain : {s : List ℕ} {D M : ℕ} {x : Lent} {count lines : ℕ} → Admitted s D M x count lines → (r : Answer) (y : Lent) → Profiled marks (byFactors []) s D M x r y → Promise marks s D M x r y
-plain {s} {D} {M} {x} a r y h = plain-promise marks s D M x (a .frames) (a .is) (byFactors []) r y h weight-plain
+plain {s} {D} {M} {x} a r y h = plain-promise marks s D M x (a .frames) (a .is) (byFactors []) weight-plain r y h

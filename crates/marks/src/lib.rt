@@ -6,6 +6,7 @@ ghost use Prim.Native.Nat.{_+_, _*_, _^_, _≤_, _<_};
 ghost use lib.ListN.{length, getD, set, replicate};
 ghost use Rattle.trace.specs.Column.{Column, slot};
 ghost use Rattle.trace.specs.Promise.{Engine, Promise};
+ghost use Rattle.forecast.specs.OfList.{ForecastOf};
 ghost use Rattle.walk.specs.Weight.{byFactors, Factors, weightAt};
 ghost use Rattle.walk.specs.Profiled.{Profiled};
 ghost use Rattle.walk.specs.Gain.{ColumnFits, one, Grown};
@@ -448,6 +449,72 @@ pub fn profile(
             marks,
             rows,
             &[],
+        ),
+        admit::Verdict::Refused(number, line) => trace::Answer::Refused(number, line),
+    }
+}
+
+// An accepted trace of count sites and lines lines, asked by a list of forecast entries: refusal 19 or 20 of the list,
+// else the trace with each cost weighed by its row's factor.
+fn asked(
+    text: &[u8],
+    depth: usize,
+    sites: usize,
+    count: usize,
+    lines: usize,
+    list: forecast::Listed,
+    scratch: &mut [u64],
+    marks: &mut [u8],
+    rows: &mut [u64],
+) -> trace::Answer
+    requires { ⌜ Admitted (now text) depth sites (lent (now scratch) (now marks) (now rows)) count lines ⌝ }
+    ensures { λ r. ⌜ ForecastOf Engine.marks list (now (text .entry)) depth sites
+        (lent (now (scratch .entry)) (now (marks .entry)) (now (rows .entry))) r
+        (lent (now (scratch .exit)) (now (marks .exit)) (now (rows .exit))) ⌝ }
+{
+    let number = forecast::check(list, count);
+    if number != 0 {
+        return trace::Answer::Refused(number, 0);
+    }
+    let factors = forecast::factors(list);
+    accepted(
+        text,
+        depth,
+        sites,
+        count,
+        lines,
+        scratch,
+        marks,
+        rows,
+        &factors,
+    )
+}
+
+// The marks engine's forecast: any text, any limits, any list of entries and any room.
+pub fn forecast(
+    text: &[u8],
+    depth: usize,
+    sites: usize,
+    list: forecast::Listed,
+    scratch: &mut [u64],
+    marks: &mut [u8],
+    rows: &mut [u64],
+) -> trace::Answer
+    ensures { λ r. ⌜ ForecastOf Engine.marks list (now (text .entry)) depth sites
+        (lent (now (scratch .entry)) (now (marks .entry)) (now (rows .entry))) r
+        (lent (now (scratch .exit)) (now (marks .exit)) (now (rows .exit))) ⌝ }
+{
+    match admit::for_marks(text, depth, sites, scratch.len(), rows.len(), marks.len()) {
+        admit::Verdict::Accepted(count, lines) => asked(
+            text,
+            depth,
+            sites,
+            count,
+            lines,
+            list,
+            scratch,
+            marks,
+            rows,
         ),
         admit::Verdict::Refused(number, line) => trace::Answer::Refused(number, line),
     }

@@ -23,6 +23,8 @@ use Rattle.admit.specs.declared.Verdict.the-variants as Verdict
 use Rattle.admit.specs.Answer.{admission}
 use Rattle.admit.proofs.Admitted.{refused-only, accepted-only}
 use Rattle.weigh.specs.Weighed.{Weigh, Tabled, reweighed}
+use Rattle.forecast.specs.declared.Listed.{Listed}
+use Rattle.forecast.specs.OfList.{ForecastOf}
 use Rattle.walk.specs.declared.Open.{Open}
 use Rattle.walk.specs.declared.Credit.{Credit}
 use Rattle.walk.specs.Gain.{creditOf, ReturnFits, Returned}
@@ -30,7 +32,7 @@ use Rattle.walk.specs.Reader.{alone, BodyDone}
 use Rattle.walk.specs.Profiled.{Profiled}
 use Rattle.walk.specs.Weight.{byFactors}
 use Rattle.walk.proofs.Weight.{weight-plain}
-use Rattle.walk.proofs.Profiled.{kept-refused, plain-promise}
+use Rattle.walk.proofs.Profiled.{kept-refused, text-refused, plain-promise}
 use Rattle.walk.proofs.Zeros.{zeros-at}
 use Rattle.walk.proofs.Accepted as root
 use Rattle.tables.specs.Blocks.{Shows}
@@ -185,7 +187,12 @@ module _ (s : List ℕ) (D M : ℕ) (scratch rows : List ℕ) where
       let v = verdict s D M (enough tables s D M (lent scratch rows)) in
       kept-refused tables v (lent scratch rows) number line (refused-only v number line e)
 
+  -- whatever is asked
+  pub unasked : (l : Listed) (number line : ℕ) → Verdict.Refused number line ≡ admission tables s D M (length scratch) (length rows) 0
+      → ForecastOf tables l s D M (lent scratch rows) (Refused number line) (lent scratch rows)
+  unasked l number line e = text-refused tables s D M (lent scratch rows) l number line (refused-only (verdict s D M (enough tables s D M (lent scratch rows))) number line e)
+
 -- with no factor it is the plain profile
 pub plain : {s : List ℕ} {D M : ℕ} {scratch rows : List ℕ} {count lines : ℕ} → Admitted s D M scratch rows count lines → (r : Answer) (t′ rows′ : List ℕ)
     → Profiled tables (byFactors []) s D M (lent scratch rows) r (lent t′ rows′) → Promise tables s D M (lent scratch rows) r (lent t′ rows′)
-plain {s} {D} {M} {scratch} {rows} a r t′ rows′ h = plain-promise tables s D M (lent scratch rows) (a .t) (a .is) (byFactors []) r (lent t′ rows′) h weight-plain
+plain {s} {D} {M} {scratch} {rows} a r t′ rows′ h = plain-promise tables s D M (lent scratch rows) (a .t) (a .is) (byFactors []) weight-plain r (lent t′ rows′) h

@@ -11,6 +11,7 @@ ghost use Prim.Native.Nat.{ℕ, _+_, _*_, _^_, _≤_, _<_};
 ghost use lib.ListN.{length, getD};
 ghost use Rattle.trace.specs.Rows.{columns};
 ghost use Rattle.trace.specs.Promise.{tables, Promise};
+ghost use Rattle.forecast.specs.OfList.{ForecastOf};
 ghost use Rattle.walk.specs.Weight.{byFactors, Factors};
 ghost use Rattle.walk.specs.Profiled.{Profiled};
 ghost use Rattle.tables.specs.Blocks.{Added, Cleared, Weighed, sinceAt, partAt, Asks, Spent, Joined, Called, Spawned};
@@ -337,6 +338,57 @@ pub fn profile(
             scratch,
             rows,
             &[],
+        ),
+        admit::Verdict::Refused(number, line) => trace::Answer::Refused(number, line),
+    }
+}
+
+// An accepted trace of count sites and lines lines, asked by a list of forecast entries: refusal 19 or 20 of the list,
+// else the trace with each cost weighed by its row's factor.
+fn asked(
+    text: &[u8],
+    depth: usize,
+    sites: usize,
+    count: usize,
+    lines: usize,
+    list: forecast::Listed,
+    scratch: &mut [u64],
+    rows: &mut [u64],
+) -> trace::Answer
+    requires { ⌜ Admitted (now text) depth sites (now scratch) (now rows) count lines ⌝ }
+    ensures { λ r. ⌜ ForecastOf tables list (now (text .entry)) depth sites
+        (lent (now (scratch .entry)) (now (rows .entry))) r (lent (now (scratch .exit)) (now (rows .exit))) ⌝ }
+{
+    let number = forecast::check(list, count);
+    if number != 0 {
+        return trace::Answer::Refused(number, 0);
+    }
+    let factors = forecast::factors(list);
+    accepted(text, depth, sites, count, lines, scratch, rows, &factors)
+}
+
+// The table engine's forecast: any text, any limits, any list of entries and any room.
+pub fn forecast(
+    text: &[u8],
+    depth: usize,
+    sites: usize,
+    list: forecast::Listed,
+    scratch: &mut [u64],
+    rows: &mut [u64],
+) -> trace::Answer
+    ensures { λ r. ⌜ ForecastOf tables list (now (text .entry)) depth sites
+        (lent (now (scratch .entry)) (now (rows .entry))) r (lent (now (scratch .exit)) (now (rows .exit))) ⌝ }
+{
+    match admit::for_tables(text, depth, sites, scratch.len(), rows.len()) {
+        admit::Verdict::Accepted(count, lines) => asked(
+            text,
+            depth,
+            sites,
+            count,
+            lines,
+            list,
+            scratch,
+            rows,
         ),
         admit::Verdict::Refused(number, line) => trace::Answer::Refused(number, line),
     }
