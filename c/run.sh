@@ -9,7 +9,7 @@ numbers c/run.sh 0 "$@"
 cc=${CC:-cc} out=target/c lib=${NYO_LIB_DIR:-target/native}
 [ -n "${NYO_LIB_DIR:-}" ] || tools/native-lib.sh
 mkdir -p "$out"
-for program in test profile sheet; do
+for program in test profile sheet folded; do
     "$cc" -std=c99 -O2 -Wall -Wextra -Wpedantic -Werror -Iinclude "c/$program.c" "$lib/libnyolifuwe.a" -o "$out/$program"
 done
 echo '#include "nyolifuwe.h"' | "$cc" -std=c99 -Wall -Wextra -Wpedantic -Werror -Iinclude -fsyntax-only -x c -
@@ -95,5 +95,26 @@ tried 1 '^sheet: refusal 16, line 0$' '$sheet read 1 examples/case-i.csv'
 tried 2 '^usage: sheet ' '$sheet read 256'
 tried 3 '^sheet: no-such-file: ' '$sheet write no-such-file'
 tried 3 '^sheet: standard output: ' '$sheet write examples/case-i.trace >/dev/full'
+
+# The folded stacks of the proxy, in room just enough; two lists that are not good, and too little room.
+folded=$out/folded
+export folded
+cp examples/proxy.folded "$wanted"
+of_proxy='examples/stock.names examples/proxy.trace'
+tried 0 '' "\$folded 550 examples/proxy.names $of_proxy"
+tried 0 '' '$folded 9999 examples/proxy.names examples/stock.names <examples/proxy.trace'
+echo ff1100000000 >"$wanted"
+tried 1 '^folded: refusal 17, row 0$' "\$folded 550 examples/refusal-17-line-ends.names $of_proxy"
+echo ff1100000004 >"$wanted"
+tried 1 '^folded: refusal 17, row 4$' "\$folded 550 examples/refusal-17-space.names $of_proxy"
+echo ff1200000000 >"$wanted"
+tried 1 '^folded: refusal 18, line 0$' "\$folded 549 examples/proxy.names $of_proxy"
+echo ff0e00000004 >"$wanted"
+tried 1 '^folded: refusal 14, line 4$' '$folded 550 examples/proxy.names examples/stock.names examples/refusal-14.trace'
+: >"$wanted"
+tried 2 '^usage: folded ' '$folded 550 examples/proxy.names'
+tried 2 '^usage: folded ' "\$folded many examples/proxy.names $of_proxy"
+tried 3 '^folded: no-such-file: ' "\$folded 550 no-such-file $of_proxy"
+tried 3 '^folded: standard output: ' "\$folded 550 examples/proxy.names $of_proxy >/dev/full"
 echo "the C examples: $passed passed, 0 failed"
 "$out/test"

@@ -294,6 +294,45 @@ static void traces_are_refused(void) {
     CHECK(both_refuse(case_i, 0, 4, 2, enough, 14));
 }
 
+static const char names[] = "main\nload\n\n", stock_names[] = "root\none\ntwo";
+
+/* Folded stacks with these lists: of case I the root's and site 1's names are the project's, site 2's is the stock list's. */
+static uint64_t folded(const char *trace, size_t len, const char *project, const char *stock, size_t s, size_t room,
+                       size_t count_room) {
+    uint64_t *to_scratch = lend_numbers(&scratch, s), *to = lend_numbers(&written, count_room);
+    uint8_t *text = lend_chars(&out, room);
+    return nyo_folded((const uint8_t *)trace, len, 4, 3, (const uint8_t *)project, strlen(project), (const uint8_t *)stock,
+                      strlen(stock), to_scratch, s, text, room, to, count_room);
+}
+
+static int text_is(const char *expected) {
+    size_t n = strlen(expected);
+    return chars_are(&out, expected, n) && numbers_are(&written, (const uint64_t[]){n}, 1) &&
+           numbers_are(&scratch, zeros, scratch.len);
+}
+
+static int nothing_folded(void) { return nothing_written() && numbers_unchanged(&scratch); }
+
+static void stacks_are_folded(void) {
+    size_t len = sizeof case_i - 1;
+    const char text[] = "main;load;two 7\nmain;load 1\nmain 2\n";
+    CHECK(sizeof text - 1 == 35 && NYO_FOLDED_CHARS(3, 4, 4) == 3 * (4 * 5 + 11));
+    CHECK(folded(case_i, len, names, stock_names, NYO_FOLDED_SCRATCH(4), 35, 1) == 0 && text_is(text));
+    CHECK(folded(case_i, len, names, stock_names, 9, 40, 3) == 0 && text_is(text));
+    CHECK(folded(case_i, len, "", stock_names, 4, 35, 1) == 0 && text_is("root;one;two 7\nroot;one 1\nroot 2\n"));
+    CHECK(folded(case_k, sizeof case_k - 1, names, stock_names, 4, 34, 1) == 0 && text_is("main;load 1\nmain;load;load 2\n"));
+    CHECK(folded("0500000000000000000000\n", 23, names, stock_names, 4, 0, 1) == 0 && text_is(""));
+    CHECK(folded(case_i, len - 1, "", "", 3, 0, 0) == 2 && nothing_folded());
+    CHECK(folded(case_i, len, "", "", 3, 0, 1) == 4 && nothing_folded());
+    CHECK(folded(case_i, len, "", "", 4, 0, 0) == 4 && nothing_folded());
+    CHECK(folded(case_i, len - 23, "", "", 4, 0, 1) == 14 + 256 * 9 && nothing_folded());
+    CHECK(folded(case_i, len, "", "", 4, 0, 1) == 17 && nothing_folded());
+    CHECK(folded(case_i, len, "main\nload", "", 4, 0, 1) == 17 + 256 * 2 && nothing_folded());
+    CHECK(folded(case_i, len, "main\nlo;ad", stock_names, 4, 0, 1) == 17 + 256 * 1 && nothing_folded());
+    CHECK(folded(case_i, len, "main\r\nload\r\n", stock_names, 4, 0, 1) == 17 && nothing_folded());
+    CHECK(folded(case_i, len, names, stock_names, 4, 34, 1) == 18 && nothing_folded());
+}
+
 int main(void) {
     lines_are_read();
     lines_are_written();
@@ -303,6 +342,7 @@ int main(void) {
     sheets_are_read();
     traces_are_profiled();
     traces_are_refused();
+    stacks_are_folded();
     printf("%u passed, %u failed\n", passed, failed);
     return failed != 0;
 }

@@ -149,9 +149,39 @@ static void put_trace(Trace *t, Input *in) {
     for (; finish && t->open > 0; t->open--) put_line(t, (const uint64_t[]){5, 0, 0, 0, 0});
 }
 
+/* ---- lists of names from the input ---- */
+
+enum { MOST_NAMES = 300, MOST_NAME = 64 };
+
+typedef struct {
+    uint8_t chars[MOST_NAMES * (MOST_NAME + 1)];
+    size_t len;
+} Names;
+
+/* A line of a list: empty, a name of some letters, or some bytes of the input. */
+static void put_name(Names *list, Input *in, unsigned empty) {
+    unsigned how = next(in), letters = 1 + how % 7;
+    if (how >= empty && how < 250)
+        memset(list->chars + list->len, 33 + (int)(how % 26), letters), list->len += letters;
+    for (unsigned i = 250; i < how; i++) list->chars[list->len++] = (uint8_t)next(in);
+}
+
+/* A list of so many lines, mostly; the last one with its line feed or without. */
+static void put_names(Names *list, Input *in, size_t lines, unsigned empty) {
+    unsigned how = next(in);
+    list->len = 0;
+    if (how > 240) lines = how - 240;
+    for (size_t n = 0; n < lines; n++) {
+        put_name(list, in, empty);
+        list->chars[list->len++] = '\n';
+    }
+    if (how % 2 && list->len > 0) list->len--;
+}
+
 /* ---- what holds ---- */
 
 static Pages of_trace, of_scratch, of_marks, of_rows, of_answer, of_frame, of_out, of_text, of_written;
+static Pages of_names[2], of_stacks;
 
 static void reserve(void) {
     make_rubbish();
@@ -164,6 +194,8 @@ static void reserve(void) {
     of_out = pages_of(NYO_CSV_CHARS(NYO_MOST_SITES));
     of_text = pages_of(2 * NYO_CSV_CHARS(NYO_MOST_SITES) + 64);
     of_written = pages_of(8);
+    of_names[0] = pages_of(sizeof(Names)), of_names[1] = pages_of(sizeof(Names));
+    of_stacks = pages_of(MOST_RUBBISH);
 }
 
 /* A number of bytes that is mostly enough, sometimes an element short, sometimes none. */
@@ -318,8 +350,103 @@ static void columns_add_up(const uint64_t *rows, const uint64_t *answer) {
     MUST(local == answer[0] && on_span == answer[1] && answer[1] <= answer[0]);
 }
 
-/* Both engines on one trace. */
-static void profile(const Room *trace, Input *in) {
+/* Line n of a list, and its length; none behind the last. */
+static const uint8_t *line_of(const Names *list, size_t n, size_t *len) {
+    const uint8_t *at = list->chars, *end = at + list->len;
+    for (; n > 0; n--, at++) {
+        while (at < end && *at != '\n') at++;
+        if (at == end) return NULL;
+    }
+    for (*len = 0; at + *len < end && at[*len] != '\n';) ++*len;
+    return at;
+}
+
+typedef struct {
+    const uint8_t *at;
+    size_t len;
+} Name;
+
+/* The name shown for a row; whether it is one. */
+static int name_shown(Name *name, const Names *project, const Names *stock, size_t row) {
+    name->at = line_of(project, row, &name->len);
+    if (!name->at || name->len == 0) name->at = line_of(stock, row, &name->len);
+    if (!name->at || name->len == 0) return 0;
+    for (size_t i = 0; i < name->len; i++)
+        if (name->at[i] < 33 || name->at[i] > 126 || name->at[i] == ';') return 0;
+    return 1;
+}
+
+/* The number in some digits of a good line. */
+static unsigned long field(const uint8_t *line, size_t from, size_t digits) {
+    char text[9] = {0};
+    memcpy(text, line + from, digits);
+    return strtoul(text, NULL, 16);
+}
+
+/* The folded stacks of an accepted trace with good names, line by line, as far as there is room, and their length. */
+static size_t expected_stacks(char *text, size_t most, const Room *trace, const Name *names) {
+    size_t open[NYO_MOST_DEPTH] = {0}, depth = 1, len = 0;
+    for (const uint8_t *line = trace->at; line < trace->at + trace->bytes; line += NYO_LINE_CHARS) {
+        unsigned long kind = field(line, 0, 2);
+        if (kind == 2 || kind == 3) open[depth++] = field(line, 2, 4);
+        if (kind == 5) depth--;
+        if (kind != 6) continue;
+        char cost[16];
+        size_t figures = (size_t)sprintf(cost, "%lu\n", field(line, 6, 8));
+        for (size_t n = 0; n < depth; n++) {
+            const Name *name = &names[open[n]];
+            if (len + name->len + 1 + figures <= most) {
+                memcpy(text + len, name->at, name->len);
+                text[len + name->len] = n + 1 < depth ? ';' : ' ';
+            }
+            len += name->len + 1;
+        }
+        if (len + figures <= most) memcpy(text + len, cost, figures);
+        len += figures;
+    }
+    return len;
+}
+
+/* The trace, which the table engine has answered so, as folded stacks with two lists made from the input. */
+static void fold(const Room *trace, uint64_t depth, uint64_t sites, uint64_t first, uint64_t declared, Input *lists,
+                 Input *in) {
+    static Names project, stock;
+    static char expected[MOST_RUBBISH];
+    Name shown[NYO_MOST_SITES + 1];
+    unsigned empty = next(lists) % 4 * 40;
+    put_names(&project, lists, declared + 1, empty), put_names(&stock, lists, declared + 1, 10);
+    size_t d = depth > 64 ? 64 : depth, bad = 0, longest = 0, len = 0;
+    for (; bad <= declared && name_shown(&shown[bad], &project, &stock, bad); bad++)
+        if (shown[bad].len > longest) longest = shown[bad].len;
+    if (!first && bad > declared) len = expected_stacks(expected, sizeof expected, trace, shown);
+    Room scratch = lend(&of_scratch, enough(NYO_FOLDED_SCRATCH(d), 8, in), in);
+    Room written = lend(&of_written, enough(1, 8, in), in);
+    Room out = lend(&of_stacks, enough(len < MOST_RUBBISH ? len : MOST_RUBBISH, 1, in), in);
+    Room to_project = lend(&of_names[0], project.len, in), to_stock = lend(&of_names[1], stock.len, in);
+    memcpy(to_project.at, project.chars, project.len), memcpy(to_stock.at, stock.chars, stock.len);
+    uint64_t given = nyo_folded(trace->at, trace->bytes, depth, sites, to_project.at, project.len, to_stock.at, stock.len,
+                                numbers(&scratch), scratch.bytes / 8, out.at, out.bytes, numbers(&written), written.bytes / 8);
+    count(34, given);
+    MUST(!memcmp(to_project.at, project.chars, project.len) && !memcmp(to_stock.at, stock.chars, stock.len));
+    int roomy = scratch.bytes >= 8 * d && written.bytes >= 8;
+    if (NYO_NUMBER(first) >= 1 && NYO_NUMBER(first) <= 3) MUST(given == first);
+    else if (!roomy) MUST(given == 4);
+    else if (first == 4) MUST(given != 4);
+    else if (first) MUST(given == first);
+    else if (bad <= declared) MUST(given == 17 + 256 * bad);
+    else MUST(given == (out.bytes < len ? 18 : 0));
+    if (given) {
+        MUST(kept_from(&scratch, 0) && kept_from(&out, 0) && kept_from(&written, 0));
+        return;
+    }
+    MUST(all_zero(&scratch) && kept_from(&scratch, scratch.bytes));
+    if (first) return;
+    MUST(numbers(&written)[0] == len && kept_from(&written, 8) && !memcmp(out.at, expected, len) && kept_from(&out, len));
+    MUST(len <= NYO_FOLDED_CHARS(trace->bytes / NYO_LINE_CHARS, depth, longest));
+}
+
+/* Both engines on one trace, and its folded stacks. */
+static void profile(const Room *trace, Input *lists, Input *in) {
     static uint64_t first_rows[NYO_ROWS(NYO_MOST_SITES)];
     unsigned limits = next(in);
     uint64_t depth = limits < 16 ? 64 : limits < 32 ? next(in) : 1 + next(in) % 8, sites = limits % 16 == 0 ? 255 : limits % 16 == 1 ? 2 * next(in) : next(in) % 8;
@@ -347,6 +474,7 @@ static void profile(const Room *trace, Input *in) {
         sheet(first_rows, NYO_ROWS(first_answer[2]), first_answer[2], in);
     }
 
+    fold(trace, depth, sites, first, first_answer[2], lists, in);
     scratch = lend(&of_scratch, enough(NYO_MARKS_SCRATCH(d), 8, in), in), rows = lend(&of_rows, enough(NYO_ROWS(m), 8, in), in);
     answer = lend(&of_answer, enough(NYO_ANSWER, 8, in), in);
     Room marks = lend(&of_marks, enough(lines, 1, in), in);
@@ -380,7 +508,8 @@ int LLVMFuzzerTestOneInput(const uint8_t *data, size_t size) {
     put_trace(&written, &body);
     Room trace = lend(&of_trace, written.len, &head);
     memcpy(trace.at, written.chars, written.len);
-    profile(&trace, &head);
+    Input lists = {data, data + size};
+    profile(&trace, &lists, &head);
     MUST(!memcmp(trace.at, written.chars, written.len));
     read_and_write(trace.at, written.len < NYO_LINE_CHARS || next(&head) > 250 ? written.len : NYO_LINE_CHARS, &head);
     uint64_t number = next(&head), line = (uint64_t)next(&head) << (next(&head) % 48);

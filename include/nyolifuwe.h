@@ -59,12 +59,17 @@ enum { NYO_CALLS, NYO_WORK, NYO_SPAN, NYO_LOCAL, NYO_ON_SPAN };
 #define NYO_MARKS_SCRATCH(depth) (8 * (size_t)(depth))
 #define NYO_ROWS(sites) (NYO_COLUMNS * ((size_t)(sites) + 1))
 #define NYO_REPORT_CHARS(count) (NYO_ROW_CHARS * ((size_t)(count) + 1))
+#define NYO_FOLDED_SCRATCH(depth) ((size_t)(depth))
 
 /* Characters of comma-separated text: of its header, of a record at most (numbers of 20 digits, each with a comma or CR
  * behind it, and a LF), and of the text of count sites at most. */
 #define NYO_CSV_HEADER_CHARS 34
 #define NYO_CSV_ROW_CHARS (21 * (1 + NYO_COLUMNS) + 1)
 #define NYO_CSV_CHARS(count) (NYO_CSV_HEADER_CHARS + NYO_CSV_ROW_CHARS * ((size_t)(count) + 1))
+
+/* Characters of folded stacks at most: for each cost line as many names as invocations may be open, none longer than the
+ * longest and each with a semicolon or space behind it, a cost of 10 figures and a line feed. */
+#define NYO_FOLDED_CHARS(costs, depth, longest) ((size_t)(costs) * ((size_t)(depth) * ((size_t)(longest) + 1) + 11))
 
 /* The refusals. */
 enum {
@@ -83,7 +88,9 @@ enum {
     NYO_OVERFLOW = 13,   /* total work or a row number beyond 64 bits: never within the limits above */
     NYO_UNFINISHED = 14, /* lines end before the root's return; the line is the number of lines */
     NYO_CSV_RECORD = 15, /* a record of comma-separated text is not good or is missing; the line is its number, header 0 */
-    NYO_CSV_ROOM = 16    /* output shorter than comma-separated text, or room for fewer rows than it has */
+    NYO_CSV_ROOM = 16,   /* output shorter than comma-separated text, or room for fewer rows than it has */
+    NYO_NAME = 17,       /* the name shown for a row is bad or missing from both lists; the line is the row */
+    NYO_FOLDED_ROOM = 18 /* output shorter than the folded stacks */
 };
 
 /* Profiles a trace with the table engine.
@@ -155,6 +162,22 @@ uint64_t nyo_csv_write(const uint64_t *rows, size_t rows_len, uint64_t count, ui
  * good or is missing, then 16 with line 0 for rows too short. */
 uint64_t nyo_csv_read(const uint8_t *text, size_t text_len, uint64_t *rows, size_t rows_len, uint64_t *count,
                       size_t count_len);
+
+/* Writes a trace as folded stacks: for each cost line, in order, the names from the root to the innermost open invocation
+ * joined by semicolons, a space, the cost in decimal, a line feed; and into written[0] how many characters they are. Equal
+ * stacks are not merged, and the costs add up to the total work.
+ *
+ * project and stock are lists of names, one a line: line 0 names the root, line s site s; a line ends at a line feed or at
+ * the end of the list. The name shown is the project's, or the stock list's where the project's line is empty or missing. It
+ * is one or more characters from 33 to 126 without the semicolon, so no list may end its lines with CR LF.
+ *   scratch  NYO_FOLDED_SCRATCH(depth)          all zero afterwards
+ *   out      the text's own length; NYO_FOLDED_CHARS(lines, depth, longest name) is always enough
+ *   written  1
+ * Refusals: those of nyo_tables, with 4 for scratch or written too short, then 17 with the first row, of the root and the
+ * declared sites, whose shown name is bad or missing from both lists, then 18 with line 0 for output too short. */
+uint64_t nyo_folded(const uint8_t *trace, size_t trace_len, uint64_t depth, uint64_t sites, const uint8_t *project,
+                    size_t project_len, const uint8_t *stock, size_t stock_len, uint64_t *scratch, size_t scratch_len,
+                    uint8_t *out, size_t out_len, uint64_t *written, size_t written_len);
 
 #ifdef __cplusplus
 }

@@ -194,10 +194,10 @@ def the_examples():
     refusals = dict(re.findall(r"^\| `([^`]+)`.*\| `(ff[0-9a-f]{10})` \|$", page, re.M))
     reports = dict(re.findall(r"^## `([^`]+)`.*?^```\n(0000.*?)^```$", page, re.M | re.S))
     expect("case I on the page", reports.get("case-i.trace"), CASE_I_REPORT)
-    sheets = set(re.findall(r"([\w-]+\.csv)`", page))  # `c/run.sh` holds what is printed for these
+    others = set(re.findall(r"([\w-]+\.(?:csv|names|folded))\b", page))  # `c/run.sh` holds what is printed for these
     shown = sorted([*refusals, *reports])
     there = sorted(path.name for path in EXAMPLES.iterdir() if path.name != "README.md")
-    expect("every example is on the page", sorted([*shown, *sheets]), there)
+    expect("every example is on the page", sorted([*shown, *others]), there)
     for name in shown:
         path = EXAMPLES / name
         trace = subprocess.run(["sh", path], capture_output=True).stdout if path.suffix == ".sh" else path.read_bytes()
@@ -356,7 +356,7 @@ cp '{program}' target/bin/profile
 echo 'rt: profile proved'
 """
 BUILDING = ("proving and building the program: some minutes, once", "profile proved")
-TOOLS = "bash cat cp dirname find flock mkdir mv readlink rm sh sleep tail touch uname".split()
+TOOLS = "basename bash cat cp dirname find flock mkdir mv readlink rm sh sleep tail touch uname".split()
 
 
 def the_builds():

@@ -1,6 +1,8 @@
-//! Timings: the proved engines, the plain one, the script and a pass that only sums the bytes, on the same traces in one run.
+//! Timings: the proved engines, the plain one, the script and a pass that only sums the bytes, on the same traces in one run;
+//! and the proved writer of folded stacks beside the plain one.
 
 pub mod clock;
+pub mod folding;
 pub mod table;
 pub mod timing;
 pub mod traces;

@@ -58,7 +58,7 @@ impl Limits {
 
 impl Lent {
     /// "any lent slice shorter than stated"
-    fn is_short(&self, limits: Limits, lines: usize) -> bool {
+    pub fn is_short(&self, limits: Limits, lines: usize) -> bool {
         let need = match self.marks {
             None => limits.for_tables(),
             Some(_) => limits.for_marks(lines),
@@ -67,10 +67,15 @@ impl Lent {
     }
 }
 
-/// The shape of a trace, or the refusal: "Checks 1 to 4 run in that order. Then the first faulty line decides, and
-/// within it the smallest number. 14 comes last."
+/// The shape of a trace that an engine is lent, or the refusal.
 pub fn trace(chars: &[u8], limits: Limits, lent: &Lent) -> Result<Shape, Refusal> {
-    let lines = before_lines(chars, limits, lent).map_err(|ground| ground.at(0))?;
+    read(chars, limits, |lines| lent.is_short(limits, lines))
+}
+
+/// The shape of a trace, or the refusal: "Checks 1 to 4 run in that order. Then the first faulty line decides, and
+/// within it the smallest number. 14 comes last." Whether too little is lent for a number of lines, `short` says.
+pub fn read(chars: &[u8], limits: Limits, short: impl Fn(usize) -> bool) -> Result<Shape, Refusal> {
+    let lines = before_lines(chars, limits, short).map_err(|ground| ground.at(0))?;
     let mut walk = Walk::new(limits);
     for (number, chars) in chars.chunks(CHARS).enumerate() {
         walk.step(chars).map_err(|ground| ground.at(number))?;
@@ -79,7 +84,7 @@ pub fn trace(chars: &[u8], limits: Limits, lent: &Lent) -> Result<Shape, Refusal
 }
 
 /// Checks 1 to 4, and how many lines there are.
-pub fn before_lines(chars: &[u8], limits: Limits, lent: &Lent) -> Result<usize, Ground> {
+pub fn before_lines(chars: &[u8], limits: Limits, short: impl Fn(usize) -> bool) -> Result<usize, Ground> {
     let lines = chars.len() / CHARS;
     if !limits.in_range() {
         return Err(Ground::Limits);
@@ -90,7 +95,7 @@ pub fn before_lines(chars: &[u8], limits: Limits, lent: &Lent) -> Result<usize, 
     if lines > MOST_LINES {
         return Err(Ground::Lines);
     }
-    if lent.is_short(limits, lines) {
+    if short(lines) {
         return Err(Ground::Room);
     }
     Ok(lines)

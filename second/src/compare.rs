@@ -8,6 +8,7 @@ pub mod rng;
 pub mod shapes;
 pub mod sheets;
 pub mod shrink;
+pub mod stacks;
 pub mod tell;
 
 use crate::library::Library;

@@ -13,6 +13,7 @@ pub mod bench;
 pub mod chain;
 pub mod check;
 pub mod compare;
+pub mod folded;
 pub mod graph;
 pub mod library;
 pub mod line;

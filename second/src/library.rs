@@ -1,4 +1,4 @@
-//! The eight functions of the C interface, and the second program behind them.
+//! The nine functions of the C interface, and the second program behind them.
 //!
 //! Each answers 0 for accepted and otherwise number + 256 · line, and a refusal leaves everything lent as it was. The
 //! interface lends some slices that the rules do not speak of: the answer, the frame, the count of characters written
@@ -6,6 +6,7 @@
 
 use crate::chain::{self, Chains};
 use crate::check::{self, Lent, Limits};
+use crate::folded;
 use crate::graph;
 use crate::line::{self, CHARS, WIDTHS};
 use crate::refusal::{Ground, Refusal};
@@ -41,6 +42,16 @@ pub trait Library {
     fn csv_write(&self, rows: &[u64], count: u64, out: &mut [u8], written: &mut [u64]) -> u64;
     /// The reader of comma-separated text.
     fn csv_read(&self, text: &[u8], rows: &mut [u64], count: &mut [u64]) -> u64;
+    /// The writer of folded stacks, with the project's list of names and the stock list.
+    fn folded(
+        &self,
+        trace: &[u8],
+        limits: Limits,
+        lists: [&[u8]; 2],
+        scratch: &mut [u64],
+        out: &mut [u8],
+        written: &mut [u64],
+    ) -> u64;
 }
 
 /// The second program, with the way in which it looks for chains.
@@ -137,6 +148,23 @@ impl Library for Second {
         code(sheet::read(text, rows.len()).map(|numbers| {
             *sites = numbers.len() as u64 / 5 - 1;
             put(rows, &numbers);
+        }))
+    }
+
+    fn folded(
+        &self,
+        trace: &[u8],
+        limits: Limits,
+        lists: [&[u8]; 2],
+        scratch: &mut [u64],
+        out: &mut [u8],
+        written: &mut [u64],
+    ) -> u64 {
+        let lent = folded::Lent { scratch: scratch.len(), out: out.len(), written: written.len() };
+        code(folded::write(trace, limits, lists, lent).map(|text| {
+            scratch.fill(0);
+            put(out, text.as_bytes());
+            written[0] = text.len() as u64;
         }))
     }
 }

@@ -6,6 +6,8 @@
 //! the lines that lead into the heaviest branch and out of it are told so; then a walk along those that are left is the
 //! chosen chain.
 
+pub mod folded;
+
 use crate::check::{before_lines, Lent, Limits};
 use crate::line::CHARS;
 use crate::refusal::{Ground, Refusal};
@@ -13,7 +15,8 @@ use crate::rows::{Profile, Row, CALLS, COLUMNS, LOCAL, ON_SPAN, SPAN, WORK};
 
 /// The profile of a trace, or its refusal.
 pub fn profile(trace: &[u8], limits: Limits, lent: &Lent) -> Result<Profile, Refusal> {
-    let lines = before_lines(trace, limits, lent).map_err(|ground| ground.at(0))?;
+    let short = |lines| lent.is_short(limits, lines);
+    let lines = before_lines(trace, limits, short).map_err(|ground| ground.at(0))?;
     let mut engine = Engine::new(limits, lines);
     for (number, chars) in trace.chunks_exact(CHARS).enumerate() {
         let chars = chars.try_into().expect("a whole line");

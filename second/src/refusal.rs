@@ -36,6 +36,10 @@ pub enum Ground {
     Record = 15,
     /// "output shorter than the text", "room below five numbers a row"
     SheetRoom = 16,
+    /// "the first row, among root and declared sites, whose shown name is bad or missing from both lists"
+    Name = 17,
+    /// "output shorter than the text"
+    FoldedRoom = 18,
 }
 
 /// "Refused: a number and a line."

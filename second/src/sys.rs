@@ -68,6 +68,22 @@ extern "C" {
         count: *mut u64,
         count_len: usize,
     ) -> u64;
+    fn nyo_folded(
+        trace: *const u8,
+        trace_len: usize,
+        depth: u64,
+        sites: u64,
+        project: *const u8,
+        project_len: usize,
+        stock: *const u8,
+        stock_len: usize,
+        scratch: *mut u64,
+        scratch_len: usize,
+        out: *mut u8,
+        out_len: usize,
+        written: *mut u64,
+        written_len: usize,
+    ) -> u64;
 }
 
 /// The proved library.
@@ -151,5 +167,34 @@ impl Library for Proved {
         let (rows_len, count_len) = (rows.len(), count.len());
         let (rows, count) = (rows.as_mut_ptr(), count.as_mut_ptr());
         unsafe { nyo_csv_read(text.as_ptr(), text.len(), rows, rows_len, count, count_len) }
+    }
+
+    fn folded(
+        &self,
+        trace: &[u8],
+        limits: Limits,
+        [project, stock]: [&[u8]; 2],
+        scratch: &mut [u64],
+        out: &mut [u8],
+        written: &mut [u64],
+    ) -> u64 {
+        unsafe {
+            nyo_folded(
+                trace.as_ptr(),
+                trace.len(),
+                limits.depth,
+                limits.sites,
+                project.as_ptr(),
+                project.len(),
+                stock.as_ptr(),
+                stock.len(),
+                scratch.as_mut_ptr(),
+                scratch.len(),
+                out.as_mut_ptr(),
+                out.len(),
+                written.as_mut_ptr(),
+                written.len(),
+            )
+        }
     }
 }

@@ -149,11 +149,12 @@ struct Wrong {
     before: fn(&mut Vec<u8>),
     after: After,
     sheet: fn(&mut Vec<u8>),
+    lists: fn([&[u8]; 2]) -> [Vec<u8>; 2],
 }
 
 impl Default for Wrong {
     fn default() -> Wrong {
-        Wrong { before: |_| (), after: |_, _, _, _, _| (), sheet: |_| () }
+        Wrong { before: |_| (), after: |_, _, _, _, _| (), sheet: |_| (), lists: |lists| lists.map(<[u8]>::to_vec) }
     }
 }
 
@@ -202,6 +203,19 @@ impl Library for Wrong {
         let mut text = text.to_vec();
         (self.sheet)(&mut text);
         Second::by_paths().csv_read(&text, rows, count)
+    }
+
+    fn folded(
+        &self,
+        trace: &[u8],
+        limits: Limits,
+        lists: [&[u8]; 2],
+        scratch: &mut [u64],
+        out: &mut [u8],
+        written: &mut [u64],
+    ) -> u64 {
+        let [project, stock] = (self.lists)(lists);
+        Second::by_paths().folded(trace, limits, [&project, &stock], scratch, out, written)
     }
 }
 
@@ -309,5 +323,45 @@ fn a_number_with_a_leading_zero() {
         let zero = (1..text.len().max(2) - 1)
             .find(|&n| text[n - 1] == b',' && text[n] == b'0' && text[n + 1].is_ascii_digit());
         zero.map(|n| text.remove(n));
+    });
+}
+
+/// What the first difference on folded stacks says, where the stand-in reads other lists than were lent.
+fn folded_difference(lists: fn([&[u8]; 2]) -> [Vec<u8>; 2]) -> String {
+    let told = first_difference(&Wrong { lists, ..Wrong::default() }).to_string();
+    assert!(told.contains("folded stacks, D = "), "{told}");
+    told
+}
+
+/// The lines of a list, each as something else.
+fn each_line(list: &[u8], change: impl Fn(&[u8]) -> &[u8]) -> Vec<u8> {
+    list.split(|c| *c == b'\n').map(change).collect::<Vec<_>>().join(&b'\n')
+}
+
+#[test]
+fn giving_way_where_the_projects_line_is_bad() {
+    let told = folded_difference(|[project, stock]| {
+        let good = |line: &[u8]| line.iter().all(|c| c.is_ascii_graphic() && *c != b';');
+        [each_line(project, |line| if good(line) { line } else { b"" }), stock.to_vec()]
+    });
+    assert!(told.contains("writer of folded stacks: second refused 17 at line 0, the stand-in accepted"), "{told}");
+}
+
+#[test]
+fn taking_cr_lf_for_a_line_end() {
+    let told =
+        folded_difference(|lists| lists.map(|list| each_line(list, |line| line.strip_suffix(b"\r").unwrap_or(line))));
+    assert!(told.contains("writer of folded stacks: second refused 17"), "{told}");
+}
+
+#[test]
+fn the_stock_list_first() {
+    folded_difference(|[project, stock]| [stock.to_vec(), project.to_vec()]);
+}
+
+#[test]
+fn no_line_without_its_line_feed() {
+    folded_difference(|lists| {
+        lists.map(|list| list[..list.iter().rposition(|c| *c == b'\n').map_or(0, |n| n + 1)].to_vec())
     });
 }

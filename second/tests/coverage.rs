@@ -43,6 +43,17 @@ fn every_verdict_on_a_sheet_is_reached() {
 }
 
 #[test]
+fn every_verdict_on_folded_stacks_is_reached() {
+    let cases = (0..20_000).map(|number| generate::case(1, number));
+    let verdicts = verdicts(cases.filter(|case| matches!(case.question, Question::Folded { .. })));
+    println!("{verdicts:?}");
+    for verdict in [0, 1, 2, 4, 5, 6, 7, 8, 9, 10, 11, 12, 14, 17, 18] {
+        assert!(verdicts.get(&verdict).is_some_and(|&times| times >= 5), "{verdict}: {verdicts:?}");
+    }
+    assert!([0, 17, 18].iter().all(|verdict| verdicts[verdict] >= 100), "{verdicts:?}");
+}
+
+#[test]
 fn good_traces_reach_the_limits() {
     let wide = Limits { depth: 64, sites: 255 };
     let room: Lent = wide.for_tables();

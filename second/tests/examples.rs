@@ -1,6 +1,7 @@
 //! The examples print what their page says, and the page says what was worked out by hand.
 
-use second::program::{printed, MOST_BYTES};
+use second::folded;
+use second::program::{printed, LIMITS, MOST_BYTES};
 use second::rows::Row;
 use std::fs;
 use std::path::PathBuf;
@@ -16,7 +17,11 @@ fn page() -> String {
 
 /// What is printed for an example.
 fn example(name: &str) -> String {
-    printed(&fs::read(folder().join(name)).expect(name))
+    printed(&file(name))
+}
+
+fn file(name: &str) -> Vec<u8> {
+    fs::read(folder().join(name)).expect(name)
 }
 
 /// The five numbers of each row of a report.
@@ -55,6 +60,20 @@ fn the_proxy_is_on_the_page_and_as_worked_out_by_hand() {
     ];
     assert_eq!(rows(&report), by_hand);
     assert!(page().contains(&report));
+}
+
+#[test]
+fn the_folded_stacks_of_the_proxy() {
+    let (trace, stock) = (file("proxy.trace"), file("stock.names"));
+    let folded = |project: &str, out| {
+        let lent = folded::Lent { scratch: 32, out, written: 1 };
+        folded::write(&trace, LIMITS, [&file(project), &stock], lent)
+            .map_err(|refusal| (refusal.number(), refusal.line))
+    };
+    assert_eq!(folded("proxy.names", 550).map(String::into_bytes), Ok(file("proxy.folded")));
+    assert_eq!(folded("proxy.names", 549), Err((18, 0)));
+    assert_eq!(folded("refusal-17-line-ends.names", 550), Err((17, 0)));
+    assert_eq!(folded("refusal-17-space.names", 550), Err((17, 4)));
 }
 
 #[test]

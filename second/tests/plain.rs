@@ -1,8 +1,9 @@
-//! The plain engine gives what the second program gives.
+//! The plain engine and the plain writer of folded stacks give what the second program gives.
 
 use second::check::Limits;
 use second::compare::case::{Case, Question};
 use second::compare::{fixed, generate};
+use second::folded;
 use second::library::Second;
 use second::plain;
 
@@ -28,4 +29,35 @@ fn on_the_fixed_traces() {
 #[test]
 fn on_generated_traces() {
     assert!(alike((0..40_000).map(|number| generate::case(3, number))) > 20_000);
+}
+
+/// Holds the plain writer of folded stacks against the second program on the lists among some cases, with just enough room
+/// and one character less, and counts them.
+fn folded_alike(cases: impl IntoIterator<Item = Case>) -> usize {
+    let mut count = 0;
+    for case in cases {
+        let Question::Folded { trace, limits, lists: [project, stock], .. } = &case.question else { continue };
+        let lists: [&[u8]; 2] = [project, stock];
+        let right = folded::write(trace, *limits, lists, folded::Lent::ALL);
+        let mut out = vec![0; right.as_ref().map_or(0, String::len)];
+        let found = plain::folded::write(trace, *limits, lists, 64, &mut out);
+        let found = found.map(|length| String::from_utf8_lossy(&out[..length]).into_owned());
+        assert_eq!(found, right, "{case}");
+        if let Some((_, less)) = out.split_last_mut() {
+            let refused = plain::folded::write(trace, *limits, lists, 64, less).map_err(|refusal| refusal.number());
+            assert_eq!(refused, Err(18), "{case}");
+        }
+        count += 1;
+    }
+    count
+}
+
+#[test]
+fn on_the_fixed_lists() {
+    assert_eq!(folded_alike(fixed::cases()), 7 * 47);
+}
+
+#[test]
+fn on_generated_lists() {
+    assert!(folded_alike((0..40_000).map(|number| generate::case(3, number))) > 5_000);
 }

@@ -2,6 +2,8 @@
 
 use second::check::{Lent, Limits};
 use second::compare::fixed::{further, recursive, TWELVE, TWELVE_LIMITS};
+use second::compare::stacks;
+use second::folded;
 use second::library::Second;
 use second::refusal::{Ground, Refusal};
 use second::report;
@@ -44,6 +46,26 @@ fn in_k_row_1_has_calls_2_work_3_span_3_local_3() {
 fn the_recursive_traces() {
     for case in recursive() {
         assert_eq!(profile(&case.trace, case.limits).expect(case.name).rows, case.rows, "{}", case.name);
+    }
+}
+
+#[test]
+fn the_lists_of_names() {
+    for listed in stacks::BY_HAND {
+        let trace = Trace::from_events(listed.sites, listed.events);
+        let found = folded::write(&trace.chars, stacks::limits(listed.sites), listed.lists, folded::Lent::ALL);
+        let found = found.as_deref().map_err(|refusal| (refusal.number(), refusal.line));
+        assert_eq!(found, listed.written, "{}", listed.name);
+    }
+}
+
+#[test]
+fn the_printed_costs_of_the_twelve_add_up_to_their_work() {
+    for case in TWELVE {
+        let names: [&[u8]; 2] = [b"main\nload\ndecode", b""];
+        let text = folded::write(&case.trace().chars, TWELVE_LIMITS, names, folded::Lent::ALL).expect(case.name);
+        let cost = |line: &str| line.rsplit(' ').next().and_then(|cost| cost.parse::<u64>().ok()).expect("a cost");
+        assert_eq!(text.lines().map(cost).sum::<u64>(), case.work, "{}", case.name);
     }
 }
 

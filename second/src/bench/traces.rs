@@ -38,6 +38,17 @@ impl Shape {
     }
 }
 
+/// A trace whose invocations are in one another down to the depth limit, with a cost of 1 on every line in the innermost.
+pub fn deepest(lines: usize, sites: u64) -> Vec<u8> {
+    let mut trace = Trace::with_sites(sites);
+    (1..DEPTH).for_each(|site| _ = trace.call(site));
+    while trace.lines() + (DEPTH as usize) < lines {
+        trace.cost(1);
+    }
+    (0..DEPTH).for_each(|_| _ = trace.leave());
+    trace.chars
+}
+
 /// A trace in the making that never grows past a number of lines. Sites take turns.
 struct Maker {
     trace: Trace,

@@ -1,10 +1,12 @@
-//! `bench DIR [SAMPLES]`: times the proved engines against the plain one, the script and a pass that only sums the bytes.
+//! `bench DIR [SAMPLES]`: times the proved engines against the plain one, the script and a pass that only sums the bytes; and
+//! the proved writer of folded stacks against a plain one.
 //!
 //! Writes the traces and `bench.csv` to DIR, tells its progress, and prints the table and the goals. The numbers are
 //! medians of SAMPLES samples (101 if not said; the script's, of 3) of processor time. Each sample goes over all traces and
 //! all engines, so that a machine that is slow for a while is slow for all of them. Every engine's answer is held against
 //! the plain one's.
 
+use second::bench::folding;
 use second::bench::table::{csv, goals, head, Measured};
 use second::bench::timing::{medians, Run};
 use second::bench::traces::{Shape, DEPTH, SHAPES};
@@ -60,6 +62,10 @@ fn measure(folder: &Path, samples: usize) -> Result<(), Box<dyn Error>> {
     }
     fs::write(folder.join("bench.csv"), csv(&all))?;
     print!("{}", goals(&all));
+    let folded = folding::measure(library, samples);
+    println!("{}", folding::head());
+    folded.iter().for_each(|measured| println!("{}", measured.line()));
+    println!("{}", folding::goal(&folded));
     Ok(())
 }
 

@@ -2,6 +2,7 @@
 
 use super::rng::Rng;
 use crate::check::{Lent, Limits};
+use crate::folded;
 use crate::library::Library;
 use crate::line::CHARS;
 
@@ -29,6 +30,8 @@ pub enum Question {
     WriteSheet { rows: Vec<u64>, count: u64, out: usize, written: usize },
     /// Characters, for the reader of comma-separated text.
     ReadSheet { text: Vec<u8>, rows: usize, count: usize },
+    /// A trace, the project's list of names and the stock list, for the writer of folded stacks.
+    Folded { trace: Vec<u8>, limits: Limits, lists: [Vec<u8>; 2], spare: FoldedSpare },
 }
 
 /// How much more than needed is lent to the engines; less than needed where it is negative.
@@ -38,6 +41,14 @@ pub struct Spare {
     pub rows: isize,
     pub answer: isize,
     pub marks: isize,
+}
+
+/// How much more than needed is lent to the writer of folded stacks; less than needed where it is negative.
+#[derive(Clone, Copy, Debug, Default, PartialEq, Eq)]
+pub struct FoldedSpare {
+    pub scratch: isize,
+    pub out: isize,
+    pub written: isize,
 }
 
 /// All that there is to see after a case: every answer, and everything lent with what lies around it.
@@ -74,6 +85,7 @@ impl Case {
                 lender.write_sheet(library, rows, *count, [*out, *written])
             }
             Question::ReadSheet { text, rows, count } => lender.read_sheet(library, text, [*rows, *count]),
+            Question::Folded { trace, limits, lists, spare } => lender.folded(library, trace, *limits, lists, *spare),
         }
     }
 }
@@ -157,6 +169,27 @@ impl Lender {
         Outcome { codes: vec![("sheet reader", code)], bytes: vec![text], numbers: vec![rows, count] }
     }
 
+    fn folded(
+        &mut self,
+        library: &dyn Library,
+        trace: &[u8],
+        limits: Limits,
+        [project, stock]: &[Vec<u8>; 2],
+        spare: FoldedSpare,
+    ) -> Outcome {
+        let lent = spare.over(trace, limits, [project, stock]);
+        let mut trace = self.bytes("trace", trace.len()).holding(trace);
+        let mut project = self.bytes("project's list", project.len()).holding(project);
+        let mut stock = self.bytes("stock list", stock.len()).holding(stock);
+        let mut scratch = self.numbers("scratch", lent.scratch);
+        let mut out = self.bytes("output", lent.out);
+        let mut written = self.numbers("count of characters", lent.written);
+        let lists: [&[u8]; 2] = [project.lent(), stock.lent()];
+        let code = library.folded(trace.lent(), limits, lists, scratch.lent(), out.lent(), written.lent());
+        let bytes = vec![out, trace, project, stock];
+        Outcome { codes: vec![("writer of folded stacks", code)], bytes, numbers: vec![scratch, written] }
+    }
+
     fn bytes(&mut self, name: &'static str, length: usize) -> Room<u8> {
         Room { name, all: (0..length + 2 * STRIP).map(|_| self.0.number() as u8).collect() }
     }
@@ -195,6 +228,18 @@ impl Spare {
             rows: need.rows.saturating_add_signed(self.rows),
             answer: need.answer.saturating_add_signed(self.answer),
             marks: need.marks.map(|marks| marks.saturating_add_signed(self.marks)),
+        }
+    }
+}
+
+impl FoldedSpare {
+    /// The lengths to lend for a trace with two lists; where it is refused no text is needed.
+    fn over(self, trace: &[u8], limits: Limits, lists: [&[u8]; 2]) -> folded::Lent {
+        let text = folded::write(trace, limits, lists, folded::Lent::ALL).map_or(0, |text| text.len());
+        folded::Lent {
+            scratch: (limits.nearest().depth as usize).saturating_add_signed(self.scratch),
+            out: text.saturating_add_signed(self.out),
+            written: 1_usize.saturating_add_signed(self.written),
         }
     }
 }

@@ -1,8 +1,8 @@
 //! The traces that the rules name: the twelve, and the further ones that are to be run and compared; traces whose sites call
-//! themselves; and the texts that tell good comma-separated text from any other.
+//! themselves; the texts that tell good comma-separated text from any other; and the lists that tell a name from none.
 
 use super::case::{Case, Question, Spare};
-use super::sheets;
+use super::{sheets, stacks};
 use crate::check::{Limits, MOST_LINES};
 use crate::refusal::{Ground, Refusal};
 use crate::rows::Row;
@@ -206,7 +206,7 @@ fn sites_apart() -> Recursive {
     Recursive { name: "sites apart by 64", trace, limits: Limits { depth: 64, sites: 255 }, rows }
 }
 
-/// Every trace of this page, with just the room that it needs, and every text with rooms of each length near that.
+/// Every trace of this page, with just the room that it needs, and every text and list with rooms of each length near that.
 pub fn cases() -> Vec<Case> {
     let twelve = TWELVE.iter().map(|named| (named.trace(), TWELVE_LIMITS));
     let further = further().into_iter().map(|further| (further.trace, further.limits));
@@ -214,7 +214,7 @@ pub fn cases() -> Vec<Case> {
     let question =
         |(trace, limits): (Trace, Limits)| Question::Engines { trace: trace.chars, limits, spare: Spare::default() };
     let traces = twelve.chain(further).chain(recursive).map(|pair| Case { question: question(pair), rubbish: 1 });
-    traces.chain(sheets::cases()).collect()
+    traces.chain(sheets::cases()).chain(stacks::cases()).collect()
 }
 
 fn lone_return() -> Trace {

@@ -2,7 +2,7 @@
 
 use super::case::{Case, Question, Spare};
 use super::rng::Rng;
-use super::{damage, shapes, sheets};
+use super::{damage, shapes, sheets, stacks};
 use crate::check::Limits;
 use crate::line::{chars, Fields, CHARS, WIDTHS};
 use crate::report::{REFUSAL_CHARS, ROW_CHARS};
@@ -12,13 +12,14 @@ use crate::trace::Trace;
 /// The case with a number, of a seed.
 pub fn case(seed: u64, number: u64) -> Case {
     let mut rng = Rng::of_case(seed, number);
-    let question = match rng.below(24) {
+    let question = match rng.below(28) {
         0 => read_line(&mut rng),
         1 => write_line(&mut rng),
         2 => report(&mut rng),
         3 => refusal(&mut rng),
         4 => sheets::write(&mut rng),
         5 | 6 => sheets::read(&mut rng),
+        7..=10 => stacks::write(&mut rng),
         _ => engines(&mut rng),
     };
     Case { question, rubbish: rng.number() }
@@ -49,8 +50,14 @@ fn one_of_six(trace: &mut Trace, which: u64) {
     };
 }
 
-/// A trace for the engines: as often good with enough room as damaged in some way.
+/// A trace for the engines.
 fn engines(rng: &mut Rng) -> Question {
+    let (trace, limits, spare) = trace(rng);
+    Question::Engines { trace, limits, spare }
+}
+
+/// A trace with its limits and what is lent for it: as often good with enough room as damaged in some way.
+pub fn trace(rng: &mut Rng) -> (Vec<u8>, Limits, Spare) {
     let mut trace = shapes::trace(rng);
     let mut limits = limits(rng, &trace);
     let mut spare = spare(rng);
@@ -60,7 +67,7 @@ fn engines(rng: &mut Rng) -> Question {
     if rng.once_in(2) {
         damage::some(rng, &mut trace.chars, &mut limits, &mut spare);
     }
-    Question::Engines { trace: trace.chars, limits, spare }
+    (trace.chars, limits, spare)
 }
 
 /// Limits that the trace keeps, often just so.

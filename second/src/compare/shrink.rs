@@ -1,6 +1,6 @@
 //! From a case in which two programs differ to the smallest such case that can be found by leaving parts out.
 
-use super::case::{Case, Question, Spare};
+use super::case::{Case, FoldedSpare, Question, Spare};
 use crate::check::Limits;
 use crate::line::{chars, read, Fields, Kind, CHARS};
 use std::ops::Range;
@@ -50,17 +50,19 @@ impl<D: Fn(&Case) -> bool> Shrinker<D> {
     /// The trace, if the case has one.
     fn trace(&self) -> Option<&[u8]> {
         match &self.case.question {
-            Question::Engines { trace, .. } => Some(trace),
+            Question::Engines { trace, .. } | Question::Folded { trace, .. } => Some(trace),
             _ => None,
         }
     }
 
     /// Keeps the case with another trace if it still differs.
     fn keep_trace(&mut self, changed: Vec<u8>) -> bool {
-        match self.case.question {
-            Question::Engines { limits, spare, .. } => self.keep(Question::Engines { trace: changed, limits, spare }),
-            _ => false,
+        let mut question = self.case.question.clone();
+        match &mut question {
+            Question::Engines { trace, .. } | Question::Folded { trace, .. } => *trace = changed,
+            _ => return false,
         }
+        self.keep(question)
     }
 
     /// Leaves out runs of whole items wherever that keeps the difference.
@@ -194,11 +196,27 @@ fn lower_questions(question: &Question) -> Vec<Question> {
         }
         Question::ReadSheet { text, rows, count } => {
             let of = |text| Question::ReadSheet { text, rows: *rows, count: *count };
-            let lines: Vec<&[u8]> = text.split_inclusive(|c| *c == b'\n').collect();
-            let less = |n: usize| [&lines[..n], &lines[n + 1..]].concat().concat();
-            (0..lines.len()).map(less).map(of).collect()
+            shorter_texts(text).map(of).collect()
+        }
+        Question::Folded { trace, limits, lists: [project, stock], spare } => {
+            let of = |limits, project: &[u8], stock: &[u8], spare| {
+                let lists = [project.to_vec(), stock.to_vec()];
+                Question::Folded { trace: trace.clone(), limits, lists, spare }
+            };
+            let lower = lower_limits(*limits).map(|limits| of(limits, project, stock, *spare));
+            let projects = shorter_texts(project).map(|project| of(*limits, &project, stock, *spare));
+            let stocks = shorter_texts(stock).map(|stock| of(*limits, project, &stock, *spare));
+            let rooms = lower_folded_spares(*spare).map(|spare| of(*limits, project, stock, spare));
+            lower.chain(projects).chain(stocks).chain(rooms).collect()
         }
     }
+}
+
+/// A text without one of its lines, each in turn, and without its last character.
+fn shorter_texts(text: &[u8]) -> impl Iterator<Item = Vec<u8>> + '_ {
+    let lines: Vec<&[u8]> = text.split_inclusive(|c| *c == b'\n').collect();
+    let last = text.split_last().map(|(_, rest)| rest.to_vec());
+    (0..lines.len()).map(move |n| [&lines[..n], &lines[n + 1..]].concat().concat()).chain(last)
 }
 
 /// Limits with one of the two lower.
@@ -217,5 +235,12 @@ fn lower_spares(spare: Spare) -> impl Iterator<Item = Spare> {
         Spare { answer: 0, ..spare },
         Spare { marks: 0, ..spare },
     ];
+    just.into_iter().filter(move |new| *new != spare)
+}
+
+/// The same for the writer of folded stacks.
+fn lower_folded_spares(spare: FoldedSpare) -> impl Iterator<Item = FoldedSpare> {
+    let just =
+        [FoldedSpare { scratch: 0, ..spare }, FoldedSpare { out: 0, ..spare }, FoldedSpare { written: 0, ..spare }];
     just.into_iter().filter(move |new| *new != spare)
 }

@@ -1,6 +1,6 @@
 //! A case and a difference in words.
 
-use super::case::{Case, Outcome, Question, Room, Spare, STRIP};
+use super::case::{Case, FoldedSpare, Outcome, Question, Room, Spare, STRIP};
 use super::Difference;
 use crate::line::CHARS;
 use crate::trace::events;
@@ -21,10 +21,8 @@ impl Display for Case {
     fn fmt(&self, f: &mut Formatter) -> Result {
         match &self.question {
             Question::Engines { trace, limits, spare } => {
-                let (depth, sites) = (limits.depth, limits.sites);
-                writeln!(f, "D = {depth}, M = {sites}{spare}")?;
-                writeln!(f, "a trace of {} characters{}:", trace.len(), told_events(trace))?;
-                trace.chunks(CHARS).enumerate().try_for_each(|(n, line)| writeln!(f, "{n:6}  {}", shown(line)))
+                writeln!(f, "D = {}, M = {}{spare}", limits.depth, limits.sites)?;
+                told_trace(f, trace)
             }
             Question::ReadLine { line, frame } => writeln!(f, "read {}; frame of {frame}", shown(line)),
             Question::WriteLine { frame, out, written } => {
@@ -44,17 +42,39 @@ impl Display for Case {
             Question::ReadSheet { text, rows, count } => {
                 writeln!(f, "read a sheet into {rows} row numbers, count of {count}:\n{}", text.escape_ascii())
             }
+            Question::Folded { trace, limits, lists: [project, stock], spare } => {
+                writeln!(f, "folded stacks, D = {}, M = {}{spare}", limits.depth, limits.sites)?;
+                writeln!(f, "project's list: {}\nstock list: {}", project.escape_ascii(), stock.escape_ascii())?;
+                told_trace(f, trace)
+            }
         }
     }
 }
 
-/// What is lent beyond or below what is needed, each slice after a comma.
 impl Display for Spare {
     fn fmt(&self, f: &mut Formatter) -> Result {
-        let spares = [("scratch", self.scratch), ("rows", self.rows), ("answer", self.answer), ("marks", self.marks)];
-        let mut told = spares.into_iter().filter(|(_, spare)| *spare != 0);
-        told.try_for_each(|(name, spare)| write!(f, ", {name} {spare:+}"))
+        let Spare { scratch, rows, answer, marks } = *self;
+        told_spares(f, &[("scratch", scratch), ("rows", rows), ("answer", answer), ("marks", marks)])
     }
+}
+
+impl Display for FoldedSpare {
+    fn fmt(&self, f: &mut Formatter) -> Result {
+        let FoldedSpare { scratch, out, written } = *self;
+        told_spares(f, &[("scratch", scratch), ("output", out), ("count", written)])
+    }
+}
+
+/// What is lent beyond or below what is needed, each slice after a comma.
+fn told_spares(f: &mut Formatter, spares: &[(&str, isize)]) -> Result {
+    let mut told = spares.iter().filter(|(_, spare)| *spare != 0);
+    told.try_for_each(|(name, spare)| write!(f, ", {name} {spare:+}"))
+}
+
+/// A trace, line by line.
+fn told_trace(f: &mut Formatter, trace: &[u8]) -> Result {
+    writeln!(f, "a trace of {} characters{}:", trace.len(), told_events(trace))?;
+    trace.chunks(CHARS).enumerate().try_for_each(|(n, line)| writeln!(f, "{n:6}  {}", shown(line)))
 }
 
 /// The events of a trace that is good and not too long to read.
