@@ -64,7 +64,6 @@ static int refuse(uint64_t answer) {
         [NYO_PLACE] = "another site has the same file, line and column",
         [NYO_UNDECLARED] = "the site that is called or spawned has no site line",
         [NYO_DEPTH] = "more invocations are open than the depth limit: raise it with -d",
-        [NYO_OVERFLOW] = "a sum is beyond 64 bits",
         [NYO_UNFINISHED] = "the lines end before the root's return",
     };
     uint8_t text[NYO_REFUSAL_CHARS];

@@ -71,7 +71,7 @@ enum { NYO_CALLS, NYO_WORK, NYO_SPAN, NYO_LOCAL, NYO_ON_SPAN };
  * longest and each with a semicolon or space behind it, a cost of 10 figures and a line feed. */
 #define NYO_FOLDED_CHARS(costs, depth, longest) ((size_t)(costs) * ((size_t)(depth) * ((size_t)(longest) + 1) + 11))
 
-/* The refusals. */
+/* The refusals. 13 is not in use. */
 enum {
     NYO_LIMITS = 1,      /* depth, sites, count, number or line outside its range */
     NYO_LENGTH = 2,      /* length not a multiple of 23; for one line, not 23 */
@@ -85,7 +85,6 @@ enum {
     NYO_PLACE = 10,      /* a place already declared */
     NYO_UNDECLARED = 11, /* call or spawn of site 0 or of one not declared */
     NYO_DEPTH = 12,      /* more invocations open than the depth limit */
-    NYO_OVERFLOW = 13,   /* total work or a row number beyond 64 bits: never within the limits above */
     NYO_UNFINISHED = 14, /* lines end before the root's return; the line is the number of lines */
     NYO_CSV_RECORD = 15, /* a record of comma-separated text is not good or is missing; the line is its number, header 0 */
     NYO_CSV_ROOM = 16,   /* output shorter than comma-separated text, or room for fewer rows than it has */

@@ -88,7 +88,7 @@ class Profile:
         self.open_of = {0: 1}
 
     def line(self, chars):
-        """Takes one line. No number can come near 64 bits, so 13 is never given."""
+        """Takes one line."""
         kind, site, value, file, column = self.fields(chars)
         if not self.open:
             self.refuse(7)

@@ -108,7 +108,6 @@ struct Walk {
     places: HashSet<Place>,
     /// The open invocations, the root first; none after the root's return.
     open: Vec<usize>,
-    counted: Counted,
 }
 
 impl Walk {
@@ -119,7 +118,6 @@ impl Walk {
             shape: Shape { lines: vec![], sites: 0, invocations: vec![root], directly_in: vec![] },
             places: HashSet::new(),
             open: vec![0],
-            counted: Counted::default(),
         }
     }
 
@@ -131,9 +129,8 @@ impl Walk {
             Kind::Site => self.site(&line)?,
             Kind::Call => self.enter(&line, Start::Called(inside))?,
             Kind::Spawn => self.enter(&line, Start::Spawned(inside))?,
-            Kind::Sync => (),
+            Kind::Sync | Kind::Cost => (),
             Kind::Return => self.leave(),
-            Kind::Cost => self.count(line.value)?,
         }
         self.shape.directly_in.push((line.kind != Kind::Site).then_some(inside));
         self.shape.lines.push(line);
@@ -178,66 +175,8 @@ impl Walk {
         }
     }
 
-    /// Counts a cost in the total and in the row of each open invocation.
-    fn count(&mut self, value: u64) -> Result<(), Ground> {
-        let rows = self.open.iter().map(|&invocation| self.shape.invocations[invocation].row);
-        self.counted.add(value, rows)
-    }
-
     /// The shape, if the root has returned.
     fn finish(self) -> Option<Shape> {
         self.open.is_empty().then_some(self.shape)
-    }
-}
-
-/// The total work and the work column, wide enough not to overflow. In each row no other sum is above the work, and
-/// calls are at most the lines, so these are the numbers that decide refusal 13.
-#[derive(Default)]
-struct Counted {
-    total: u128,
-    works: Vec<u128>,
-}
-
-impl Counted {
-    /// Adds a cost inside invocations of these rows, one for each that is open.
-    fn add(&mut self, value: u64, rows: impl Iterator<Item = usize>) -> Result<(), Ground> {
-        let mut most = grow(&mut self.total, value);
-        for row in rows {
-            if self.works.len() <= row {
-                self.works.resize(row + 1, 0);
-            }
-            most = most.max(grow(&mut self.works[row], value));
-        }
-        if most > u128::from(u64::MAX) {
-            return Err(Ground::Beyond64Bits);
-        }
-        Ok(())
-    }
-}
-
-/// Adds to a number and gives the sum.
-fn grow(number: &mut u128, value: u64) -> u128 {
-    *number += u128::from(value);
-    *number
-}
-
-#[cfg(test)]
-mod tests {
-    use super::*;
-
-    const MOST: u64 = u64::MAX;
-
-    #[test]
-    fn the_total_may_reach_64_bits_and_no_more() {
-        let mut counted = Counted { total: u128::from(MOST) - 5, works: vec![] };
-        assert_eq!(counted.add(5, [0].into_iter()), Ok(()));
-        assert_eq!(counted.add(1, [0].into_iter()), Err(Ground::Beyond64Bits));
-    }
-
-    #[test]
-    fn a_row_counts_a_cost_once_for_each_open_invocation() {
-        let mut counted = Counted { total: 0, works: vec![0, u128::from(MOST) - 8] };
-        assert_eq!(counted.add(4, [0, 1, 1].into_iter()), Ok(()));
-        assert_eq!(counted.add(1, [0, 1].into_iter()), Err(Ground::Beyond64Bits));
     }
 }

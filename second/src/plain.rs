@@ -165,8 +165,8 @@ impl Engine {
         }
     }
 
-    /// Takes one line, or gives the smallest number that it is refused with. Refusal 13 needs no test: 65,536 values
-    /// below 2^32, each counted at most once in a column of a row, stay below 2^48.
+    /// Takes one line, or gives the smallest number that it is refused with. No sum wraps: 65,536 values below 2^32,
+    /// each counted at most once in a column of a row, stay below 2^48.
     fn line(&mut self, line: u32, chars: &[u8; CHARS]) -> Result<(), Ground> {
         let fields = Fields::read(chars)?;
         let own = self.open.last_mut().ok_or(Ground::AfterEnd)?;

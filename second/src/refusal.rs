@@ -1,6 +1,6 @@
 //! The grounds of refusal and their numbers.
 
-/// Why a trace, a line or a call is refused; the numbers are those of the table of refusals.
+/// Why a trace, a line or a call is refused; the numbers are those of the table of refusals. 13 is unused.
 #[derive(Clone, Copy, Debug, PartialEq, Eq, PartialOrd, Ord)]
 #[repr(u8)]
 pub enum Ground {
@@ -28,8 +28,6 @@ pub enum Ground {
     Undeclared = 11,
     /// "more than D invocations open"
     Depth = 12,
-    /// "total work or a row number, counted up to this line, beyond 64 bits"
-    Beyond64Bits = 13,
     /// "lines end before the root's return"
     Unfinished = 14,
     /// "the first record (the header is 0) that isn't good or is missing"

@@ -23,7 +23,7 @@ fn every_verdict_is_reached() {
     let cases = (0..20_000).map(|number| generate::case(1, number));
     let verdicts = verdicts(cases.filter(|case| matches!(case.question, Question::Engines { .. })));
     println!("{verdicts:?}");
-    for verdict in (0..=14).filter(|verdict| ![3, 13].contains(verdict)) {
+    for verdict in [0, 1, 2, 4, 5, 6, 7, 8, 9, 10, 11, 12, 14] {
         assert!(verdicts.get(&verdict).is_some_and(|&times| times >= 30), "{verdict}: {verdicts:?}");
     }
 }

@@ -23,7 +23,7 @@ fn alike(cases: impl IntoIterator<Item = Case>) -> usize {
 
 #[test]
 fn on_the_fixed_traces() {
-    assert_eq!(alike(fixed::cases()), 57);
+    assert_eq!(alike(fixed::cases()), 58);
 }
 
 #[test]

@@ -1,7 +1,7 @@
 //! The traces that the rules name, each number typed from the rules, in both ways of the second program.
 
 use second::check::{Lent, Limits};
-use second::compare::fixed::{further, recursive, TWELVE, TWELVE_LIMITS};
+use second::compare::fixed::{further, heaviest, recursive, TWELVE, TWELVE_LIMITS};
 use second::compare::stacks;
 use second::folded;
 use second::library::Second;
@@ -87,6 +87,15 @@ fn the_further_traces() {
         let found = profile(&case.trace, case.limits).err();
         assert_eq!(found, case.refusal, "{}", case.name);
     }
+}
+
+#[test]
+fn the_heaviest_trace_stays_below_2_to_the_48() {
+    // 65,535 times 4,294,967,295, which is 2^48 - 2^32 - 2^16 + 1
+    let most = 281_470_681_677_825;
+    let heaviest = profile(&heaviest(), Limits { depth: 1, sites: 0 }).expect("accepted");
+    assert_eq!(heaviest.answer, [most, most, 0, 65_536]);
+    assert_eq!(heaviest.rows, [[1, most, most, most, most]]);
 }
 
 #[test]

@@ -19,7 +19,6 @@ use Rattle.trace.specs.Refusals.{lineCount, openNow, afterRoot, fault, accepted
 use Rattle.trace.specs.Refusals.{Verdict as Judgement}
 use Rattle.trace.proofs.Scan.{read-line, faultless}
 use Rattle.trace.proofs.Sites.{sites-le, Numbered, numbered-start, numbered-snoc, within-snoc}
-use Rattle.trace.proofs.Bounds.{Safe, thirteen-never, safe-snoc, safe-start}
 use Rattle.admit.specs.declared.Verdict.the-variants.{Accepted}
 use Rattle.admit.specs.declared.Verdict.the-variants.{Refused as Denied}
 use Rattle.admit.specs.declared.Tally.{Tally}
@@ -38,8 +37,6 @@ pub record Known (D M : ℕ) (s ks : List ℕ) (before : List Frame) : Type 0 wh
   -- the sites are numbered 1, 2, 3 and on, within M
   pub numbered : Numbered before
   pub within : sites before ≤ M
-  -- at most D are open and no cost is beyond the table, so 13 does not apply to the next line
-  pub safe : Safe D before
   -- the first keys are those of the places declared so far
   pub narrow : NarrowSites before
   pub room : length ks ≡ 256
@@ -57,7 +54,7 @@ reached-start {D} {M} {s} ks h r =
     record {
       before = [];
       tally = refl;
-      known = record { left = lineCount s; whole = omega arith; rest = refl; numbered = numbered-start; within = omega arith; safe = safe-start D (h .most) (h .least); narrow = tt; room = r; keys = refl };
+      known = record { left = lineCount s; whole = omega arith; rest = refl; numbered = numbered-start; within = omega arith; narrow = tt; room = r; keys = refl };
     }
 
 module _ {D M : ℕ} {s ks : List ℕ} (limits : Limits D M s) where
@@ -83,7 +80,6 @@ module _ {D M : ℕ} {s ks : List ℕ} (limits : Limits D M s) where
       judged-is : (k : ℕ) (f : Frame) → readAt s n ≡ Line k f → stepped D M (seen ks (sites before) f) (tallyOf before) f ≡ judgement D M before f
       judged-is k f e =
           step-is D M before (seen ks (sites before) f) (r .numbered) f
-          (thirteen-never D (limits .most) (limits .least) before f (r .safe) (read-line (lineAt s n) n k f e .1) (omega (arith, limits .lines-most)))
           (seen-is ks before (r .keys) f (r .narrow) (read-narrow s n k f e))
 
       abbrev behind : ℕ → Frame → Judgement
@@ -131,7 +127,6 @@ module _ {D M : ℕ} {s ks : List ℕ} (limits : Limits D M s) where
                 rest = ap (λ (m : ℕ). scan D M (before ++ f ∷ []) (readsFrom s m (unrolled .0))) (one-more f) ∙ w;
                 numbered = numbered-snoc before f (c .not8) (r .numbered);
                 within = within-snoc M before f (c .not8) (c .not9) (r .numbered) (r .within);
-                safe = safe-snoc D (limits .most) (limits .least) before f (r .safe) (read-line (lineAt s n) n k f h .1) (c .not12);
                 narrow = narrow-snoc before f (r .narrow) (read-narrow s n k f h);
                 room = kept-length ks before (r .keys) f ∙ r .room;
                 keys = kept-is ks before (r .keys) f (omega (arith, r .within, limits .sites-most, r .room));

@@ -10,7 +10,7 @@ use borrow.Author.Tests.{eqb-false, leb-true, leb-false, ne-eqb, lt-ltb, le-ltb}
 use Rattle.line.specs.declared.Frame.{Frame}
 use Rattle.line.specs.declared.Frame.the-variants.{Site, Call, Spawn, Sync, Return, Cost}
 use Rattle.trace.specs.Shape.{closed, step, sites}
-use Rattle.trace.specs.Refusals.{openNow, empty, afterRoot, lastSite, allSites, placed, placeAgain, declared, beyond, fault}
+use Rattle.trace.specs.Refusals.{openNow, empty, afterRoot, lastSite, allSites, placed, placeAgain, declared, fault}
 use Rattle.trace.proofs.Scan.{now}
 use Rattle.trace.proofs.Sites.{sites-append, Numbered}
 use Rattle.admit.specs.declared.Tally.{Tally}
@@ -66,18 +66,18 @@ outcome k after t = cond (eqb k 0) (next after) (refuse t k)
 abbrev pub judgement : ℕ → ℕ → List Frame → Frame → Tallied
 judgement D M before f = outcome (fault D M before f) (tallyOf (before ++ f ∷ [])) (tallyOf before)
 
--- a, b: 7 and 13 apply
-plain : (a b d : Bool) (u v t : Tally) → d ≡ a → b ≡ false → u ≡ v → cond d (refuse t 7) (next u) ≡ outcome (cond a 7 (cond b 13 0)) v t
-plain a b d u v t e f g = rw (e, f, g) (go a)
+-- a: 7 applies
+plain : (a d : Bool) (u v t : Tally) → d ≡ a → u ≡ v → cond d (refuse t 7) (next u) ≡ outcome (cond a 7 0) v t
+plain a d u v t e g = rw (e, g) (go a)
   where
     go : (a : Bool) → cond a (refuse t 7) (next v) ≡ outcome (cond a 7 0) v t
     go true = refl
     go false = refl
 
 -- z, w: the site is 0, or is not declared; k: too deep
-make : (a b d : Bool) (x z w k : Bool) (u v t : Tally) → d ≡ a → b ≡ false → u ≡ v → x ≡ (z || w)
-    → cond d (refuse t 7) (cond z (refuse t 11) (cond w (refuse t 11) (cond k (refuse t 12) (next u)))) ≡ outcome (cond a 7 (cond x 11 (cond k 12 (cond b 13 0)))) v t
-make a b d x z w k u v t e f g h = rw (e, f, g, h) (go a z w k)
+make : (a d : Bool) (x z w k : Bool) (u v t : Tally) → d ≡ a → u ≡ v → x ≡ (z || w)
+    → cond d (refuse t 7) (cond z (refuse t 11) (cond w (refuse t 11) (cond k (refuse t 12) (next u)))) ≡ outcome (cond a 7 (cond x 11 (cond k 12 0))) v t
+make a d x z w k u v t e g h = rw (e, g, h) (go a z w k)
   where
     go : (a z w k : Bool) → cond a (refuse t 7) (cond z (refuse t 11) (cond w (refuse t 11) (cond k (refuse t 12) (next v)))) ≡ outcome (cond a 7 (cond (z || w) 11 (cond k 12 0))) v t
     go true z w k = refl
@@ -87,9 +87,9 @@ make a b d x z w k u v t e f g h = rw (e, f, g, h) (go a z w k)
     go false false false false = refl
 
 -- o: sites alone come before; q: the number is the next; m: above M; g: the place again
-site : (a b d : Bool) (o q m g r : Bool) (u v t : Tally) → d ≡ a → b ≡ false → u ≡ v → r ≡ g
-    → cond d (refuse t 7) (cond o (cond q (cond m (refuse t 9) (cond r (refuse t 10) (next u))) (refuse t 8)) (refuse t 8)) ≡ outcome (cond a 7 (cond (not o || not q) 8 (cond m 9 (cond g 10 (cond b 13 0))))) v t
-site a b d o q m g r u v t e f h k = rw (e, f, h, k) (go a o q m g)
+site : (a d : Bool) (o q m g r : Bool) (u v t : Tally) → d ≡ a → u ≡ v → r ≡ g
+    → cond d (refuse t 7) (cond o (cond q (cond m (refuse t 9) (cond r (refuse t 10) (next u))) (refuse t 8)) (refuse t 8)) ≡ outcome (cond a 7 (cond (not o || not q) 8 (cond m 9 (cond g 10 0)))) v t
+site a d o q m g r u v t e h k = rw (e, h, k) (go a o q m g)
   where
     go : (a o q m g : Bool) → cond a (refuse t 7) (cond o (cond q (cond m (refuse t 9) (cond g (refuse t 10) (next v))) (refuse t 8)) (refuse t 8)) ≡ outcome (cond a 7 (cond (not o || not q) 8 (cond m 9 (cond g 10 0)))) v t
     go true o q m g = refl
@@ -114,26 +114,26 @@ module _ (D M : ℕ) (before : List Frame) (again : Bool) (h : Numbered before) 
   behind s d = record { lines = n + 1; sites = s; depth = d }
 
   -- a line that has no refusal of its own
-  plain-is : (f : Frame) (d : ℕ) → beyond before f ≡ false → _≡_ {A = ℕ} (sites (f ∷ [])) 0 → d ≡ length (step n f o) → cond (eqb (length o) 0) (refuse t 7) (next (behind (sites before) d)) ≡ outcome (cond (afterRoot before) 7 (cond (beyond before f) 13 0)) (tallyOf (before ++ f ∷ [])) t
-  plain-is f d b z e = plain (afterRoot before) (beyond before f) (eqb (length o) 0) (behind (sites before) d) (tallyOf (before ++ f ∷ [])) t (none-open o) b (next-is before f (sites before) d (omega (arith, z)) e)
+  plain-is : (f : Frame) (d : ℕ) → _≡_ {A = ℕ} (sites (f ∷ [])) 0 → d ≡ length (step n f o) → cond (eqb (length o) 0) (refuse t 7) (next (behind (sites before) d)) ≡ outcome (cond (afterRoot before) 7 0) (tallyOf (before ++ f ∷ [])) t
+  plain-is f d z e = plain (afterRoot before) (eqb (length o) 0) (behind (sites before) d) (tallyOf (before ++ f ∷ [])) t (none-open o) (next-is before f (sites before) d (omega (arith, z)) e)
 
   -- a call or spawn of site s
-  make-is : (f : Frame) (s : ℕ) → beyond before f ≡ false → _≡_ {A = ℕ} (sites (f ∷ [])) 0 → length o + 1 ≡ length (step n f o)
+  make-is : (f : Frame) (s : ℕ) → _≡_ {A = ℕ} (sites (f ∷ [])) 0 → length o + 1 ≡ length (step n f o)
       → cond (eqb (length o) 0) (refuse t 7) (cond (eqb s 0) (refuse t 11) (cond (ltb (sites before) s) (refuse t 11) (cond (leb D (length o)) (refuse t 12) (next (behind (sites before) (length o + 1))))))
-      ≡ outcome (cond (afterRoot before) 7 (cond (eqb s 0 || not (declared s before)) 11 (cond (ltb D (suc (length o))) 12 (cond (beyond before f) 13 0)))) (tallyOf (before ++ f ∷ [])) t
-  make-is f s b z e =
+      ≡ outcome (cond (afterRoot before) 7 (cond (eqb s 0 || not (declared s before)) 11 (cond (ltb D (suc (length o))) 12 0))) (tallyOf (before ++ f ∷ [])) t
+  make-is f s z e =
       rw (too-deep-is D (length o))
-      (make (afterRoot before) (beyond before f) (eqb (length o) 0) (eqb s 0 || not (declared s before)) (eqb s 0) (ltb (sites before) s) (leb D (length o)) (behind (sites before) (length o + 1)) (tallyOf (before ++ f ∷ [])) t
-      (none-open o) b (next-is before f (sites before) (length o + 1) (omega (arith, z)) e) (undeclared-is before s h))
+      (make (afterRoot before) (eqb (length o) 0) (eqb s 0 || not (declared s before)) (eqb s 0) (ltb (sites before) s) (leb D (length o)) (behind (sites before) (length o + 1)) (tallyOf (before ++ f ∷ [])) t
+      (none-open o) (next-is before f (sites before) (length o + 1) (omega (arith, z)) e) (undeclared-is before s h))
 
-  pub step-is : (f : Frame) → beyond before f ≡ false → again ≡ placeAgain before f → stepped D M again (tallyOf before) f ≡ judgement D M before f
-  step-is (Site s p) b g =
+  pub step-is : (f : Frame) → again ≡ placeAgain before f → stepped D M again (tallyOf before) f ≡ judgement D M before f
+  step-is (Site s p) g =
       let e : sites before + 1 ≡ suc (lastSite 0 before) = omega (arith, h .last) in
       rw e
-      (site (afterRoot before) (beyond before (Site s p)) (eqb (length o) 0) (allSites before) (eqb s (suc (lastSite 0 before))) (ltb M s) (placed p before) again (behind (suc (lastSite 0 before)) (length o)) (tallyOf (before ++ Site s p ∷ [])) t
-      (none-open o) b (next-is before (Site s p) (suc (lastSite 0 before)) (length o) (omega (arith, h .last)) refl) g)
-  step-is (Call s) b g = make-is (Call s) s b refl (omega arith)
-  step-is (Spawn s) b g = make-is (Spawn s) s b refl (omega arith)
-  step-is Sync b g = plain-is Sync (length o) b refl refl
-  step-is Return b g = plain-is Return (length o - 1) b refl (closed-length o)
-  step-is (Cost v) b g = plain-is (Cost v) (length o) b refl refl
+      (site (afterRoot before) (eqb (length o) 0) (allSites before) (eqb s (suc (lastSite 0 before))) (ltb M s) (placed p before) again (behind (suc (lastSite 0 before)) (length o)) (tallyOf (before ++ Site s p ∷ [])) t
+      (none-open o) (next-is before (Site s p) (suc (lastSite 0 before)) (length o) (omega (arith, h .last)) refl) g)
+  step-is (Call s) g = make-is (Call s) s refl (omega arith)
+  step-is (Spawn s) g = make-is (Spawn s) s refl (omega arith)
+  step-is Sync g = plain-is Sync (length o) refl refl
+  step-is Return g = plain-is Return (length o - 1) refl (closed-length o)
+  step-is (Cost v) g = plain-is (Cost v) (length o) refl refl

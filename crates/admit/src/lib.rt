@@ -170,8 +170,7 @@ fn enter(t: Tally, site: usize, limit: usize) -> Tallied
     onward(t, t.sites, t.depth + 1)
 }
 
-// A line by its kind: the tally behind it, or the smallest refusal from 7 to 12 that applies. 13 never applies within
-// the limits (proved), so it is not looked for.
+// A line by its kind: the tally behind it, or the smallest refusal from 7 to 12 that applies.
 fn step(t: Tally, frame: Frame, again: bool, depth: usize, sites: usize) -> Tallied
     requires { ⌜ Small depth t ⌝ }
     ensures { λ r. ⌜ r ≡ stepped depth sites again t frame ⌝ }

@@ -4,9 +4,9 @@ use mathlib.Core.Path.{_≡_, refl, sym, _∙_, ap, subst}
 use mathlib.Core.Logic.{_↔_, inl, inr}
 use mathlib.Core.Bool.{Bool, true, false, not, cond, _||_}
 use mathlib.Core.List.{List, [], _∷_, _++_, append-assoc, append-nil}
-use Prim.Native.Nat.{ℕ, suc, _+_, _%_, _≤_, _<_}
+use Prim.Native.Nat.{ℕ, suc, _%_, _≤_}
 use native.Mathlib.Omega.{arith}
-use lib.ListN.{length, length-append}
+use lib.ListN.{length}
 use lib.Seq.{append-snoc}
 use lib.Dec.{eqb, ltb}
 use borrow.Author.Tests.{eq-eqb, ne-eqb, le-ltb, le-leb}
@@ -14,7 +14,7 @@ use Rattle.line.specs.declared.Frame.{Frame}
 use Rattle.line.specs.declared.Frame.the-variants.{Return}
 use Rattle.line.specs.declared.Read.{Read}
 use Rattle.trace.specs.Shape.{root, step, sites}
-use Rattle.trace.specs.Refusals.{lineCount, checks, openNow, empty, allSites, lastSite, misplaced, aboveM, placed, placeAgain, declared, undeclared, tooDeep, fault, accepted, refused, judged, scan, reads, verdict}
+use Rattle.trace.specs.Refusals.{mostLines, lineCount, checks, openNow, empty, allSites, lastSite, misplaced, aboveM, placed, placeAgain, declared, undeclared, tooDeep, fault, accepted, refused, judged, scan, reads, verdict}
 use Rattle.trace.specs.Tree.{Way, call, spawn, opening, Leaf, spend, sync, lineOf, LeafWithin, Body, done, leaf, child, linesOf, Within, AllSites}
 use Rattle.trace.proofs.Cases.{IsSite, NotSite, other, at-site, site-step}
 use Rattle.trace.proofs.Tree.{leaf-not-site, opening-not-site, no-sites-lines, leaf-step, opening-step, leaf-makes, opening-makes}
@@ -22,7 +22,6 @@ use Rattle.trace.proofs.Checks.{by-checks}
 use Rattle.trace.proofs.Scan.{InTable, Clean, Reads, reads-length, reads-from-length, Fine, Accepts, accepted-is, faultless, fault-zero, now}
 use Rattle.trace.proofs.Sites.{sites-none, sites-append, declared-same, Numbered, numbered-start, upto-declared, numbered-snoc, clean-sites}
 use Rattle.trace.proofs.Parse.{parts}
-use Rattle.trace.proofs.Bounds.{Safe, thirteen-never, safe-snoc, safe-start}
 
 -- sites in order, within M, and no place twice
 abbrev pub HeadsOk : ℕ → List Frame → List Frame → Type 0
@@ -46,7 +45,7 @@ heads-sites : (M : ℕ) (before h : List Frame) → HeadsOk M before h → AllSi
 heads-sites M before [] k = tt
 heads-sites M before (f ∷ h) k = (k .0, heads-sites M (before ++ f ∷ []) h (k .4))
 
-module _ (D M : ℕ) (most : D ≤ 64) (least : 1 ≤ D) where
+module _ (D M : ℕ) where
   -- ── sites ──
 
   site-in : (f : Frame) → IsSite f → InTable f
@@ -55,19 +54,14 @@ module _ (D M : ℕ) (most : D ≤ 64) (least : 1 ≤ D) where
   site-opens : (f : Frame) (before : List Frame) → IsSite f → (undeclared before f ≡ false) × (tooDeep D before f ≡ false)
   site-opens f before h = at-site (λ g. (undeclared before g ≡ false) × (tooDeep D before g ≡ false)) (λ s p. (refl, refl)) f h
 
-  safe-heads : (before h : List Frame) → AllSites h → Safe D before → Safe D (before ++ h)
-  safe-heads before [] s k = subst (Safe D) (sym (append-nil before)) k
-  safe-heads before (f ∷ h) s k =
-      subst (Safe D) (append-snoc before f h) (safe-heads (before ++ f ∷ []) h (s .1) (safe-snoc D most least before f k (site-in f (s .0)) (site-opens f before (s .0) .1)))
-
-  clean-heads : (before h u : List Frame) (c : ℕ) (o : List ℕ) → HeadsOk M before h → Safe D before → openNow before ≡ c ∷ o → length before + length h ≤ 65536 → Clean D M (before ++ h) u → Clean D M before (h ++ u)
-  clean-heads before [] u c o k s op l w = subst (λ (b : List Frame). Clean D M b u) (append-nil before) w
-  clean-heads before (f ∷ h) u c o k s op l w =
+  clean-heads : (before h u : List Frame) (c : ℕ) (o : List ℕ) → HeadsOk M before h → openNow before ≡ c ∷ o → Clean D M (before ++ h) u → Clean D M before (h ++ u)
+  clean-heads before [] u c o k op w = subst (λ (b : List Frame). Clean D M b u) (append-nil before) w
+  clean-heads before (f ∷ h) u c o k op w =
       let x = site-opens f before (k .0) in (
-        fault-zero D M before f (record { not7 = ap empty op; not8 = k .1; not9 = k .2; not10 = k .3; not11 = x .0; not12 = x .1; not13 = thirteen-never D most least before f s (site-in f (k .0)) (omega arith) }),
+        fault-zero D M before f (record { not7 = ap empty op; not8 = k .1; not9 = k .2; not10 = k .3; not11 = x .0; not12 = x .1 }),
         site-in f (k .0),
-        clean-heads (before ++ f ∷ []) h u c o (k .4) (safe-snoc D most least before f s (site-in f (k .0)) (x .1)) (now before f ∙ site-step f (k .0) (length before) (openNow before) ∙ op)
-            (omega (arith, length-append before (f ∷ []))) (subst (λ (b : List Frame). Clean D M b u) (sym (append-snoc before f h)) w),
+        clean-heads (before ++ f ∷ []) h u c o (k .4) (now before f ∙ site-step f (k .0) (length before) (openNow before) ∙ op)
+            (subst (λ (b : List Frame). Clean D M b u) (sym (append-snoc before f h)) w),
       )
 
   -- ── the body ──
@@ -75,14 +69,12 @@ module _ (D M : ℕ) (most : D ≤ 64) (least : 1 ≤ D) where
   module _ (m : ℕ) where
     record State (before : List Frame) (o : List ℕ) : Type 0 where
       opened : openNow before ≡ o
-      safe : Safe D before
       decl : (s : ℕ) → 1 ≤ s → s ≤ m → declared s before ≡ true
 
-    state-snoc : (before : List Frame) (o : List ℕ) (f : Frame) → NotSite f → InTable f → tooDeep D before f ≡ false → State before o → State (before ++ f ∷ []) (step (length before) f o)
-    state-snoc before o f ns i d s =
+    state-snoc : (before : List Frame) (o : List ℕ) (f : Frame) → NotSite f → State before o → State (before ++ f ∷ []) (step (length before) f o)
+    state-snoc before o f ns s =
         record {
           opened = now before f ∙ ap (step (length before) f) (s .opened);
-          safe = safe-snoc D most least before f (s .safe) i d;
           decl = λ x lo hi. declared-same x before (f ∷ []) (ns, tt) ∙ s .decl x lo hi;
         }
 
@@ -108,28 +100,28 @@ module _ (D M : ℕ) (most : D ≤ 64) (least : 1 ≤ D) where
     opening-deep : (before : List Frame) (w : Way) (i c : ℕ) (o : List ℕ) → State before (c ∷ o) → suc (suc (length o)) ≤ D → tooDeep D before (opening w i) ≡ false
     opening-deep before w i c o s l = opening-makes (λ s. ltb D (suc (length (openNow before)))) false w i ∙ deep before c o s l
 
-    state-leaf : (before : List Frame) (c : ℕ) (o : List ℕ) (l : Leaf) → LeafWithin l → State before (c ∷ o) → State (before ++ lineOf l ∷ []) (c ∷ o)
-    state-leaf before c o l g s =
-        subst (State (before ++ lineOf l ∷ [])) (leaf-step l (length before) (c ∷ o)) (state-snoc before (c ∷ o) (lineOf l) (leaf-not-site l) (leaf-in l g) (leaf-deep before l) s)
+    state-leaf : (before : List Frame) (c : ℕ) (o : List ℕ) (l : Leaf) → State before (c ∷ o) → State (before ++ lineOf l ∷ []) (c ∷ o)
+    state-leaf before c o l s =
+        subst (State (before ++ lineOf l ∷ [])) (leaf-step l (length before) (c ∷ o)) (state-snoc before (c ∷ o) (lineOf l) (leaf-not-site l) s)
 
-    state-opening : (before : List Frame) (c : ℕ) (o : List ℕ) (w : Way) (i : ℕ) → suc (suc (length o)) ≤ D → State before (c ∷ o) → State (before ++ opening w i ∷ []) (suc (length before) ∷ c ∷ o)
-    state-opening before c o w i l s =
+    state-opening : (before : List Frame) (c : ℕ) (o : List ℕ) (w : Way) (i : ℕ) → State before (c ∷ o) → State (before ++ opening w i ∷ []) (suc (length before) ∷ c ∷ o)
+    state-opening before c o w i s =
         subst (State (before ++ opening w i ∷ [])) (opening-step w i (length before) (c ∷ o))
-        (state-snoc before (c ∷ o) (opening w i) (opening-not-site w i) (opening-in w i) (opening-deep before w i c o s l) s)
+        (state-snoc before (c ∷ o) (opening w i) (opening-not-site w i) s)
 
-    state-body : (b : Body) (before : List Frame) (c : ℕ) (o : List ℕ) → State before (c ∷ o) → Within m D (suc (length o)) b → State (before ++ linesOf b) o
-    state-body done before c o s g = state-snoc before (c ∷ o) Return tt tt refl s
-    state-body (leaf l r) before c o s g =
-        subst (λ (b : List Frame). State b o) (append-snoc before (lineOf l) (linesOf r)) (state-body r (before ++ lineOf l ∷ []) c o (state-leaf before c o l (g .0) s) (g .1))
-    state-body (child w i a r) before c o s g =
+    state-body : (b : Body) (before : List Frame) (c : ℕ) (o : List ℕ) → State before (c ∷ o) → State (before ++ linesOf b) o
+    state-body done before c o s = state-snoc before (c ∷ o) Return tt s
+    state-body (leaf l r) before c o s =
+        subst (λ (b : List Frame). State b o) (append-snoc before (lineOf l) (linesOf r)) (state-body r (before ++ lineOf l ∷ []) c o (state-leaf before c o l s))
+    state-body (child w i a r) before c o s =
         let f = opening w i in
-        let y = state-body a (before ++ f ∷ []) (suc (length before)) (c ∷ o) (state-opening before c o w i (g .2) s) (g .3) in
+        let y = state-body a (before ++ f ∷ []) (suc (length before)) (c ∷ o) (state-opening before c o w i s) in
         subst (λ (b : List Frame). State b o) (append-assoc (before ++ f ∷ []) (linesOf a) (linesOf r) ∙ append-snoc before f (linesOf a ++ linesOf r))
-        (state-body r ((before ++ f ∷ []) ++ linesOf a) c o y (g .4))
+        (state-body r ((before ++ f ∷ []) ++ linesOf a) c o y)
 
     -- a line of a body passes
-    passes : (before : List Frame) (c : ℕ) (o : List ℕ) (f : Frame) → NotSite f → InTable f → undeclared before f ≡ false → tooDeep D before f ≡ false → length before < 65536 → State before (c ∷ o) → fault D M before f ≡ 0
-    passes before c o f ns i u d l s =
+    passes : (before : List Frame) (c : ℕ) (o : List ℕ) (f : Frame) → NotSite f → undeclared before f ≡ false → tooDeep D before f ≡ false → State before (c ∷ o) → fault D M before f ≡ 0
+    passes before c o f ns u d s =
         fault-zero D M before f
         (record {
           not7 = ap empty (s .opened);
@@ -138,33 +130,29 @@ module _ (D M : ℕ) (most : D ≤ 64) (least : 1 ≤ D) where
           not10 = other (λ i p. placed p before) false f ns;
           not11 = u;
           not12 = d;
-          not13 = thirteen-never D most least before f (s .safe) i l;
         })
 
     abbrev Passes : Body → Type 0
-    Passes b = (before : List Frame) (c : ℕ) (o : List ℕ) (u : List Frame) → State before (c ∷ o) → Within m D (suc (length o)) b → length before + length (linesOf b) ≤ 65536 → Clean D M (before ++ linesOf b) u → Clean D M before (linesOf b ++ u)
+    Passes b = (before : List Frame) (c : ℕ) (o : List ℕ) (u : List Frame) → State before (c ∷ o) → Within m D (suc (length o)) b → Clean D M (before ++ linesOf b) u → Clean D M before (linesOf b ++ u)
 
     clean-body : (b : Body) → Passes b
-    clean-body done before c o u s g l w = (passes before c o Return tt tt refl refl (omega arith) s, tt, w)
-    clean-body (leaf k r) before c o u s g l w = (
-      passes before c o (lineOf k) (leaf-not-site k) (leaf-in k (g .0)) (leaf-makes (λ i. eqb i 0 || not (declared i before)) false k) (leaf-deep before k) (omega arith) s,
+    clean-body done before c o u s g w = (passes before c o Return tt refl refl s, tt, w)
+    clean-body (leaf k r) before c o u s g w = (
+      passes before c o (lineOf k) (leaf-not-site k) (leaf-makes (λ i. eqb i 0 || not (declared i before)) false k) (leaf-deep before k) s,
       leaf-in k (g .0),
-      clean-body r (before ++ lineOf k ∷ []) c o u (state-leaf before c o k (g .0) s) (g .1) (omega (arith, length-append before (lineOf k ∷ [])))
+      clean-body r (before ++ lineOf k ∷ []) c o u (state-leaf before c o k s) (g .1)
           (subst (λ (b : List Frame). Clean D M b u) (sym (append-snoc before (lineOf k) (linesOf r))) w),
     )
-    clean-body (child k i a r) before c o u s g l w =
+    clean-body (child k i a r) before c o u s g w =
         let f = opening k i in
-        let x = state-opening before c o k i (g .2) s in
-        let y = state-body a (before ++ f ∷ []) (suc (length before)) (c ∷ o) x (g .3) in
-        let e = append-assoc (before ++ f ∷ []) (linesOf a) (linesOf r) ∙ append-snoc before f (linesOf a ++ linesOf r) in
-        let la = length-append before (f ∷ []) in
-        let lb = length-append (before ++ f ∷ []) (linesOf a) in
-        let lc = length-append (linesOf a) (linesOf r) in (
-          passes before c o f (opening-not-site k i) (opening-in k i) (opening-makes (λ i. eqb i 0 || not (declared i before)) false k i ∙ known before (c ∷ o) i s (g .0) (g .1)) (opening-deep before k i c o s (g .2)) (omega arith) s,
+        let x = state-opening before c o k i s in
+        let y = state-body a (before ++ f ∷ []) (suc (length before)) (c ∷ o) x in
+        let e = append-assoc (before ++ f ∷ []) (linesOf a) (linesOf r) ∙ append-snoc before f (linesOf a ++ linesOf r) in (
+          passes before c o f (opening-not-site k i) (opening-makes (λ i. eqb i 0 || not (declared i before)) false k i ∙ known before (c ∷ o) i s (g .0) (g .1)) (opening-deep before k i c o s (g .2)) s,
           opening-in k i,
           subst (Clean D M (before ++ f ∷ [])) (sym (append-assoc (linesOf a) (linesOf r) u))
-              (clean-body a (before ++ f ∷ []) (suc (length before)) (c ∷ o) (linesOf r ++ u) x (g .3) (omega arith)
-              (clean-body r ((before ++ f ∷ []) ++ linesOf a) c o u y (g .4) (omega arith) (subst (λ (b : List Frame). Clean D M b u) (sym e) w))),
+              (clean-body a (before ++ f ∷ []) (suc (length before)) (c ∷ o) (linesOf r ++ u) x (g .3)
+              (clean-body r ((before ++ f ∷ []) ++ linesOf a) c o u y (g .4) (subst (λ (b : List Frame). Clean D M b u) (sym e) w))),
         )
 
   heads-open : (before h : List Frame) (o : List ℕ) → AllSites h → openNow before ≡ o → openNow (before ++ h) ≡ o
@@ -176,21 +164,19 @@ module _ (D M : ℕ) (most : D ≤ 64) (least : 1 ≤ D) where
   heads-numb before [] k n = subst Numbered (sym (append-nil before)) n
   heads-numb before (f ∷ h) k n = subst Numbered (append-snoc before f h) (heads-numb (before ++ f ∷ []) h (k .4) (numbered-snoc before f (k .1) n))
 
-  tree-passes : (t : List Frame) → length t ≤ 65536 → IsTrace D M t → Clean D M [] t
-  tree-passes t l x =
+  tree-passes : (t : List Frame) → IsTrace D M t → Clean D M [] t
+  tree-passes t x =
       let ss = heads-sites M [] (x .heads) (x .heads-ok) in
-      let len : length t ≡ length (x .heads) + length (linesOf (x .body)) = ap length (x .lines) ∙ length-append (x .heads) (linesOf (x .body)) in
       let are : sites t ≡ sites (x .heads) = omega (arith, ap sites (x .lines), sites-append (x .heads) (linesOf (x .body)), sites-none (linesOf (x .body)) (no-sites-lines (x .body))) in
       let st : State (sites t) (x .heads) (root ∷ []) = record {
         opened = heads-open [] (x .heads) (root ∷ []) ss refl;
-        safe = safe-heads [] (x .heads) ss (safe-start D most least);
         decl = λ i lo hi. upto-declared (x .heads) (heads-numb [] (x .heads) (x .heads-ok) numbered-start) i lo (omega (arith, are));
       } in
-      let end = state-body (sites t) (x .body) (x .heads) root [] st (x .within) in
+      let end = state-body (sites t) (x .body) (x .heads) root [] st in
       let e : x .heads ++ (linesOf (x .body) ++ []) ≡ t = ap (λ (z : List Frame). x .heads ++ z) (append-nil (linesOf (x .body))) ∙ sym (x .lines) in
       subst (Clean D M []) e
-      (clean-heads [] (x .heads) (linesOf (x .body) ++ []) root [] (x .heads-ok) (safe-start D most least) refl (omega arith)
-      (clean-body (sites t) (x .body) (x .heads) root [] [] st (x .within) (omega arith) (ap empty (end .opened))))
+      (clean-heads [] (x .heads) (linesOf (x .body) ++ []) root [] (x .heads-ok) refl
+      (clean-body (sites t) (x .body) (x .heads) root [] [] st (x .within) (ap empty (end .opened))))
 
 -- LAW: lines pass exactly where they are sites in order and then the lines of a body within the limits
 pub fine-is-trace : (D M : ℕ) (t : List Frame) → Fine D M t → IsTrace D M t
@@ -202,8 +188,8 @@ fine-is-trace D M t f =
 pub sites-le-M : (D M : ℕ) (t : List Frame) → Fine D M t → sites t ≤ M
 sites-le-M D M t f = clean-sites D M [] t (f .clean) numbered-start (omega arith)
 
-pub trace-is-fine : (D M : ℕ) (t : List Frame) → 1 ≤ D → D ≤ 64 → M ≤ 255 → length t ≤ 65536 → IsTrace D M t → Fine D M t
-trace-is-fine D M t a b c d x = record { clean = tree-passes D M b a t d x; least = a; most = b; sites-most = c; lines-most = d }
+pub trace-is-fine : (D M : ℕ) (t : List Frame) → 1 ≤ D → D ≤ 64 → M ≤ 255 → length t ≤ mostLines → IsTrace D M t → Fine D M t
+trace-is-fine D M t a b c d x = record { clean = tree-passes D M t x; least = a; most = b; sites-most = c; lines-most = d }
 
 -- ── and the characters ──
 
@@ -221,8 +207,8 @@ clean-accepted D M n before (l ∷ ls) (f ∷ u) r c =
 pub accepts-accepted : (s : List ℕ) (D M : ℕ) (t : List Frame) → Accepts s D M t → verdict s D M true ≡ accepted t
 accepts-accepted s D M t h =
     let f = h .fine in
-    let n : lineCount s ≤ 65536 = omega (arith, f .lines-most, reads-length 0 (reads s) t (h .reads-as), reads-from-length s 0 (lineCount s)) in
-    let pass : checks (length s) D M true ≡ 0 = simp (le-leb 1 D (f .least), le-leb D 64 (f .most), le-leb M 255 (f .sites-most), eq-eqb (length s % 23) 0 (h .whole-lines), le-ltb 65536 (lineCount s) n) in
+    let n : lineCount s ≤ mostLines = omega (arith, f .lines-most, reads-length 0 (reads s) t (h .reads-as), reads-from-length s 0 (lineCount s)) in
+    let pass : checks (length s) D M true ≡ 0 = simp (le-leb 1 D (f .least), le-leb D 64 (f .most), le-leb M 255 (f .sites-most), eq-eqb (length s % 23) 0 (h .whole-lines), le-ltb mostLines (lineCount s) n) in
     elim (by-checks s D M true) [ inl k ↦ k .1 ∙ clean-accepted D M 0 [] (reads s) t (h .reads-as) (f .clean) | inr k ↦ absurd (k .0 pass) ]
 
 pub accepted-iff : (s : List ℕ) (D M : ℕ) (t : List Frame) → (verdict s D M true ≡ accepted t) ↔ Accepts s D M t

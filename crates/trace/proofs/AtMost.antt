@@ -14,8 +14,7 @@ use Rattle.trace.specs.Shape.{step, walk, openAt, has, firstIs}
 use Rattle.trace.specs.Series.{Series, value, valueAt, CostIn, Chain, weight, Span}
 use Rattle.trace.specs.Rows.{ofRow, counted, sumOf, costsWhere, inside, direct, directOn, sum, Sum, work, Spans, local, onSpan}
 use Rattle.trace.proofs.Open.{has-cases}
-use Rattle.trace.proofs.Sums.{same-or-not}
-use Rattle.trace.proofs.Bounds.{sum-le}
+use Rattle.trace.proofs.Sums.{same-or-not, sum-le}
 
 -- ── the costs on a chain are its weight ──
 

@@ -1,9 +1,9 @@
--- Checks 1 to 4: what is so where they pass, which numbers they give, and that the lines decide where they pass.
+-- Checks 1 to 4: what is so where they pass, what the room decides, and that the lines decide where they pass.
 use mathlib.Core.Path.{_≡_, refl, ap}
 use mathlib.Core.Logic.{_⊎_, inl, inr}
 use mathlib.Core.Bool.{Bool, true, false, not, cond}
 use mathlib.Core.List.{List, []}
-use Prim.Native.Nat.{ℕ, _≤_, _<_}
+use Prim.Native.Nat.{ℕ, _<_}
 use native.Mathlib.Omega.{arith}
 use lib.ListN.{length}
 use lib.Dec.{eqb}
@@ -31,16 +31,6 @@ module _ (bytes D M : ℕ) where
       go false false true d p q r h = absurd (omega arith)
       go false false false false p q r h = absurd (omega arith)
       go false false false true p q r h = record { in-range = p; whole = q; few = r; roomy = refl }
-
-  pub at-most-four : (room : Bool) → checks bytes D M room ≤ 4
-  at-most-four room = go (outOfRange D M) (broken bytes) (tooMany bytes) room
-    where
-      go : (a b c d : Bool) → first a b c d ≤ 4
-      go true b c d = omega arith
-      go false true c d = omega arith
-      go false false true d = omega arith
-      go false false false true = omega arith
-      go false false false false = omega arith
 
   -- the room comes last: without it there is 4 where the others pass, and otherwise what there is with it
   pub room-last : ((checks bytes D M true ≡ 0) × (checks bytes D M false ≡ 4)) ⊎ ((checks bytes D M true < 4) × ((checks bytes D M true ≡ 0 → ⊥) × ((room : Bool) → checks bytes D M room ≡ checks bytes D M true)))

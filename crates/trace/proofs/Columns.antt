@@ -15,7 +15,7 @@ use Rattle.trace.specs.Series.{value}
 use Rattle.trace.specs.Rows.{makes, made, ofRow, sumOf, costsWhere, total, sum, Sum, calls, local, onSpan}
 use Rattle.trace.specs.Tree.{Way, opening, Leaf, spend, sync, lineOf, leafWork, Body, done, leaf, child, linesOf, size, Within, Parts, workOf, localOf, madeSum, callsIn, localIn, rootAt}
 use Rattle.trace.specs.Fold.{costAt, plan}
-use Rattle.trace.proofs.Basics.{cond-same, cond-add}
+use Rattle.trace.proofs.Basics.{cond-same, cond-add, cond-le}
 use Rattle.trace.proofs.Tree.{leaf-step, opening-step, opening-makes, leaf-value, opening-value}
 use Rattle.trace.proofs.Apart.{costs-two}
 use Rattle.trace.proofs.Sums.{not-made, makesAt, has-made, sum-made, sum-zero, sum-add, sum-same}
@@ -175,6 +175,12 @@ none-from-root h m D d (leaf l r) w = none-from-root h m D d r (w .1)
 none-from-root h m D d (child k i g r) w =
     omega (arith, ap (λ (b : Bool). cond b (h g) 0) (ne-eqb i 0 (λ q. omega (arith, w .0))), none-from-root h m D (suc d) g (w .3), none-from-root h m D d r (w .4))
 
+-- what stands directly in a body, and in those made from a site inside it, is some of all its costs
+local-below : (s : ℕ) (b : Body) → localOf b + madeSum localOf s b ≤ workOf b
+local-below s done = omega arith
+local-below s (leaf l r) = omega (arith, local-below s r)
+local-below s (child w i g r) = omega (arith, cond-le (eqb i s) (localOf g), local-below s g, local-below s r)
+
 module _ (D : ℕ) (t : List Frame) (p : Parts D t) where
   abbrev all : List CostLine
   all = costs (plan (rootAt p) 0 (p .body))
@@ -197,3 +203,8 @@ module _ (D : ℕ) (t : List Frame) (p : Parts D t) where
   pub total-tree : total t ≡ workOf (p .body)
   total-tree =
       behind-heads D t p (λ k o. true) ∙ ap (sumOf (λ k o. true) (rootAt p) (root ∷ [])) (append-nil (linesOf (p .body))) ∙ all-costs (p .body) (rootAt p) (root ∷ [])
+
+  -- LAW: no row's local exceeds the total work
+  pub local-le : (s : ℕ) → local t s ≤ total t
+  local-le zero = omega (arith, local-tree 0, total-tree, local-below 0 (p .body))
+  local-le (suc s) = omega (arith, local-tree (suc s), total-tree, local-below (suc s) (p .body))

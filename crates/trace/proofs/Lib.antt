@@ -14,7 +14,6 @@ pub mod Chains
 pub mod Sites
 pub mod Parse
 pub mod Sums
-pub mod Bounds
 pub mod Accept
 pub mod Invocations
 pub mod Stretches

@@ -21,6 +21,7 @@ use Rattle.trace.specs.Promise.{Engine, tables, marks, Lent, scratchRoom
 use Rattle.trace.specs.Tree.{Body, linesOf, size, Parts, workOf, spanOf, spansIn, rootAt}
 use Rattle.trace.specs.Fold.{chainOf}
 use Rattle.trace.specs.ByTree.{cell, RowsBy, ProfileBy}
+use Rattle.trace.specs.Small.{Small}
 use Rattle.trace.proofs.Basics.{clash, below, both}
 use Rattle.trace.proofs.Slots.{rowOf, columnOf, row-slot, column-slot, slot-in, by-slots}
 use Rattle.trace.proofs.Tree.{size-is}
@@ -32,7 +33,7 @@ use Rattle.trace.proofs.Root.{rootChain, root-span, root-chosen, root-s
 use Rattle.trace.proofs.Columns.{calls-tree, local-tree, total-tree}
 use Rattle.trace.proofs.Outermost.{work-tree, spans-tree}
 use Rattle.trace.proofs.OnChain.{on-span-tree}
-use Rattle.trace.proofs.Small.{Small, fine-small}
+use Rattle.trace.proofs.Small.{fine-small}
 
 lent-same : (a b : Lent) → a .scratch ≡ b .scratch → a .rows ≡ b .rows → a .marks ≡ b .marks → a ≡ b
 lent-same a b x y z =
@@ -119,7 +120,7 @@ module _ (D : ℕ) (t : List Frame) (p : Parts D t) where
   cell-small M f s Column.onSpan = subst Small (on-span-tree D t p s) (fine-small D M t f .on-span-is (linesIn (rootChain D t p)) s)
 
   pub work-small : (M : ℕ) → Fine D M t → Small (workOf (p .body))
-  work-small M f = subst Small (total-tree D t p) (fine-small D M t f .total-is)
+  work-small M f = subst Small (total-tree D t p) (fine-small D M t f .total-work)
 
 -- ── there is one ──
 

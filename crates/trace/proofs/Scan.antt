@@ -16,7 +16,7 @@ use Rattle.line.specs.declared.Read.the-variants.{Line, Refused}
 use Rattle.line.specs.Table.{Entry, frame, none, only, table}
 use Rattle.line.specs.Read.{fields, wrong, tabled, readLine, lineAt, readAt}
 use Rattle.trace.specs.Shape.{Is, step, walk}
-use Rattle.trace.specs.Refusals.{outOfRange, lineCount, openNow, afterRoot, misplaced, aboveM, placeAgain, undeclared, tooDeep, beyond, fault, accepted, refused, judged, scan, readsFrom, reads, verdict}
+use Rattle.trace.specs.Refusals.{outOfRange, mostLines, lineCount, openNow, afterRoot, misplaced, aboveM, placeAgain, undeclared, tooDeep, fault, accepted, refused, judged, scan, readsFrom, reads, verdict}
 use Rattle.trace.proofs.Basics.{clash, both}
 use Rattle.trace.proofs.Checks.{Passed, passed, by-checks}
 
@@ -148,7 +148,7 @@ pub record Fine (D M : ℕ) (t : List Frame) : Type 0 where
   pub least : 1 ≤ D
   pub most : D ≤ 64
   pub sites-most : M ≤ 255
-  pub lines-most : length t ≤ 65536
+  pub lines-most : length t ≤ mostLines
 
 -- a text whose lines read as these frames, which pass
 pub record Accepts (s : List ℕ) (D M : ℕ) (t : List Frame) : Type 0 where
@@ -185,7 +185,7 @@ accepted-is s D M room t e = elim (by-checks s D M room) [
               least = x .0;
               most = x .1;
               sites-most = x .2;
-              lines-most = omega (arith, ap length (k .whole), reads-length 0 (reads s) (k .rest) (k .reads), reads-from-length s 0 (lineCount s), ltb-false 65536 (lineCount s) (p .few));
+              lines-most = omega (arith, ap length (k .whole), reads-length 0 (reads s) (k .rest) (k .reads), reads-from-length s 0 (lineCount s), ltb-false mostLines (lineCount s) (p .few));
             };
           },
         )
@@ -210,26 +210,24 @@ pub record Faultless (D M : ℕ) (before : List Frame) (f : Frame) : Type 0 wher
   pub not10 : placeAgain before f ≡ false
   pub not11 : undeclared before f ≡ false
   pub not12 : tooDeep D before f ≡ false
-  pub not13 : beyond before f ≡ false
 
-none-of : (a b c d e f g : Bool) → _≡_ {A = ℕ} (cond a 7 (cond b 8 (cond c 9 (cond d 10 (cond e 11 (cond f 12 (cond g 13 0))))))) 0
-    → (a ≡ false) × (b ≡ false) × (c ≡ false) × (d ≡ false) × (e ≡ false) × (f ≡ false) × (g ≡ false)
-none-of true b c d e f g q = absurd (omega arith)
-none-of false true c d e f g q = absurd (omega arith)
-none-of false false true d e f g q = absurd (omega arith)
-none-of false false false true e f g q = absurd (omega arith)
-none-of false false false false true f g q = absurd (omega arith)
-none-of false false false false false true g q = absurd (omega arith)
-none-of false false false false false false true q = absurd (omega arith)
-none-of false false false false false false false q = (refl, refl, refl, refl, refl, refl, refl)
+none-of : (a b c d e f : Bool) → _≡_ {A = ℕ} (cond a 7 (cond b 8 (cond c 9 (cond d 10 (cond e 11 (cond f 12 0)))))) 0
+    → (a ≡ false) × (b ≡ false) × (c ≡ false) × (d ≡ false) × (e ≡ false) × (f ≡ false)
+none-of true b c d e f q = absurd (omega arith)
+none-of false true c d e f q = absurd (omega arith)
+none-of false false true d e f q = absurd (omega arith)
+none-of false false false true e f q = absurd (omega arith)
+none-of false false false false true f q = absurd (omega arith)
+none-of false false false false false true q = absurd (omega arith)
+none-of false false false false false false q = (refl, refl, refl, refl, refl, refl)
 
 pub faultless : (D M : ℕ) (before : List Frame) (f : Frame) → fault D M before f ≡ 0 → Faultless D M before f
 faultless D M before f e =
-    let h = none-of (afterRoot before) (misplaced before f) (aboveM M f) (placeAgain before f) (undeclared before f) (tooDeep D before f) (beyond before f) e in
-    record { not7 = h .0; not8 = h .1; not9 = h .2; not10 = h .3; not11 = h .4; not12 = h .5; not13 = h .6 }
+    let h = none-of (afterRoot before) (misplaced before f) (aboveM M f) (placeAgain before f) (undeclared before f) (tooDeep D before f) e in
+    record { not7 = h .0; not8 = h .1; not9 = h .2; not10 = h .3; not11 = h .4; not12 = h .5 }
 
 pub fault-zero : (D M : ℕ) (before : List Frame) (f : Frame) → Faultless D M before f → fault D M before f ≡ 0
-fault-zero D M before f h = simp (h .not7, h .not8, h .not9, h .not10, h .not11, h .not12, h .not13)
+fault-zero D M before f h = simp (h .not7, h .not8, h .not9, h .not10, h .not11, h .not12)
 
 -- one line more
 walk-snoc : (n : ℕ) (o : List ℕ) (b : List Frame) (f : Frame) → walk n o (b ++ f ∷ []) (length (b ++ f ∷ [])) ≡ step (n + length b) f (walk n o b (length b))

@@ -95,6 +95,10 @@ pub sum-same : (f g : ℕ → ℕ) → ((x : ℕ) → f x ≡ g x) → (l : List
 sum-same f g h [] = refl
 sum-same f g h (x ∷ l) = omega (arith, h x, sum-same f g h l)
 
+pub sum-le : (f g : ℕ → ℕ) → ((x : ℕ) → f x ≤ g x) → (l : List ℕ) → sum f l ≤ sum g l
+sum-le f g h [] = omega arith
+sum-le f g h (x ∷ l) = omega (arith, h x, sum-le f g h l)
+
 -- the rows from 0 to s together
 abbrev pub upTo : (ℕ → ℕ) → ℕ → ℕ
 upTo f zero = f 0

@@ -1,5 +1,5 @@
 -- No rule but refusal 10 sees a place: texts that differ only in places have one verdict, unless one is refused with 10.
-use mathlib.Core.Path.{_≡_, refl, sym, _∙_, ap, ap₂, subst}
+use mathlib.Core.Path.{_≡_, refl, sym, _∙_, ap, subst}
 use mathlib.Core.Logic.{inl, inr}
 use mathlib.Core.Bool.{Bool, true, false, not, cond, _||_}
 use mathlib.Core.List.{List, [], _∷_, _++_}
@@ -13,14 +13,11 @@ use Rattle.line.specs.declared.Frame.the-variants.{Site}
 use Rattle.line.specs.declared.Read.{Read}
 use Rattle.line.specs.declared.Read.the-variants.{Line, Refused}
 use Rattle.line.specs.Read.{readAt}
-use Rattle.trace.specs.Shape.{ifSite, ifMakes, root, step, walk, openAt, has, firstIs, sites}
-use Rattle.trace.specs.Series.{value}
-use Rattle.trace.specs.Rows.{makes, made, ofRow, hasOf, enclosed, unenclosed, counted, sumOf, costsWhere, total, sum, calls, work, local}
-use Rattle.trace.specs.Refusals.{lineCount, checks, openNow, empty, afterRoot, allSites, lastSite, misplaced, aboveM, placeAgain, declared, undeclared, tooDeep, wide, wideRows, beyond, fault, Verdict, accepted, refused, judged, scan, readsFrom, reads, verdict}
+use Rattle.trace.specs.Shape.{ifSite, ifMakes, root, step, walk, openAt, sites}
+use Rattle.trace.specs.Refusals.{lineCount, checks, openNow, empty, afterRoot, allSites, lastSite, misplaced, aboveM, placeAgain, declared, undeclared, tooDeep, fault, Verdict, accepted, refused, judged, scan, readsFrom, reads, verdict}
 use Rattle.trace.specs.Places.{Alike, OnlyPlaces}
 use Rattle.trace.proofs.Basics.{no-way}
 use Rattle.trace.proofs.Cases.{by-site, other, both-ways, makes-same}
-use Rattle.trace.proofs.Sums.{sum-same}
 
 -- a frame without its place
 abbrev pub blank : Frame → Frame
@@ -50,9 +47,6 @@ unseen g h f = by-site (λ e. g (blank e) ≡ g e) (λ s p. h s (record { file =
 
 step-blank : (n : ℕ) (f : Frame) (o : List ℕ) → step n (blank f) o ≡ step n f o
 step-blank n f o = unseen (λ e. step n e o) (λ s p q. refl) f
-
-value-blank : (f : Frame) → value (blank f) ≡ value f
-value-blank f = unseen value (λ s p q. refl) f
 
 makes-blank : {A : Type 0} (a : ℕ → A) (b : A) (f : Frame) → ifMakes a b (blank f) ≡ ifMakes a b f
 makes-blank a b f = unseen (ifMakes a b) (λ s p q. refl) f
@@ -85,72 +79,6 @@ declared-blank s (f ∷ t) =
     unseen (λ e. declared s (e ∷ blanks t)) (λ i p q. refl) f
     ∙ ap (λ (b : Bool). ifSite (λ i p. eqb s i || b) b f) (declared-blank s t)
 
-made-blank : (n : ℕ) (t : List Frame) (s : ℕ) → made n (blanks t) s ≡ made n t s
-made-blank n [] s = refl
-made-blank n (e ∷ t) s =
-    ap (λ (l : List ℕ). cond (makes s (blank e)) (suc n ∷ l) l) (made-blank (suc n) t s)
-    ∙ ap (λ (b : Bool). cond b (suc n ∷ made (suc n) t s) (made (suc n) t s)) (makes-blank (λ i. eqb i s) false e)
-
-row-blank : (t : List Frame) (s : ℕ) → ofRow (blanks t) s ≡ ofRow t s
-row-blank t zero = refl
-row-blank t (suc s) = made-blank 0 t (suc s)
-
-costs-blank : (p : ℕ → List ℕ → Bool) (n : ℕ) (o : List ℕ) (t : List Frame) → sumOf p n o (blanks t) ≡ sumOf p n o t
-costs-blank p n o [] = refl
-costs-blank p n o (e ∷ t) =
-    ap (λ (v : ℕ). cond (p n o) v 0 + sumOf p (suc n) (step n (blank e) o) (blanks t)) (value-blank e)
-    ∙ ap (λ (q : List ℕ). cond (p n o) (value e) 0 + sumOf p (suc n) q (blanks t)) (step-blank n e o)
-    ∙ ap (λ (v : ℕ). cond (p n o) (value e) 0 + v) (costs-blank p (suc n) (step n e o) t)
-
-has-row-blank : (t : List Frame) (s : ℕ) (o : List ℕ) → hasOf (blanks t) s o ≡ hasOf t s o
-has-row-blank t s [] = refl
-has-row-blank t s (G ∷ o) = ap₂ (λ (x y : Bool). x || y) (ap (has G) (row-blank t s)) (has-row-blank t s o)
-
-enclosed-blank : (t : List Frame) (s F : ℕ) → enclosed (blanks t) s F ≡ enclosed t s F
-enclosed-blank t s zero = refl
-enclosed-blank t s (suc g) = has-row-blank t s (openAt (blanks t) g) ∙ ap (hasOf t s) (walk-blank 0 (root ∷ []) t g)
-
-unenclosed-blank : (t : List Frame) (s : ℕ) (l : List ℕ) → unenclosed (blanks t) s l ≡ unenclosed t s l
-unenclosed-blank t s [] = refl
-unenclosed-blank t s (F ∷ l) =
-    ap₂ (λ (b : Bool) (m : List ℕ). cond b m (F ∷ m)) (enclosed-blank t s F) (unenclosed-blank t s l)
-
-counted-blank : (t : List Frame) (s : ℕ) → counted (blanks t) s ≡ counted t s
-counted-blank t s = unenclosed-blank t s (ofRow (blanks t) s) ∙ ap (unenclosed t s) (row-blank t s)
-
-sum-blank : (pick : ℕ → ℕ → List ℕ → Bool) (t : List Frame) (l m : List ℕ) → l ≡ m
-    → sum (λ F. costsWhere (blanks t) (pick F)) l ≡ sum (λ F. costsWhere t (pick F)) m
-sum-blank pick t l m e =
-    sum-same (λ F. costsWhere (blanks t) (pick F)) (λ F. costsWhere t (pick F)) (λ F. costs-blank (pick F) 0 (root ∷ []) t) l
-    ∙ ap (sum (λ F. costsWhere t (pick F))) e
-
--- some of the three numbers is beyond 64 bits
-abbrev wideOne : ℕ → ℕ → ℕ → Bool
-wideOne a b c = wide a || wide b || wide c
-
-wide-row : (t : List Frame) (s : ℕ)
-    → wideOne (calls (blanks t) s) (work (blanks t) s) (local (blanks t) s) ≡ wideOne (calls t s) (work t s) (local t s)
-wide-row t s =
-    ap (λ (n : ℕ). wideOne n (work (blanks t) s) (local (blanks t) s)) (ap length (row-blank t s))
-    ∙ ap (λ (n : ℕ). wideOne (calls t s) n (local (blanks t) s)) (sum-blank (λ F k o. has F o) t (counted (blanks t) s) (counted t s) (counted-blank t s))
-    ∙ ap (λ (n : ℕ). wideOne (calls t s) (work t s) n) (sum-blank (λ F k o. firstIs F o) t (ofRow (blanks t) s) (ofRow t s) (row-blank t s))
-
-wide-rows : (t : List Frame) (s : ℕ) → wideRows (blanks t) s ≡ wideRows t s
-wide-rows t zero = wide-row t 0
-wide-rows t (suc s) =
-    ap (λ (b : Bool). b || wideRows (blanks t) s) (wide-row t (suc s))
-    ∙ ap (λ (b : Bool). wideOne (calls t (suc s)) (work t (suc s)) (local t (suc s)) || b) (wide-rows t s)
-
--- refusal 13, of the lines up to the one it is asked of
-abbrev beyondIn : List Frame → Bool
-beyondIn t = wide (total t) || wideRows t (sites t)
-
-beyond-blank : (t : List Frame) → beyondIn (blanks t) ≡ beyondIn t
-beyond-blank t =
-    ap (λ (n : ℕ). wide n || wideRows (blanks t) (sites (blanks t))) (costs-blank (λ k o. true) 0 (root ∷ []) t)
-    ∙ ap (λ (n : ℕ). wide (total t) || wideRows (blanks t) n) (sites-blank t)
-    ∙ ap (λ (b : Bool). wide (total t) || b) (wide-rows t (sites t))
-
 misplaced-blank : (t : List Frame) (f : Frame) → misplaced (blanks t) (blank f) ≡ misplaced t f
 misplaced-blank t f =
     unseen (misplaced (blanks t)) (λ s p q. refl) f
@@ -174,18 +102,18 @@ deep-blank D t f =
 
 -- ── the refusals of a line ──
 
--- the smallest number from 7 to 13 that applies, by what applies
-abbrev least : Bool → Bool → Bool → Bool → Bool → Bool → Bool → ℕ
-least a b c d e f g = cond a 7 (cond b 8 (cond c 9 (cond d 10 (cond e 11 (cond f 12 (cond g 13 0))))))
+-- the smallest number from 7 to 12 that applies, by what applies
+abbrev least : Bool → Bool → Bool → Bool → Bool → Bool → ℕ
+least a b c d e f = cond a 7 (cond b 8 (cond c 9 (cond d 10 (cond e 11 (cond f 12 0)))))
 
-least-but-ten : (a b c d k e f g : Bool) → ¬ (least a b c d e f g ≡ 10) → ¬ (least a b c k e f g ≡ 10)
-    → least a b c d e f g ≡ least a b c k e f g
-least-but-ten true b c d k e f g h i = refl
-least-but-ten false true c d k e f g h i = refl
-least-but-ten false false true d k e f g h i = refl
-least-but-ten false false false true k e f g h i = absurd (h refl)
-least-but-ten false false false false true e f g h i = absurd (i refl)
-least-but-ten false false false false false e f g h i = refl
+least-but-ten : (a b c d k e f : Bool) → ¬ (least a b c d e f ≡ 10) → ¬ (least a b c k e f ≡ 10)
+    → least a b c d e f ≡ least a b c k e f
+least-but-ten true b c d k e f h i = refl
+least-but-ten false true c d k e f h i = refl
+least-but-ten false false true d k e f h i = refl
+least-but-ten false false false true k e f h i = absurd (h refl)
+least-but-ten false false false false true e f h i = absurd (i refl)
+least-but-ten false false false false false e f h i = refl
 
 module _ (D M : ℕ) (t u : List Frame) (f g : Frame) (d : ButPlaces t u) (e : blank f ≡ blank g) where
   snoc-alike : ButPlaces (t ++ f ∷ []) (u ++ g ∷ [])
@@ -215,21 +143,18 @@ module _ (D M : ℕ) (t u : List Frame) (f g : Frame) (d : ButPlaces t u) (e : b
   twelve-alike : tooDeep D t f ≡ tooDeep D u g
   twelve-alike = of-both (tooDeep D) (deep-blank D)
 
-  thirteen-alike : beyond t f ≡ beyond u g
-  thirteen-alike = sym (beyond-blank (t ++ f ∷ [])) ∙ ap beyondIn snoc-alike ∙ beyond-blank (u ++ g ∷ [])
-
   -- the smallest number of both lines, where 10 applies to both or to neither
   least-alike : (k : Bool)
-      → least (afterRoot t) (misplaced t f) (aboveM M f) k (undeclared t f) (tooDeep D t f) (beyond t f)
-      ≡ least (afterRoot u) (misplaced u g) (aboveM M g) k (undeclared u g) (tooDeep D u g) (beyond u g)
-  least-alike k = rw (seven-alike, eight-alike, nine-alike, eleven-alike, twelve-alike, thirteen-alike)
+      → least (afterRoot t) (misplaced t f) (aboveM M f) k (undeclared t f) (tooDeep D t f)
+      ≡ least (afterRoot u) (misplaced u g) (aboveM M g) k (undeclared u g) (tooDeep D u g)
+  least-alike k = rw (seven-alike, eight-alike, nine-alike, eleven-alike, twelve-alike)
 
   -- LAW: but for 10, the same refusal applies to both lines
   fault-alike : ¬ (fault D M t f ≡ 10) → ¬ (fault D M u g ≡ 10) → fault D M t f ≡ fault D M u g
   fault-alike h i =
       let one = least-alike (placeAgain u g) in
       least-but-ten (afterRoot t) (misplaced t f) (aboveM M f) (placeAgain t f) (placeAgain u g) (undeclared t f) (tooDeep D t f)
-      (beyond t f) h (λ q. i (sym one ∙ q))
+      h (λ q. i (sym one ∙ q))
       ∙ one
 
 -- ── the verdict ──

@@ -3,6 +3,7 @@ pub mod Series
 pub mod Rows
 pub mod Column
 pub mod Refusals
+pub mod Small
 pub mod Promise
 pub mod Places
 pub mod Tree

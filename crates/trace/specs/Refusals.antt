@@ -11,7 +11,6 @@ use Rattle.line.specs.declared.Read.{Read}
 use Rattle.line.specs.declared.Read.the-variants.{Line, Refused}
 use Rattle.line.specs.Read.{width, readAt}
 use Rattle.trace.specs.Shape.{ifSite, ifMakes, openAt, sites}
-use Rattle.trace.specs.Rows.{calls, work, local, total}
 
 -- 1: "D or M outside its range": "a depth limit D, 1 to 64, counting the root, and a site limit M, 0 to 255"
 abbrev pub outOfRange : ℕ → ℕ → Bool
@@ -25,9 +24,13 @@ broken bytes = not (eqb (bytes % width) 0)
 abbrev pub lineCount : List ℕ → ℕ
 lineCount s = length s / width
 
+-- "At most 65,536 lines."
+abbrev pub mostLines : ℕ
+mostLines = 65536
+
 -- 3: "more than 65,536 lines"
 abbrev pub tooMany : ℕ → Bool
-tooMany bytes = ltb 65536 (bytes / width)
+tooMany bytes = ltb mostLines (bytes / width)
 
 -- "Checks 1 to 4 run in that order": the number of the first that fails, 0 where none does, for a text of so many
 -- characters. 4: "any lent slice shorter than stated"; room: none is
@@ -92,21 +95,8 @@ undeclared before f = ifMakes (λ s. eqb s 0 || not (declared s before)) false f
 abbrev pub tooDeep : ℕ → List Frame → Frame → Bool
 tooDeep D before f = ifMakes (λ s. ltb D (suc (length (openNow before)))) false f
 
--- "beyond 64 bits": 2 ^ 64 or more
-abbrev pub wide : ℕ → Bool
-wide n = leb 18446744073709551616 n
-
--- Some row from 0 to s has one of the numbers calls, work and local beyond 64 bits. A span is never above the work
--- beside it, nor an on-span number above the local beside it (proofs/AtMost), so these two need no test of their own.
-abbrev pub wideRows : List Frame → ℕ → Bool
-wideRows t zero = wide (calls t 0) || wide (work t 0) || wide (local t 0)
-wideRows t (suc s) = (wide (calls t (suc s)) || wide (work t (suc s)) || wide (local t (suc s))) || wideRows t s
-
--- 13: "total work or a row number, counted up to this line, beyond 64 bits": of the lines up to this one, as they stand
-abbrev pub beyond : List Frame → Frame → Bool
-beyond before f = wide (total (before ++ f ∷ [])) || wideRows (before ++ f ∷ []) (sites (before ++ f ∷ []))
-
--- the smallest number from 7 to 13 that applies to the line; 0 where none does
+-- the smallest number from 7 to 12 that applies to the line; 0 where none does. 02, request e: "take 13 out of the
+-- table, code and card, and leave its number unused"
 abbrev pub fault : ℕ → ℕ → List Frame → Frame → ℕ
 fault D M before f =
     cond (afterRoot before) 7
@@ -115,8 +105,7 @@ fault D M before f =
     (cond (placeAgain before f) 10
     (cond (undeclared before f) 11
     (cond (tooDeep D before f) 12
-    (cond (beyond before f) 13
-    0))))))
+    0)))))
 
 pub data Verdict : Type 0 where
   accepted : List Frame → Verdict

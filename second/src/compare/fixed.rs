@@ -53,7 +53,8 @@ pub struct Further {
 }
 
 /// "the empty file (14, line 0), a lone return (accepted), a well-formed line after it (7), call 2 with one site (11),
-/// D = 1 and a call (12), M and M+1 sites, 65,536 and 65,537 lines, cost 0 (6)"; and the neighbours of the capital digits
+/// D = 1 and a call (12), M and M+1 sites, 65,536 and 65,537 lines, cost 0 (6)"; the heaviest trace; and the neighbours of
+/// the capital digits
 pub fn further() -> Vec<Further> {
     let plain = Limits { depth: 4, sites: 2 };
     let mut all = vec![
@@ -67,6 +68,7 @@ pub fn further() -> Vec<Further> {
         Further::new("cost 0", Trace::from_events(0, "0"), plain, Some(Ground::Table.at(0))),
         Further::new("65,536 lines", lines(MOST_LINES), plain, None),
         Further::new("65,537 lines", lines(MOST_LINES + 1), plain, Some(Ground::Lines.at(0))),
+        Further::new("the heaviest", heaviest(), plain, None),
     ];
     for (name, c, refusal) in [
         ("a capital A", b'A', None),
@@ -219,6 +221,16 @@ pub fn cases() -> Vec<Case> {
 
 fn lone_return() -> Trace {
     Trace::from_events(0, "none")
+}
+
+/// The heaviest trace that there is: as many costs of 4,294,967,295 as lines, but for the root's return.
+pub fn heaviest() -> Trace {
+    let mut trace = Trace::default();
+    for _ in 1..MOST_LINES {
+        trace.cost(4_294_967_295);
+    }
+    trace.leave();
+    trace
 }
 
 /// A trace of so many lines: two sites, spawned in turn with a cost each and a sync now and then, costs up to the return.
