@@ -43,7 +43,8 @@ pub fn forecast(trace: &[u8], limits: Limits, entries: &[Entry], lent: &Lent) ->
     Ok(profile)
 }
 
-/// The profile of a trace whose cost lines weigh what is said of their rows and values.
+/// The profile of a trace whose cost lines weigh what is said of their rows and values. Two callers share the steps below: those
+/// that the compiler puts in place by itself where there is one caller are marked, so that the plain profile stays as fast.
 #[inline(always)]
 fn weighed(trace: &[u8], limits: Limits, lent: &Lent, weigh: impl Fn(u8, u32) -> u32) -> Result<Profile, Refusal> {
     let short = |lines| lent.is_short(limits, lines);
@@ -237,6 +238,7 @@ impl Engine {
     }
 
     /// Refusals 11 and 12.
+    #[inline(always)]
     fn enter(&mut self, site: u16, spawn: u32) -> Result<(), Ground> {
         if site == 0 || usize::from(site) > self.places.len() {
             return Err(Ground::Undeclared);
@@ -252,6 +254,7 @@ impl Engine {
 
     /// Closes the innermost invocation and gives its span to the one around it. Columns 2 and 3 take it where none of its
     /// row is open around it.
+    #[inline(always)]
     fn leave(&mut self, line: u32) {
         let Some(mut own) = self.open.pop() else { return };
         own.end_block(line, &mut self.steps);
