@@ -109,6 +109,25 @@ uint64_t nyo_marks(const uint8_t *trace, size_t trace_len, uint64_t depth, uint6
                    size_t scratch_len, uint8_t *marks, size_t marks_len, uint64_t *rows, size_t rows_len,
                    uint64_t *answer, size_t answer_len);
 
+/* A forecast entry: a row, 0 for the root, and the factor by which its costs are divided. */
+typedef struct nyo_entry {
+    uint64_t row;
+    uint64_t factor;
+} nyo_entry;
+
+/* Profiles a trace in which each cost directly in an invocation of a named row is divided by the row's factor and rounded
+ * up, with the table engine or with the marks engine: as nyo_tables and nyo_marks, and
+ *   entries  at most 16 of them; entries_len is their number
+ * Behind the refusals of nyo_tables and nyo_marks, both with line 0: 19 more than 16 entries, rows not strictly ascending or
+ * a row that is not declared; then 20 a factor outside 2 to 1,000. No entries give the plain profile. */
+uint64_t nyo_forecast_tables(const uint8_t *trace, size_t trace_len, uint64_t depth, uint64_t sites,
+                             const nyo_entry *entries, size_t entries_len, uint64_t *scratch, size_t scratch_len,
+                             uint64_t *rows, size_t rows_len, uint64_t *answer, size_t answer_len);
+uint64_t nyo_forecast_marks(const uint8_t *trace, size_t trace_len, uint64_t depth, uint64_t sites,
+                            const nyo_entry *entries, size_t entries_len, uint64_t *scratch, size_t scratch_len,
+                            uint8_t *marks, size_t marks_len, uint64_t *rows, size_t rows_len, uint64_t *answer,
+                            size_t answer_len);
+
 /* Reads one trace line into a frame of NYO_FRAME numbers: kind, site, value, file, column.
  * Refusals, each with line 0: 2 unless it is lent exactly 23 characters, 4, 5, 6. */
 uint64_t nyo_read_line(const uint8_t *line, size_t line_len, uint64_t *frame, size_t frame_len);
