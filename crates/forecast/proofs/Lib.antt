@@ -9,3 +9,4 @@ pub mod Checked
 pub mod Entries
 pub mod Taking
 pub mod Written
+pub mod Examples
