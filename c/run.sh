@@ -9,7 +9,7 @@ numbers c/run.sh 0 "$@"
 cc=${CC:-cc} out=target/c lib=${NYO_LIB_DIR:-target/native}
 [ -n "${NYO_LIB_DIR:-}" ] || tools/native-lib.sh
 mkdir -p "$out"
-for program in test profile sheet folded; do
+for program in test profile sheet folded forecast; do
     "$cc" -std=c99 -O2 -Wall -Wextra -Wpedantic -Werror -Iinclude "c/$program.c" "$lib/libnyolifuwe.a" -o "$out/$program"
 done
 echo '#include "nyolifuwe.h"' | "$cc" -std=c99 -Wall -Wextra -Wpedantic -Werror -Iinclude -fsyntax-only -x c -
@@ -26,10 +26,11 @@ if [ "$(uname -m)" = x86_64 ] && [ "$wants" != memset ]; then
     exit 1
 fi
 
-# What the page says of an example: the report below the trace's heading, or the refusal in the trace's row.
+# shown NAME [PAGE]: what the page says of an example: the report below the trace's heading, or the refusal in the trace's
+# row. Without PAGE it is the page of the examples.
 shown() {
     awk -v name="\`$1\`" '/^## / { here = index($0, name) } /^```/ { inside = here && !inside; next } inside
-        index($0, "| " name " |") == 1 { n = split($0, cell, "`"); print cell[n - 1] }' examples/README.md
+        index($0, "| " name " |") == 1 { n = split($0, cell, "`"); print cell[n - 1] }' "${2:-examples/README.md}"
 }
 
 # tried STATUS SAID COMMAND: the command ends with this status, says so on standard error (nothing, where SAID is empty),
@@ -116,5 +117,34 @@ tried 2 '^usage: folded ' '$folded 550 examples/proxy.names'
 tried 2 '^usage: folded ' "\$folded many examples/proxy.names $of_proxy"
 tried 3 '^folded: no-such-file: ' "\$folded 550 no-such-file $of_proxy"
 tried 3 '^folded: standard output: ' "\$folded 550 examples/proxy.names $of_proxy >/dev/full"
+
+# The forecasts of the proxy with each row halved in turn, as docs/FORECAST.md shows them; of case I with site 2 halved, by
+# hand, and with an empty list; and lists that are refused.
+forecast=$out/forecast
+export forecast
+shown proxy.trace docs/FORECAST.md >"$wanted"
+tried 0 '' '$forecast each 2 examples/proxy.trace'
+tried 0 '' '$forecast each 2 <examples/proxy.trace'
+shown case-i.trace docs/FORECAST.md >"$wanted"
+tried 0 '^forecast: work 7, span 6$' '$forecast with 2/2 examples/case-i.trace'
+shown case-i.trace >"$wanted"
+tried 0 '^forecast: work 10, span 9$' "\$forecast with '' examples/case-i.trace"
+echo ff1300000000 >"$wanted"
+for entries in 6/2,6/2 6/2,4/2 9/2 0/2,1/2,2/2,3/2,4/2,5/2,6/2,7/2,8/2,9/2,10/2,11/2,12/2,13/2,14/2,15/2,16/2 6/1,4/2; do
+    tried 1 '^forecast: refusal 19, line 0$' "\$forecast with $entries examples/proxy.trace"
+done
+echo ff1400000000 >"$wanted"
+for entries in 6/1 6/0 6/1001; do tried 1 '^forecast: refusal 20, line 0$' "\$forecast with $entries examples/proxy.trace"; done
+tried 1 '^forecast: refusal 20, line 0$' '$forecast each 1 examples/proxy.trace'
+echo ff0e00000004 >"$wanted"
+tried 1 '^forecast: refusal 14, line 4$' '$forecast with 9/1 examples/refusal-14.trace'
+: >"$wanted"
+for words in 'with' 'with 6' 'with 6/2,' 'with 6/x' 'each' 'each 2x' 'each 2 one two' 'none 2'; do
+    tried 2 '^usage: forecast ' "\$forecast $words"
+done
+tried 3 '^forecast: no-such-file: ' '$forecast each 2 no-such-file'
+tried 3 '^forecast: standard output: ' '$forecast each 2 examples/proxy.trace >/dev/full'
+tried 3 '^forecast: standard output: ' '$forecast with 6/2 examples/proxy.trace >/dev/full'
+tried 3 '^forecast: standard output: ' '$forecast with 9/2 examples/proxy.trace >/dev/full'
 echo "the C examples: $passed passed, 0 failed"
 "$out/test"

@@ -294,6 +294,79 @@ static void traces_are_refused(void) {
     CHECK(both_refuse(case_i, 0, 4, 2, enough, 14));
 }
 
+/* Both engines on a trace with limits 4 and 3 and so many of these entries. */
+static uint64_t forecast_tables(const char *trace, size_t len, const nyo_entry *entries, size_t n, Short less) {
+    size_t s = NYO_TABLES_SCRATCH(4, 3) - less.scratch, r = NYO_ROWS(3) - less.rows, a = NYO_ANSWER - less.answer;
+    uint64_t *to_scratch = lend_numbers(&scratch, s), *to_rows = lend_numbers(&rows, r), *to_answer = lend_numbers(&answer, a);
+    return nyo_forecast_tables((const uint8_t *)trace, len, 4, 3, entries, n, to_scratch, s, to_rows, r, to_answer, a);
+}
+
+static uint64_t forecast_marks(const char *trace, size_t len, const nyo_entry *entries, size_t n, Short less) {
+    size_t s = NYO_MARKS_SCRATCH(4) - less.scratch, r = NYO_ROWS(3) - less.rows, a = NYO_ANSWER - less.answer;
+    size_t m = len / NYO_LINE_CHARS - less.marks;
+    uint64_t *to_scratch = lend_numbers(&scratch, s), *to_rows = lend_numbers(&rows, r), *to_answer = lend_numbers(&answer, a);
+    uint8_t *to_marks = lend_chars(&marks, m);
+    return nyo_forecast_marks((const uint8_t *)trace, len, 4, 3, entries, n, to_scratch, s, to_marks, m, to_rows, r, to_answer, a);
+}
+
+/* Both engines forecast a trace of 10 lines and 2 sites so: the rows, total work, total span, and the marks. */
+static int forecast_is(const char *trace, const nyo_entry *entries, size_t n, const uint64_t *expected_rows, uint64_t work,
+                       uint64_t span, const char *expected_marks) {
+    const Short enough = {0, 0, 0, 0};
+    const uint64_t totals[] = {work, span, 2, 10};
+    size_t len = 10 * NYO_LINE_CHARS;
+    int is = forecast_tables(trace, len, entries, n, enough) == 0 && profile_is(expected_rows, 15, totals);
+    is = is && forecast_marks(trace, len, entries, n, enough) == 0 && profile_is(expected_rows, 15, totals);
+    return is && chars_are(&marks, expected_marks, 10);
+}
+
+/* Both engines refuse alike and change nothing. */
+static int forecast_refused(const char *trace, size_t len, const nyo_entry *entries, size_t n, Short less, uint64_t expected) {
+    int kept = forecast_tables(trace, len, entries, n, less) == expected && numbers_kept();
+    return kept && forecast_marks(trace, len, entries, n, less) == expected && numbers_kept() && chars_unchanged(&marks);
+}
+
+/* Of case I: 7 by 2 is 4, 7 by 1,000 is 1, 1 by any factor 1, 2 by 2 is 1. Where 7 has become 1 both branches weigh the same,
+ * and the first is chosen. */
+static void traces_are_forecast(void) {
+    const char on_chain[] = "\0\0\0\0\1\0\0\0\1\0";
+    const nyo_entry one[] = {{2, 2}}, most[] = {{2, 1000}}, off[] = {{1, 1000}}, root[] = {{0, 2}}, all[] = {{0, 2}, {1, 3}, {2, 4}};
+    CHECK(sizeof(nyo_entry) == 16 && NYO_MOST_ENTRIES == 16 && NYO_LEAST_FACTOR == 2 && NYO_MOST_FACTOR == 1000);
+    CHECK(forecast_is(case_i, one, 0, case_i_rows, 10, 9, on_chain));
+    CHECK(forecast_is(case_i, one, 1, (const uint64_t[]){1, 7, 6, 2, 2, 1, 5, 4, 1, 0, 1, 4, 4, 4, 4}, 7, 6, on_chain));
+    CHECK(forecast_is(case_i, most, 1, (const uint64_t[]){1, 4, 3, 2, 2, 1, 2, 1, 1, 0, 1, 1, 1, 1, 1}, 4, 3, on_chain));
+    CHECK(forecast_is(case_i, off, 1, case_i_rows, 10, 9, on_chain));
+    CHECK(forecast_is(case_i, root, 1, (const uint64_t[]){1, 9, 8, 1, 1, 1, 8, 7, 1, 0, 1, 7, 7, 7, 7}, 9, 8, on_chain));
+    CHECK(forecast_is(case_i, all, 3, (const uint64_t[]){1, 4, 3, 1, 1, 1, 3, 2, 1, 0, 1, 2, 2, 2, 2}, 4, 3, on_chain));
+}
+
+static void forecasts_are_refused(void) {
+    const Short enough = {0, 0, 0, 0};
+    size_t len = sizeof case_i - 1;
+    nyo_entry many[17];
+    for (size_t n = 0; n < 17; n++) many[n] = (nyo_entry){n, 2};
+    const nyo_entry twice[] = {{1, 2}, {1, 2}}, unordered[] = {{2, 2}, {1, 2}}, above[] = {{0, 2}, {3, 2}}, far[] = {{256, 2}};
+    const nyo_entry none[] = {{1, 0}}, same[] = {{1, 1}}, large[] = {{1, 1001}}, last[] = {{0, 2}, {2, UINT64_MAX}};
+    const nyo_entry both[] = {{0, 0}, {2, 2}, {1, 2}};
+    CHECK(forecast_refused(case_i, len, many, 17, enough, 19));
+    CHECK(forecast_refused(case_i, len, many, 16, enough, 19));
+    CHECK(forecast_refused(case_i, len, twice, 2, enough, 19));
+    CHECK(forecast_refused(case_i, len, unordered, 2, enough, 19));
+    CHECK(forecast_refused(case_i, len, above, 2, enough, 19));
+    CHECK(forecast_refused(case_i, len, far, 1, enough, 19));
+    CHECK(forecast_refused(case_i, len, none, 1, enough, 20));
+    CHECK(forecast_refused(case_i, len, same, 1, enough, 20));
+    CHECK(forecast_refused(case_i, len, large, 1, enough, 20));
+    CHECK(forecast_refused(case_i, len, last, 2, enough, 20));
+    CHECK(forecast_refused(case_i, len, both, 3, enough, 19));
+    CHECK(forecast_refused(case_i, len - 1, both, 3, enough, 2));
+    CHECK(forecast_refused(case_i, len, both, 3, (Short){1, 0, 0, 0}, 4));
+    CHECK(forecast_refused(case_i, len, both, 3, (Short){0, 1, 0, 0}, 4));
+    CHECK(forecast_refused(case_i, len, both, 3, (Short){0, 0, 1, 0}, 4));
+    CHECK(forecast_marks(case_i, len, both, 3, (Short){0, 0, 0, 1}) == 4 && numbers_kept() && chars_unchanged(&marks));
+    CHECK(forecast_refused(case_i, len - 23, both, 3, enough, 14 + 256 * 9));
+}
+
 static const char names[] = "main\nload\n\n", stock_names[] = "root\none\ntwo";
 
 /* Folded stacks with these lists: of case I the root's and site 1's names are the project's, site 2's is the stock list's. */
@@ -342,6 +415,8 @@ int main(void) {
     sheets_are_read();
     traces_are_profiled();
     traces_are_refused();
+    traces_are_forecast();
+    forecasts_are_refused();
     stacks_are_folded();
     printf("%u passed, %u failed\n", passed, failed);
     return failed != 0;

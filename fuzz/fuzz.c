@@ -178,10 +178,33 @@ static void put_names(Names *list, Input *in, size_t lines, unsigned empty) {
     if (how % 2 && list->len > 0) list->len--;
 }
 
+/* ---- forecast entries from the input ---- */
+
+enum { MOST_ENTRIES = 40 };
+
+typedef struct {
+    nyo_entry at[MOST_ENTRIES];
+    size_t len;
+} Entries;
+
+/* Entries over so many declared sites, mostly ascending and in range; with now and then a wrong row, factor or length. */
+static void put_entries(Entries *list, Input *in, uint64_t declared) {
+    static const uint64_t rows[] = {0, 1, 255, 256, UINT64_C(1) << 32, UINT64_MAX};
+    static const uint64_t factors[] = {0, 1, 1001, 1000, (UINT64_C(1) << 32) + 2, UINT64_MAX};
+    unsigned how = next(in);
+    size_t most = how > 250 ? MOST_ENTRIES : how > 200 ? NYO_MOST_ENTRIES : how % 4;
+    uint64_t row = next(in) % 4;
+    for (list->len = 0; list->len < most && (row <= declared || how > 245); list->len++, row += 1 + next(in) % 3) {
+        unsigned each = next(in);
+        list->at[list->len].row = each > 252 ? rows[next(in) % 6] : row;
+        list->at[list->len].factor = each > 245 ? factors[next(in) % 6] : 2 + each * 4 % 999;
+    }
+}
+
 /* ---- what holds ---- */
 
 static Pages of_trace, of_scratch, of_marks, of_rows, of_answer, of_frame, of_out, of_text, of_written;
-static Pages of_names[2], of_stacks;
+static Pages of_names[2], of_stacks, of_entries;
 
 static void reserve(void) {
     make_rubbish();
@@ -196,6 +219,7 @@ static void reserve(void) {
     of_written = pages_of(8);
     of_names[0] = pages_of(sizeof(Names)), of_names[1] = pages_of(sizeof(Names));
     of_stacks = pages_of(MOST_RUBBISH);
+    of_entries = pages_of(sizeof(Entries));
 }
 
 /* A number of bytes that is mostly enough, sometimes an element short, sometimes none. */
@@ -445,7 +469,104 @@ static void fold(const Room *trace, uint64_t depth, uint64_t sites, uint64_t fir
     MUST(len <= NYO_FOLDED_CHARS(trace->bytes / NYO_LINE_CHARS, depth, longest));
 }
 
-/* Both engines on one trace, and its folded stacks. */
+/* The refusal of a list for so many declared sites: 19 over the whole list, then 20; 0 where it is good. */
+static uint64_t judged(const Entries *list, uint64_t declared) {
+    int bad = list->len > NYO_MOST_ENTRIES, wrong = 0;
+    for (size_t n = 0; n < list->len; n++) {
+        const nyo_entry *e = &list->at[n];
+        bad |= e->row > declared || (n > 0 && e->row <= e[-1].row);
+        wrong |= e->factor < NYO_LEAST_FACTOR || e->factor > NYO_MOST_FACTOR;
+    }
+    return bad ? 19 : wrong ? 20 : 0;
+}
+
+/* An accepted trace written again with its costs divided by good entries, line by line. */
+static void rewrite(Trace *to, const Room *trace, const Entries *list) {
+    size_t open[NYO_MOST_DEPTH] = {0}, depth = 1;
+    to->len = 0;
+    for (const uint8_t *line = trace->at; line < trace->at + trace->bytes; line += NYO_LINE_CHARS) {
+        unsigned long kind = field(line, 0, 2), value = field(line, 6, 8);
+        if (kind == 2 || kind == 3) open[depth++] = field(line, 2, 4);
+        if (kind == 5) depth--;
+        for (size_t n = 0; kind == 6 && n < list->len; n++)
+            if (list->at[n].row == open[depth - 1]) value = (value + list->at[n].factor - 1) / list->at[n].factor;
+        put_line(to, (const uint64_t[]){kind, field(line, 2, 4), value, field(line, 14, 4), field(line, 18, 4)});
+    }
+}
+
+/* What an engine gave of a trace and left: the answer, the rows and the marks; no marks where it is the table engine. */
+typedef struct {
+    uint64_t given, answer[NYO_ANSWER], rows[NYO_ROWS(NYO_MOST_SITES)];
+    uint8_t marks[MOST_CHARS / NYO_LINE_CHARS + 1];
+} Given;
+
+/* One engine on a trace with a list, or plainly without one. */
+static void give(Given *g, int marked, const uint8_t *trace, size_t len, uint64_t depth, uint64_t sites, const Entries *list,
+                 Input *in) {
+    size_t d = depth > 64 ? 64 : depth, m = sites > 255 ? 255 : sites, lines = len / NYO_LINE_CHARS, n = list ? list->len : 0;
+    Room scratch = lend(&of_scratch, enough(marked ? NYO_MARKS_SCRATCH(d) : NYO_TABLES_SCRATCH(d, m), 8, in), in);
+    Room rows = lend(&of_rows, enough(NYO_ROWS(m), 8, in), in), answer = lend(&of_answer, enough(NYO_ANSWER, 8, in), in);
+    Room marks = lend(&of_marks, marked ? enough(lines, 1, in) : 0, in), entries = lend(&of_entries, n * sizeof(nyo_entry), in);
+    uint64_t *s = numbers(&scratch), *r = numbers(&rows), *a = numbers(&answer);
+    size_t sl = scratch.bytes / 8, rl = rows.bytes / 8, al = answer.bytes / 8;
+    const nyo_entry *e = (const nyo_entry *)entries.at;
+    if (list) memcpy(entries.at, list->at, entries.bytes);
+    if (list && marked) g->given = nyo_forecast_marks(trace, len, depth, sites, e, n, s, sl, marks.at, marks.bytes, r, rl, a, al);
+    else if (list) g->given = nyo_forecast_tables(trace, len, depth, sites, e, n, s, sl, r, rl, a, al);
+    else if (marked) g->given = nyo_marks(trace, len, depth, sites, s, sl, marks.at, marks.bytes, r, rl, a, al);
+    else g->given = nyo_tables(trace, len, depth, sites, s, sl, r, rl, a, al);
+    if (list) MUST(!memcmp(entries.at, list->at, entries.bytes));
+    if (g->given) {
+        MUST(kept_from(&scratch, 0) && kept_from(&rows, 0) && kept_from(&answer, 0) && kept_from(&marks, 0));
+        return;
+    }
+    MUST(all_zero(&scratch) && kept_from(&scratch, scratch.bytes) && kept_from(&answer, 8 * NYO_ANSWER));
+    MUST(a[2] <= m && kept_from(&rows, 8 * NYO_ROWS(a[2])) && kept_from(&marks, marked ? lines : 0));
+    memcpy(g->answer, a, sizeof g->answer), memcpy(g->rows, r, 8 * NYO_ROWS(a[2])), memcpy(g->marks, marks.at, marked ? lines : 0);
+}
+
+static int same_profile(const Given *one, const Given *other, size_t marks) {
+    return !memcmp(one->answer, other->answer, sizeof one->answer) && !memcmp(one->marks, other->marks, marks) &&
+           !memcmp(one->rows, other->rows, 8 * NYO_ROWS(one->answer[2]));
+}
+
+/* No calls changed and no work, span or local grew; a list that names no row on the span leaves the span as it is. */
+static void gains(const Given *plain, const Given *forecast, const Entries *list) {
+    uint64_t named = 0;
+    for (size_t k = 0; k < NYO_ROWS(plain->answer[2]); k++) {
+        if (k % NYO_COLUMNS == NYO_CALLS) MUST(forecast->rows[k] == plain->rows[k]);
+        else if (k % NYO_COLUMNS != NYO_ON_SPAN) MUST(forecast->rows[k] <= plain->rows[k]);
+    }
+    for (size_t n = 0; n < list->len; n++) named += plain->rows[NYO_COLUMNS * list->at[n].row + NYO_ON_SPAN];
+    MUST(forecast->answer[0] <= plain->answer[0] && forecast->answer[1] <= plain->answer[1]);
+    MUST(plain->answer[1] - forecast->answer[1] <= named);
+}
+
+/* An engine's forecast with a list made from the input: the refusals of the plain profile first, then those of the list; the
+ * profile of the trace written again; and no more than the plain one. */
+static void forecast(const Room *trace, int marked, uint64_t depth, uint64_t sites, Input *lists, Input *in) {
+    static Given plain, asked, again;
+    static Trace rewritten;
+    static Entries list;
+    size_t marks = marked ? trace->bytes / NYO_LINE_CHARS : 0;
+    Input none = {NULL, NULL};
+    give(&plain, marked, trace->at, trace->bytes, depth, sites, NULL, &none);
+    put_entries(&list, lists, plain.given ? sites : plain.answer[2]);
+    give(&asked, marked, trace->at, trace->bytes, depth, sites, &list, in);
+    count(35 + marked, asked.given);
+    if (asked.given == 4) return;
+    MUST(asked.given == (plain.given ? plain.given : judged(&list, plain.answer[2])));
+    if (asked.given) return;
+    rewrite(&rewritten, trace, &list);
+    give(&again, marked, rewritten.chars, rewritten.len, depth, sites, NULL, &none);
+    MUST(!again.given && same_profile(&asked, &again, marks));
+    if (list.len == 0) MUST(same_profile(&asked, &plain, marks));
+    columns_add_up(asked.rows, asked.answer);
+    gains(&plain, &asked, &list);
+    count(37, plain.answer[1] - asked.answer[1]);
+}
+
+/* Both engines on one trace, its forecasts and its folded stacks. */
 static void profile(const Room *trace, Input *lists, Input *in) {
     static uint64_t first_rows[NYO_ROWS(NYO_MOST_SITES)];
     unsigned limits = next(in);
@@ -475,6 +596,7 @@ static void profile(const Room *trace, Input *lists, Input *in) {
     }
 
     fold(trace, depth, sites, first, first_answer[2], lists, in);
+    for (int marked = 0; marked < 2; marked++) forecast(trace, marked, depth, sites, lists, in);
     scratch = lend(&of_scratch, enough(NYO_MARKS_SCRATCH(d), 8, in), in), rows = lend(&of_rows, enough(NYO_ROWS(m), 8, in), in);
     answer = lend(&of_answer, enough(NYO_ANSWER, 8, in), in);
     Room marks = lend(&of_marks, enough(lines, 1, in), in);

@@ -46,6 +46,11 @@ extern "C" {
 #define NYO_ROW_CHARS (4 + 16 * NYO_COLUMNS + 1)
 #define NYO_REFUSAL_CHARS 13
 
+/* A list of forecast entries: how many there may be, and the range of a factor. */
+#define NYO_MOST_ENTRIES 16
+#define NYO_LEAST_FACTOR 2
+#define NYO_MOST_FACTOR 1000
+
 /* Numbers of a frame, of a row and of an answer. */
 #define NYO_FRAME 5
 #define NYO_COLUMNS 5
@@ -73,23 +78,25 @@ enum { NYO_CALLS, NYO_WORK, NYO_SPAN, NYO_LOCAL, NYO_ON_SPAN };
 
 /* The refusals. 13 is not in use. */
 enum {
-    NYO_LIMITS = 1,      /* depth, sites, count, number or line outside its range */
-    NYO_LENGTH = 2,      /* length not a multiple of 23; for one line, not 23 */
-    NYO_TOO_MANY = 3,    /* more than 65,536 lines */
-    NYO_ROOM = 4,        /* a lent slice is shorter than stated */
-    NYO_CHARACTER = 5,   /* a wrong character in the line */
-    NYO_TABLE = 6,       /* unknown kind, unused field not zero, or a value outside the table */
-    NYO_AFTER_END = 7,   /* a line after the root's return */
-    NYO_SITE_ORDER = 8,  /* a site line after another kind, or not numbered one above the last */
-    NYO_SITE_LIMIT = 9,  /* a site line whose number is above the site limit */
-    NYO_PLACE = 10,      /* a place already declared */
-    NYO_UNDECLARED = 11, /* call or spawn of site 0 or of one not declared */
-    NYO_DEPTH = 12,      /* more invocations open than the depth limit */
-    NYO_UNFINISHED = 14, /* lines end before the root's return; the line is the number of lines */
-    NYO_CSV_RECORD = 15, /* a record of comma-separated text is not good or is missing; the line is its number, header 0 */
-    NYO_CSV_ROOM = 16,   /* output shorter than comma-separated text, or room for fewer rows than it has */
-    NYO_NAME = 17,       /* the name shown for a row is bad or missing from both lists; the line is the row */
-    NYO_FOLDED_ROOM = 18 /* output shorter than the folded stacks */
+    NYO_LIMITS = 1,       /* depth, sites, count, number or line outside its range */
+    NYO_LENGTH = 2,       /* length not a multiple of 23; for one line, not 23 */
+    NYO_TOO_MANY = 3,     /* more than 65,536 lines */
+    NYO_ROOM = 4,         /* a lent slice is shorter than stated */
+    NYO_CHARACTER = 5,    /* a wrong character in the line */
+    NYO_TABLE = 6,        /* unknown kind, unused field not zero, or a value outside the table */
+    NYO_AFTER_END = 7,    /* a line after the root's return */
+    NYO_SITE_ORDER = 8,   /* a site line after another kind, or not numbered one above the last */
+    NYO_SITE_LIMIT = 9,   /* a site line whose number is above the site limit */
+    NYO_PLACE = 10,       /* a place already declared */
+    NYO_UNDECLARED = 11,  /* call or spawn of site 0 or of one not declared */
+    NYO_DEPTH = 12,       /* more invocations open than the depth limit */
+    NYO_UNFINISHED = 14,  /* lines end before the root's return; the line is the number of lines */
+    NYO_CSV_RECORD = 15,  /* a record of comma-separated text is not good or is missing; the line is its number, header 0 */
+    NYO_CSV_ROOM = 16,    /* output shorter than comma-separated text, or room for fewer rows than it has */
+    NYO_NAME = 17,        /* the name shown for a row is bad or missing from both lists; the line is the row */
+    NYO_FOLDED_ROOM = 18, /* output shorter than the folded stacks */
+    NYO_ENTRIES = 19,     /* a list of forecast entries too long, its rows not strictly ascending, or one not declared */
+    NYO_FACTOR = 20       /* a forecast entry's factor outside 2 to 1,000 */
 };
 
 /* Profiles a trace with the table engine.
@@ -114,6 +121,27 @@ uint64_t nyo_tables(const uint8_t *trace, size_t trace_len, uint64_t depth, uint
 uint64_t nyo_marks(const uint8_t *trace, size_t trace_len, uint64_t depth, uint64_t sites, uint64_t *scratch,
                    size_t scratch_len, uint8_t *marks, size_t marks_len, uint64_t *rows, size_t rows_len,
                    uint64_t *answer, size_t answer_len);
+
+/* A forecast entry: the costs directly in the invocations of a row are divided by the factor, each rounded up. */
+typedef struct {
+    uint64_t row, factor;
+} nyo_entry;
+
+/* Profile a trace as nyo_tables and nyo_marks do, as it would be if the rows that the entries name were faster: the answer,
+ * rows and marks are those of the trace in which each cost directly in an invocation of a named row is divided by its factor
+ * and rounded up. An empty list gives the plain profile.
+ *   entries  at most NYO_MOST_ENTRIES           rows strictly ascending, 0 for the root; factors 2 to 1,000;
+ *                                               entries_len is the number of entries
+ * Refusals: those of nyo_tables and nyo_marks, then, with line 0, 19 for a list that is too long, unordered or names a row
+ * that is not declared, then 20 for a factor outside its range: all of the list is looked at for 19 before any of it for 20. */
+uint64_t nyo_forecast_tables(const uint8_t *trace, size_t trace_len, uint64_t depth, uint64_t sites,
+                             const nyo_entry *entries, size_t entries_len, uint64_t *scratch, size_t scratch_len,
+                             uint64_t *rows, size_t rows_len, uint64_t *answer, size_t answer_len);
+
+uint64_t nyo_forecast_marks(const uint8_t *trace, size_t trace_len, uint64_t depth, uint64_t sites,
+                            const nyo_entry *entries, size_t entries_len, uint64_t *scratch, size_t scratch_len,
+                            uint8_t *marks, size_t marks_len, uint64_t *rows, size_t rows_len, uint64_t *answer,
+                            size_t answer_len);
 
 /* Reads one trace line into a frame of NYO_FRAME numbers: kind, site, value, file, column.
  * Refusals, each with line 0: 2 unless it is lent exactly 23 characters, 4, 5, 6. */

@@ -1,8 +1,9 @@
 //! Timings: the proved engines, the plain one, the script and a pass that only sums the bytes, on the same traces in one run;
-//! and the proved writer of folded stacks beside the plain one.
+//! and the proved writer of folded stacks and the proved forecasts beside plain ones.
 
 pub mod clock;
 pub mod folding;
+pub mod forecasting;
 pub mod table;
 pub mod timing;
 pub mod traces;

@@ -3,6 +3,8 @@
 pub mod case;
 pub mod damage;
 pub mod fixed;
+pub mod forecasts;
+pub mod gain;
 pub mod generate;
 pub mod rng;
 pub mod shapes;
@@ -21,18 +23,21 @@ pub struct Difference {
     pub name: &'static str,
     pub expected: Outcome,
     pub found: Outcome,
+    /// The laws of the case that it does not keep.
+    pub broken: Vec<&'static str>,
 }
 
-/// Asks every program the same, and gives the first that does not do as the expected one does, on the smallest case
-/// that shows it.
+/// Asks every program the same, and gives the first that does not do as the expected one does, or does not keep a law of what
+/// is asked, on the smallest case that shows it.
 pub fn compare(
     case: &Case,
     expected: &dyn Library,
     others: &[(&'static str, &dyn Library)],
 ) -> Option<Box<Difference>> {
     let right = case.ask(expected);
-    let (name, other) = others.iter().find(|(_, other)| case.ask(*other) != right)?;
-    let case = shrink::smallest(case, |case| case.ask(expected) != case.ask(*other));
-    let (expected, found) = (case.ask(expected), case.ask(*other));
-    Some(Box::new(Difference { case, name, expected, found }))
+    let keeps = |case: &Case, other: &dyn Library| gain::broken(case, other).is_empty();
+    let (name, other) = others.iter().find(|(_, other)| case.ask(*other) != right || !keeps(case, *other))?;
+    let case = shrink::smallest(case, |case| case.ask(expected) != case.ask(*other) || !keeps(case, *other));
+    let (expected, found, broken) = (case.ask(expected), case.ask(*other), gain::broken(&case, *other));
+    Some(Box::new(Difference { case, name, expected, found, broken }))
 }

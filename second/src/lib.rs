@@ -14,6 +14,7 @@ pub mod chain;
 pub mod check;
 pub mod compare;
 pub mod folded;
+pub mod forecast;
 pub mod graph;
 pub mod library;
 pub mod line;

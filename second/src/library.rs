@@ -1,4 +1,4 @@
-//! The nine functions of the C interface, and the second program behind them.
+//! The eleven functions of the C interface, and the second program behind them.
 //!
 //! Each answers 0 for accepted and otherwise number + 256 · line, and a refusal leaves everything lent as it was. The
 //! interface lends some slices that the rules do not speak of: the answer, the frame, the count of characters written
@@ -7,6 +7,7 @@
 use crate::chain::{self, Chains};
 use crate::check::{self, Lent, Limits};
 use crate::folded;
+use crate::forecast::{self, Entry};
 use crate::graph;
 use crate::line::{self, CHARS, WIDTHS};
 use crate::refusal::{Ground, Refusal};
@@ -25,6 +26,28 @@ pub trait Library {
         &self,
         trace: &[u8],
         limits: Limits,
+        scratch: &mut [u64],
+        marks: &mut [u8],
+        rows: &mut [u64],
+        answer: &mut [u64],
+    ) -> u64;
+    /// The table engine with forecast entries.
+    fn forecast_tables(
+        &self,
+        trace: &[u8],
+        limits: Limits,
+        entries: &[Entry],
+        scratch: &mut [u64],
+        rows: &mut [u64],
+        answer: &mut [u64],
+    ) -> u64;
+    /// The marks engine with forecast entries.
+    #[allow(clippy::too_many_arguments)]
+    fn forecast_marks(
+        &self,
+        trace: &[u8],
+        limits: Limits,
+        entries: &[Entry],
         scratch: &mut [u64],
         marks: &mut [u8],
         rows: &mut [u64],
@@ -81,6 +104,12 @@ impl Second {
         let shape = check::trace(trace, limits, lent)?;
         Ok(profile(&shape, &(self.search)(&shape)))
     }
+
+    /// The profile of a trace rewritten by forecast entries, or the refusal: "The answer, rows and marks are proved equal to
+    /// those of the trace rewritten so."
+    pub fn forecast(&self, trace: &[u8], limits: Limits, entries: &[Entry], lent: &Lent) -> Result<Profile, Refusal> {
+        self.profile(&forecast::rewritten(trace, limits, entries, lent)?, limits, lent)
+    }
 }
 
 impl Default for Second {
@@ -106,6 +135,36 @@ impl Library for Second {
     ) -> u64 {
         let lent = Lent { scratch: scratch.len(), rows: rows.len(), answer: answer.len(), marks: Some(marks.len()) };
         code(self.profile(trace, limits, &lent).map(|profile| {
+            fill(&profile, scratch, rows, answer);
+            put(marks, &profile.marks);
+        }))
+    }
+
+    fn forecast_tables(
+        &self,
+        trace: &[u8],
+        limits: Limits,
+        entries: &[Entry],
+        scratch: &mut [u64],
+        rows: &mut [u64],
+        answer: &mut [u64],
+    ) -> u64 {
+        let lent = Lent { scratch: scratch.len(), rows: rows.len(), answer: answer.len(), marks: None };
+        code(self.forecast(trace, limits, entries, &lent).map(|profile| fill(&profile, scratch, rows, answer)))
+    }
+
+    fn forecast_marks(
+        &self,
+        trace: &[u8],
+        limits: Limits,
+        entries: &[Entry],
+        scratch: &mut [u64],
+        marks: &mut [u8],
+        rows: &mut [u64],
+        answer: &mut [u64],
+    ) -> u64 {
+        let lent = Lent { scratch: scratch.len(), rows: rows.len(), answer: answer.len(), marks: Some(marks.len()) };
+        code(self.forecast(trace, limits, entries, &lent).map(|profile| {
             fill(&profile, scratch, rows, answer);
             put(marks, &profile.marks);
         }))

@@ -4,23 +4,55 @@
 //! One pass over the lines checks them and keeps three weights for each open invocation: of the blocks that a sync has
 //! ended, along the present block, and of the block's heaviest branch that ends in a spawned child. Where a block ends,
 //! the lines that lead into the heaviest branch and out of it are told so; then a walk along those that are left is the
-//! chosen chain.
+//! chosen chain. What a cost line weighs is a parameter that the compiler fills in: its value, or by forecast entries.
 
 pub mod folded;
 
 use crate::check::{before_lines, Lent, Limits};
+use crate::forecast::{Entry, LEAST_FACTOR, MOST_ENTRIES, MOST_FACTOR};
 use crate::line::CHARS;
 use crate::refusal::{Ground, Refusal};
 use crate::rows::{Profile, Row, CALLS, COLUMNS, LOCAL, ON_SPAN, SPAN, WORK};
 
 /// The profile of a trace, or its refusal.
 pub fn profile(trace: &[u8], limits: Limits, lent: &Lent) -> Result<Profile, Refusal> {
+    weighed(trace, limits, lent, |_, value| value)
+}
+
+/// The profile of a trace by forecast entries, or its refusal. The list is judged behind the trace; until then an entry that is
+/// not good counts as none.
+pub fn forecast(trace: &[u8], limits: Limits, entries: &[Entry], lent: &Lent) -> Result<Profile, Refusal> {
+    let mut factors = [1_u32; 256];
+    let mut bad_factor = false;
+    for entry in entries {
+        let good = (LEAST_FACTOR..=MOST_FACTOR).contains(&entry.factor);
+        bad_factor |= !good;
+        if let (true, Some(factor)) = (good, factors.get_mut(entry.row as usize)) {
+            *factor = entry.factor as u32;
+        }
+    }
+    let profile = weighed(trace, limits, lent, |row, value| value.div_ceil(factors[usize::from(row)]))?;
+    let ascending = entries.windows(2).all(|pair| pair[0].row < pair[1].row);
+    let declared = entries.last().is_none_or(|entry| entry.row <= profile.answer[2]);
+    if entries.len() > MOST_ENTRIES || !ascending || !declared {
+        return Err(Ground::Entries.at(0));
+    }
+    if bad_factor {
+        return Err(Ground::Factor.at(0));
+    }
+    Ok(profile)
+}
+
+/// The profile of a trace whose cost lines weigh what is said of their rows and values. Two callers share the steps below: those
+/// that the compiler puts in place by itself where there is one caller are marked, so that the plain profile stays as fast.
+#[inline(always)]
+fn weighed(trace: &[u8], limits: Limits, lent: &Lent, weigh: impl Fn(u8, u32) -> u32) -> Result<Profile, Refusal> {
     let short = |lines| lent.is_short(limits, lines);
     let lines = before_lines(trace, limits, short).map_err(|ground| ground.at(0))?;
     let mut engine = Engine::new(limits, lines);
     for (number, chars) in trace.chunks_exact(CHARS).enumerate() {
         let chars = chars.try_into().expect("a whole line");
-        engine.line(number as u32, chars).map_err(|ground| ground.at(number))?;
+        engine.line(number as u32, chars, &weigh).map_err(|ground| ground.at(number))?;
     }
     engine.finish().ok_or(Ground::Unfinished.at(lines))
 }
@@ -167,16 +199,16 @@ impl Engine {
 
     /// Takes one line, or gives the smallest number that it is refused with. No sum wraps: 65,536 values below 2^32,
     /// each counted at most once in a column of a row, stay below 2^48.
-    fn line(&mut self, line: u32, chars: &[u8; CHARS]) -> Result<(), Ground> {
+    fn line(&mut self, line: u32, chars: &[u8; CHARS], weigh: impl Fn(u8, u32) -> u32) -> Result<(), Ground> {
         let fields = Fields::read(chars)?;
         let own = self.open.last_mut().ok_or(Ground::AfterEnd)?;
         let mut step = Step { next: line + 1, cost: 0, row: own.row };
         match fields.kind {
             COST => {
-                step.cost = fields.value;
-                own.along += u64::from(fields.value);
-                self.work += u64::from(fields.value);
-                self.rows[usize::from(own.row)][LOCAL] += u64::from(fields.value);
+                step.cost = weigh(own.row, fields.value);
+                own.along += u64::from(step.cost);
+                self.work += u64::from(step.cost);
+                self.rows[usize::from(own.row)][LOCAL] += u64::from(step.cost);
             }
             SYNC => own.end_block(line, &mut self.steps),
             CALL => self.enter(fields.site, 0)?,
@@ -206,6 +238,7 @@ impl Engine {
     }
 
     /// Refusals 11 and 12.
+    #[inline(always)]
     fn enter(&mut self, site: u16, spawn: u32) -> Result<(), Ground> {
         if site == 0 || usize::from(site) > self.places.len() {
             return Err(Ground::Undeclared);
@@ -221,6 +254,7 @@ impl Engine {
 
     /// Closes the innermost invocation and gives its span to the one around it. Columns 2 and 3 take it where none of its
     /// row is open around it.
+    #[inline(always)]
     fn leave(&mut self, line: u32) {
         let Some(mut own) = self.open.pop() else { return };
         own.end_block(line, &mut self.steps);

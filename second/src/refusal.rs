@@ -38,6 +38,10 @@ pub enum Ground {
     Name = 17,
     /// "output shorter than the text"
     FoldedRoom = 18,
+    /// "list too long, unordered or naming an undeclared row"
+    Entries = 19,
+    /// "factor outside its range"
+    Factor = 20,
 }
 
 /// "Refused: a number and a line."

@@ -3,6 +3,7 @@
 #![allow(unsafe_code)]
 
 use crate::check::Limits;
+use crate::forecast::Entry;
 use crate::library::Library;
 
 extern "C" {
@@ -23,6 +24,36 @@ extern "C" {
         trace_len: usize,
         depth: u64,
         sites: u64,
+        scratch: *mut u64,
+        scratch_len: usize,
+        marks: *mut u8,
+        marks_len: usize,
+        rows: *mut u64,
+        rows_len: usize,
+        answer: *mut u64,
+        answer_len: usize,
+    ) -> u64;
+    fn nyo_forecast_tables(
+        trace: *const u8,
+        trace_len: usize,
+        depth: u64,
+        sites: u64,
+        entries: *const Entry,
+        entries_len: usize,
+        scratch: *mut u64,
+        scratch_len: usize,
+        rows: *mut u64,
+        rows_len: usize,
+        answer: *mut u64,
+        answer_len: usize,
+    ) -> u64;
+    fn nyo_forecast_marks(
+        trace: *const u8,
+        trace_len: usize,
+        depth: u64,
+        sites: u64,
+        entries: *const Entry,
+        entries_len: usize,
         scratch: *mut u64,
         scratch_len: usize,
         marks: *mut u8,
@@ -124,6 +155,63 @@ impl Library for Proved {
                 trace.len(),
                 limits.depth,
                 limits.sites,
+                scratch.as_mut_ptr(),
+                scratch.len(),
+                marks.as_mut_ptr(),
+                marks.len(),
+                rows.as_mut_ptr(),
+                rows.len(),
+                answer.as_mut_ptr(),
+                answer.len(),
+            )
+        }
+    }
+
+    fn forecast_tables(
+        &self,
+        trace: &[u8],
+        limits: Limits,
+        entries: &[Entry],
+        scratch: &mut [u64],
+        rows: &mut [u64],
+        answer: &mut [u64],
+    ) -> u64 {
+        unsafe {
+            nyo_forecast_tables(
+                trace.as_ptr(),
+                trace.len(),
+                limits.depth,
+                limits.sites,
+                entries.as_ptr(),
+                entries.len(),
+                scratch.as_mut_ptr(),
+                scratch.len(),
+                rows.as_mut_ptr(),
+                rows.len(),
+                answer.as_mut_ptr(),
+                answer.len(),
+            )
+        }
+    }
+
+    fn forecast_marks(
+        &self,
+        trace: &[u8],
+        limits: Limits,
+        entries: &[Entry],
+        scratch: &mut [u64],
+        marks: &mut [u8],
+        rows: &mut [u64],
+        answer: &mut [u64],
+    ) -> u64 {
+        unsafe {
+            nyo_forecast_marks(
+                trace.as_ptr(),
+                trace.len(),
+                limits.depth,
+                limits.sites,
+                entries.as_ptr(),
+                entries.len(),
                 scratch.as_mut_ptr(),
                 scratch.len(),
                 marks.as_mut_ptr(),

@@ -4,10 +4,11 @@ use second::chain::Chains;
 use second::check::{self, Limits};
 use second::compare::case::{Case, Question};
 use second::compare::fixed::{self, TWELVE, TWELVE_LIMITS};
-use second::compare::{compare, generate, Difference};
+use second::compare::{compare, gain, generate, Difference};
+use second::forecast::Entry;
 use second::graph;
 use second::library::{Library, Second};
-use second::line::{Kind, CHARS};
+use second::line::{chars, Kind, Line, CHARS};
 use second::rows::{COLUMNS, WORK};
 use second::shape::{Invocation, Shape, Start};
 use second::trace::events;
@@ -23,7 +24,7 @@ fn first_difference(wrong: &dyn Library) -> Difference {
 /// The events of the trace that the first difference shrank to.
 fn smallest_events(wrong: &dyn Library) -> String {
     match first_difference(wrong).case.question {
-        Question::Engines { trace, .. } => events(&trace).expect("good lines"),
+        Question::Engines { trace, .. } | Question::Forecast { trace, .. } => events(&trace).expect("good lines"),
         other => panic!("a difference on a trace, not on {other:?}"),
     }
 }
@@ -144,17 +145,27 @@ fn a_long_trace_shrinks_as_far() {
 /// What is done to a trace's outcome: its code, scratch, rows and answer.
 type After = fn(trace: &[u8], code: u64, scratch: &mut [u64], rows: &mut [u64], answer: &mut [u64]);
 
+/// What a forecast is made of instead of a trace and entries.
+type Asked = fn(trace: &[u8], entries: &[Entry]) -> (Vec<u8>, Vec<Entry>);
+
 /// The second program with something done wrong before or after it.
 struct Wrong {
     before: fn(&mut Vec<u8>),
     after: After,
     sheet: fn(&mut Vec<u8>),
     lists: fn([&[u8]; 2]) -> [Vec<u8>; 2],
+    asked: Asked,
 }
 
 impl Default for Wrong {
     fn default() -> Wrong {
-        Wrong { before: |_| (), after: |_, _, _, _, _| (), sheet: |_| (), lists: |lists| lists.map(<[u8]>::to_vec) }
+        Wrong {
+            before: |_| (),
+            after: |_, _, _, _, _| (),
+            sheet: |_| (),
+            lists: |lists| lists.map(<[u8]>::to_vec),
+            asked: |trace, entries| (trace.to_vec(), entries.to_vec()),
+        }
     }
 }
 
@@ -177,6 +188,34 @@ impl Library for Wrong {
         answer: &mut [u64],
     ) -> u64 {
         Second::by_paths().marks(trace, limits, scratch, marks, rows, answer)
+    }
+
+    fn forecast_tables(
+        &self,
+        trace: &[u8],
+        limits: Limits,
+        entries: &[Entry],
+        scratch: &mut [u64],
+        rows: &mut [u64],
+        answer: &mut [u64],
+    ) -> u64 {
+        let (mut trace, entries) = (self.asked)(trace, entries);
+        (self.before)(&mut trace);
+        Second::by_paths().forecast_tables(&trace, limits, &entries, scratch, rows, answer)
+    }
+
+    fn forecast_marks(
+        &self,
+        trace: &[u8],
+        limits: Limits,
+        entries: &[Entry],
+        scratch: &mut [u64],
+        marks: &mut [u8],
+        rows: &mut [u64],
+        answer: &mut [u64],
+    ) -> u64 {
+        let (trace, entries) = (self.asked)(trace, entries);
+        Second::by_paths().forecast_marks(&trace, limits, &entries, scratch, marks, rows, answer)
     }
 
     fn read_line(&self, line: &[u8], frame: &mut [u64]) -> u64 {
@@ -364,4 +403,137 @@ fn no_line_without_its_line_feed() {
     folded_difference(|lists| {
         lists.map(|list| list[..list.iter().rposition(|c| *c == b'\n').map_or(0, |n| n + 1)].to_vec())
     });
+}
+
+/// What the first difference on a forecast says, where the stand-in takes something else for the trace and the entries.
+fn forecast_difference(asked: Asked) -> String {
+    let told = first_difference(&Wrong { asked, ..Wrong::default() }).to_string();
+    assert!(told.contains("forecast, D = "), "{told}");
+    told
+}
+
+/// A trace whose entries are good and whose costs are something else by a rule, where both are; the entries are then used up.
+fn costs_by(trace: &[u8], entries: &[Entry], rule: fn(&Shape, &[Entry], usize) -> u64) -> (Vec<u8>, Vec<Entry>) {
+    let limits = Limits { depth: 64, sites: 255 };
+    let lent = limits.for_tables();
+    let good = Second::by_paths().forecast(trace, limits, entries, &lent).is_ok();
+    let shape = check::trace(trace, limits, &lent).ok().filter(|_| good);
+    let Some(shape) = shape else { return (trace.to_vec(), entries.to_vec()) };
+    let line = |n: usize| match shape.lines[n].kind {
+        Kind::Cost => Line { value: rule(&shape, entries, n), ..shape.lines[n] },
+        _ => shape.lines[n],
+    };
+    ((0..shape.lines.len()).flat_map(|n| chars(&line(n).fields())).collect(), vec![])
+}
+
+/// The factor of the row that a line is directly in; 1 where no entry names it.
+fn factor(shape: &Shape, entries: &[Entry], line: usize) -> u64 {
+    let row = shape.directly_in[line].map(|own| shape.invocations[own].row as u64);
+    entries.iter().find(|entry| Some(entry.row) == row).map_or(1, |entry| entry.factor)
+}
+
+#[test]
+fn dividing_and_rounding_down() {
+    let told = forecast_difference(|trace, entries| {
+        costs_by(trace, entries, |shape, entries, n| (shape.lines[n].value / factor(shape, entries, n)).max(1))
+    });
+    let told = told.replace("spawn", "call");
+    let smallest = [("0/2\n", " (3):"), ("1/2\n", " (call 1 {3}):")];
+    assert!(smallest.iter().any(|(entry, events)| told.contains(entry) && told.contains(events)), "{told}");
+}
+
+#[test]
+fn dividing_the_costs_of_children_too() {
+    let told = forecast_difference(|trace, entries| {
+        costs_by(trace, entries, |shape, entries, n| {
+            let own = &shape.invocations[shape.directly_in[n].expect("in an invocation")];
+            let named = |row: usize| entries.iter().find(|entry| entry.row == row as u64);
+            let of = named(own.row).or_else(|| shape.around(own).find_map(|around| named(around.row)));
+            shape.lines[n].value.div_ceil(of.map_or(1, |entry| entry.factor))
+        })
+    });
+    assert!(told.contains("row/factor: 0/2\n"), "{told}");
+    assert!(told.replace("spawn", "call").contains(" (call 1 {2}):"), "{told}");
+}
+
+#[test]
+fn naming_a_row_by_its_last_8_bits() {
+    let told = forecast_difference(|trace, entries| {
+        let of = |entry: &Entry| Entry { row: entry.row % 256, ..*entry };
+        (trace.to_vec(), entries.iter().map(of).collect())
+    });
+    assert!(told.contains("table engine: second refused 19 at line 0, the stand-in "), "{told}");
+}
+
+#[test]
+fn taking_a_list_in_any_order() {
+    let told = forecast_difference(|trace, entries| {
+        let mut sorted = entries.to_vec();
+        sorted.sort_by_key(|entry| entry.row);
+        (trace.to_vec(), sorted)
+    });
+    assert!(told.contains("table engine: second refused 19 at line 0, the stand-in "), "{told}");
+}
+
+#[test]
+fn factors_before_the_order() {
+    let told = forecast_difference(|trace, entries| {
+        let wrong = |entry: &&Entry| !(2..=1_000).contains(&entry.factor);
+        let first = entries.iter().find(wrong).map(|entry| vec![Entry { row: 0, ..*entry }]);
+        (trace.to_vec(), first.unwrap_or(entries.to_vec()))
+    });
+    assert!(told.contains("table engine: second refused 19 at line 0, the stand-in refused 20 at line 0"), "{told}");
+}
+
+/// The laws of a forecast that a stand-in breaks on some generated case.
+fn broken_by(wrong: &dyn Library) -> Vec<&'static str> {
+    let mut broken: Vec<_> = (0..4_000).flat_map(|number| gain::broken(&generate::case(1, number), wrong)).collect();
+    broken.sort_unstable();
+    broken.dedup();
+    broken
+}
+
+#[test]
+fn the_second_program_keeps_every_law_of_a_forecast() {
+    assert_eq!(broken_by(&Second::new()), [""; 0]);
+}
+
+#[test]
+fn a_forecast_that_forgets_its_entries() {
+    let wrong = Wrong { asked: |trace, _| (trace.to_vec(), vec![]), ..Wrong::default() };
+    assert_eq!(broken_by(&wrong), ["a forecast is the profile of the rewritten trace"]);
+}
+
+#[test]
+fn a_forecast_of_heavier_costs() {
+    let asked: Asked = |trace, entries| {
+        costs_by(trace, entries, |shape, entries, n| {
+            (shape.lines[n].value * factor(shape, entries, n)).min(4_294_967_295)
+        })
+    };
+    let broken = broken_by(&Wrong { asked, ..Wrong::default() });
+    for law in [
+        "a forecast is the profile of the rewritten trace",
+        "work and span are at most the plain ones",
+        "no row's work is above the plain one",
+        "no row's span is above the plain one",
+        "no row's own costs are above the plain ones",
+        "rows that are not on the span leave it as it is",
+    ] {
+        assert!(broken.contains(&law), "{broken:?}");
+    }
+}
+
+#[test]
+fn a_forecast_that_halves_every_cost() {
+    let asked: Asked = |trace, entries| costs_by(trace, entries, |shape, _, n| shape.lines[n].value.div_ceil(2));
+    let broken = broken_by(&Wrong { asked, ..Wrong::default() });
+    for law in [
+        "a forecast is the profile of the rewritten trace",
+        "an empty list gives the plain profile",
+        "rows that are not on the span leave it as it is",
+        "the gain is at most what the chosen chain loses",
+    ] {
+        assert!(broken.contains(&law), "{broken:?}");
+    }
 }

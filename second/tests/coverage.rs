@@ -4,6 +4,7 @@ use second::check::{self, Lent, Limits};
 use second::compare::case::{Case, Question};
 use second::compare::generate;
 use second::library::Second;
+use second::rows::LOCAL;
 use second::shape::{Invocation, Shape, Start};
 use std::collections::BTreeMap;
 
@@ -51,6 +52,43 @@ fn every_verdict_on_folded_stacks_is_reached() {
         assert!(verdicts.get(&verdict).is_some_and(|&times| times >= 5), "{verdict}: {verdicts:?}");
     }
     assert!([0, 17, 18].iter().all(|verdict| verdicts[verdict] >= 100), "{verdicts:?}");
+}
+
+#[test]
+fn every_verdict_on_a_forecast_is_reached() {
+    let cases = (0..20_000).map(|number| generate::case(1, number));
+    let verdicts = verdicts(cases.filter(|case| matches!(case.question, Question::Forecast { .. })));
+    println!("{verdicts:?}");
+    for verdict in [0, 1, 2, 4, 5, 6, 7, 8, 9, 10, 11, 12, 14, 19, 20] {
+        assert!(verdicts.get(&verdict).is_some_and(|&times| times >= 10), "{verdict}: {verdicts:?}");
+    }
+    assert!([0, 19, 20].iter().all(|verdict| verdicts[verdict] >= 100), "{verdicts:?}");
+}
+
+/// What the accepted forecasts among some cases have to show: an empty list, 16 entries, the root named; a span that falls,
+/// one that stays though a named row costs something, and a chosen chain of other lines than before.
+#[test]
+fn forecasts_gain_and_do_not_gain() {
+    let wide = Limits { depth: 64, sites: 255 };
+    let mut times = [0; 6];
+    for number in 0..20_000 {
+        let Question::Forecast { trace, entries, .. } = generate::case(1, number).question else { continue };
+        let lent = wide.for_marks(trace.len() / 23);
+        let Ok(forecast) = Second::by_paths().forecast(&trace, wide, &entries, &lent) else { continue };
+        let plain = Second::by_paths().profile(&trace, wide, &lent).expect("accepted");
+        let costly = entries.iter().any(|entry| plain.rows[entry.row as usize][LOCAL] > 0);
+        let shown = [
+            entries.is_empty(),
+            entries.len() == 16,
+            entries.first().is_some_and(|entry| entry.row == 0),
+            forecast.answer[1] < plain.answer[1],
+            costly && forecast.answer[..2] < plain.answer[..2] && forecast.answer[1] == plain.answer[1],
+            forecast.marks != plain.marks,
+        ];
+        times.iter_mut().zip(shown).for_each(|(times, shown)| *times += u32::from(shown));
+    }
+    println!("{times:?}");
+    assert!(times.iter().all(|&times| times >= 20), "{times:?}");
 }
 
 #[test]

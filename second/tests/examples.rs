@@ -1,8 +1,11 @@
 //! The examples print what their page says, and the page says what was worked out by hand.
 
 use second::folded;
+use second::forecast::Entry;
+use second::library::Second;
 use second::program::{printed, LIMITS, MOST_BYTES};
-use second::rows::Row;
+use second::report;
+use second::rows::{Row, LOCAL, ON_SPAN, WORK};
 use std::fs;
 use std::path::PathBuf;
 use std::process::Command;
@@ -74,6 +77,50 @@ fn the_folded_stacks_of_the_proxy() {
     assert_eq!(folded("proxy.names", 549), Err((18, 0)));
     assert_eq!(folded("refusal-17-line-ends.names", 550), Err((17, 0)));
     assert_eq!(folded("refusal-17-space.names", 550), Err((17, 4)));
+}
+
+/// The page on forecasts.
+fn forecasts() -> String {
+    fs::read_to_string(folder().join("../docs/FORECAST.md")).expect("the page on forecasts")
+}
+
+/// The rows of an example's forecast with one entry, and total work, total span, sites and lines.
+fn forecast(name: &str, entry: Entry) -> (Vec<Row>, [u64; 4]) {
+    let profile = Second::new().forecast(&file(name), LIMITS, &[entry], &LIMITS.for_tables()).expect("accepted");
+    (profile.rows, profile.answer)
+}
+
+#[test]
+fn the_proxys_rows_halved_in_turn_are_on_the_page_and_as_worked_out_by_hand() {
+    // The third segment stays the heaviest: 120 + 900 + 45 + 3600 + 910 + 5100 + 700 + 60, with what is halved rounded up.
+    let by_hand = [
+        60 + 900 + 3 * 8 + 3600 + 910 + 5100 + 700 + 30,
+        120 + 450 + 45 + 3600 + 910 + 5100 + 700 + 60,
+        11435,
+        11435,
+        120 + 900 + 45 + 1800 + 910 + 5100 + 700 + 60,
+        120 + 900 + 45 + 3600 + 455 + 5100 + 700 + 60,
+        120 + 900 + 45 + 3600 + 910 + 2550 + 700 + 60,
+        120 + 900 + 45 + 3600 + 910 + 5100 + 350 + 60,
+        11435,
+    ];
+    let plain = rows(&example("proxy.trace"));
+    let mut table = String::from("row      work     local   on span      span      gain\n");
+    for (row, span) in by_hand.into_iter().enumerate() {
+        assert_eq!(forecast("proxy.trace", Entry { row: row as u64, factor: 2 }).1[1], span, "row {row}");
+        let (own, gain) = (plain[row], 11435 - span);
+        let [work, local, on_span] = [own[WORK], own[LOCAL], own[ON_SPAN]];
+        table += &format!("{row:>3}{work:>10}{local:>10}{on_span:>10}{span:>10}{gain:>10}\n");
+    }
+    assert!(forecasts().contains(&table), "{table}");
+}
+
+#[test]
+fn case_i_with_site_2_halved_is_on_the_page() {
+    let (rows, answer) = forecast("case-i.trace", Entry { row: 2, factor: 2 });
+    assert_eq!(rows, [[1, 7, 6, 2, 2], [1, 5, 4, 1, 0], [1, 4, 4, 4, 4]]);
+    assert_eq!(answer, [7, 6, 2, 10]);
+    assert!(forecasts().contains(&report::report(rows.as_flattened(), 2, 255).expect("room enough")));
 }
 
 #[test]

@@ -1,4 +1,4 @@
-//! The plain engine and the plain writer of folded stacks give what the second program gives.
+//! The plain engine, its forecast and the plain writer of folded stacks give what the second program gives.
 
 use second::check::Limits;
 use second::compare::case::{Case, Question};
@@ -29,6 +29,30 @@ fn on_the_fixed_traces() {
 #[test]
 fn on_generated_traces() {
     assert!(alike((0..40_000).map(|number| generate::case(3, number))) > 20_000);
+}
+
+/// Holds the plain forecast against the second program on the entries among some cases, and counts them.
+fn forecast_alike(cases: impl IntoIterator<Item = Case>) -> usize {
+    let mut count = 0;
+    for case in cases {
+        let Question::Forecast { trace, limits, entries, .. } = &case.question else { continue };
+        let near = Limits { depth: limits.depth.min(64), sites: limits.sites.min(255) };
+        let lent = near.for_marks(trace.len() / 23);
+        let right = Second::new().forecast(trace, *limits, entries, &lent);
+        assert_eq!(plain::forecast(trace, *limits, entries, &lent), right, "{case}");
+        count += 1;
+    }
+    count
+}
+
+#[test]
+fn on_the_fixed_entries() {
+    assert_eq!(forecast_alike(fixed::cases()), 7 * 39);
+}
+
+#[test]
+fn on_generated_entries() {
+    assert!(forecast_alike((0..40_000).map(|number| generate::case(3, number))) > 5_000);
 }
 
 /// Holds the plain writer of folded stacks against the second program on the lists among some cases, with just enough room

@@ -2,7 +2,7 @@
 
 use second::check::{Lent, Limits};
 use second::compare::fixed::{further, heaviest, recursive, TWELVE, TWELVE_LIMITS};
-use second::compare::stacks;
+use second::compare::{forecasts, stacks};
 use second::folded;
 use second::library::Second;
 use second::refusal::{Ground, Refusal};
@@ -56,6 +56,18 @@ fn the_lists_of_names() {
         let found = folded::write(&trace.chars, stacks::limits(listed.sites), listed.lists, folded::Lent::ALL);
         let found = found.as_deref().map_err(|refusal| (refusal.number(), refusal.line));
         assert_eq!(found, listed.written, "{}", listed.name);
+    }
+}
+
+#[test]
+fn the_forecasts() {
+    for asked in &forecasts::BY_HAND {
+        let (trace, entries, limits) = (asked.trace(), asked.entries(), forecasts::LIMITS);
+        for search in [chain::search, graph::search] {
+            let found = Second { search }.forecast(&trace, limits, &entries, &limits.for_tables());
+            let rows = found.map(|profile| profile.rows).map_err(|refusal| (refusal.number(), refusal.line));
+            assert_eq!(rows, asked.given.map(|rows| rows.to_vec()), "{}", asked.name);
+        }
     }
 }
 

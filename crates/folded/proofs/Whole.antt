@@ -25,7 +25,7 @@ use Rattle.admit.specs.declared.Verdict.the-variants as Verdict
 use Rattle.admit.specs.Answer.{answerOf}
 use Rattle.admit.proofs.Admitted.{accepted-only, refused-only}
 use Rattle.walk.specs.Stands.{Stands}
-use Rattle.walk.proofs.Root.{stands-all}
+use Rattle.walk.proofs.Stands.{stands-all}
 use Rattle.report.specs.Room.{Decision, refuse, fitting, Lays}
 use Rattle.report.proofs.Decisions.{refused, written, fitting-short, fitting-text}
 use Rattle.report.proofs.Laying.{laid-front}

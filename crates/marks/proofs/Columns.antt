@@ -1,30 +1,30 @@
 -- The second reading, with no code in sight.
 use mathlib.Core.Path.{_≡_, refl, ap, _∙_, sym, subst}
 use mathlib.Core.Bool.{Bool, true, false, cond}
-use mathlib.Core.List.{List, [], _∷_, _++_}
+use mathlib.Core.List.{List, [], _∷_}
 use Prim.Native.Nat.{ℕ, suc, _+_, _-_, _≤_, _<_}
 use native.Mathlib.Omega.{arith}
 use lib.Dec.{eqb}
 use lib.ListN.{length, getD, set, length-set}
 use lib.Seq.{getD-set-same, getD-set-other, set-getD, set-set}
 use borrow.Author.Tests.{eq-eqb, ne-eqb}
-use Rattle.line.specs.At.{kindAt, siteAt}
+use Rattle.line.specs.At.{kindAt, siteAt, valueAt}
 use Rattle.trace.specs.Column.{Column, slot}
-use Rattle.trace.specs.Tree.{spend, Body, done, leaf, child, linesOf, size}
+use Rattle.trace.specs.Tree.{spend, Body, done, leaf, child, size}
 use Rattle.trace.proofs.Basics.{cond-same}
-use Rattle.trace.proofs.Tree.{size-is}
-use Rattle.walk.specs.Weight.{weightAt}
-use Rattle.walk.specs.Stands.{Stands, Says, kindOf}
+use Rattle.weigh.specs.Weighed.{Weigh}
+use Rattle.walk.specs.Stands.{Says, kindOf}
+use Rattle.walk.specs.Reads.{Reads}
 use Rattle.walk.specs.Gain.{ColumnFits, one, Grown}
-use Rattle.walk.proofs.Items.{size-some, stands-left, stands-right}
+use Rattle.walk.proofs.Items.{size-some}
 use Rattle.walk.proofs.Lines.{is-more, is-done, is-sync}
-use Rattle.walk.proofs.Says.{kind-says, site-says, weight-says}
+use Rattle.walk.proofs.Says.{kind-says, site-says, value-says}
 use Rattle.walk.proofs.Rows.{one-same, grown-one}
 use Rattle.walk.proofs.Room.{lines-in}
 use Rattle.walk.proofs.Child.{cost-is, child-is}
 use Rattle.marks.specs.declared.Present.{Present}
 use Rattle.marks.specs.Park.{Zero}
-use Rattle.marks.specs.Column.{marked, onGain, Left, left, AllStand, linesLeft, onLeft, AllWithin, behind, onLine, stacked, Held, HeldAfter, root, entered, Returned, OnLent, LineAsks, LineLeaves, ColumnAsks, ColumnLeaves}
+use Rattle.marks.specs.Column.{marked, onGain, Left, left, AllRead, linesLeft, onLeft, AllWithin, behind, onLine, stacked, Held, HeldAfter, root, entered, Returned, OnLent, LineAsks, LineLeaves, ColumnAsks, ColumnLeaves}
 
 -- a mark decides
 pub marked-on : (x v : ℕ) → x ≡ 1 → marked x v ≡ v
@@ -49,25 +49,19 @@ grown-off rows j x v e i l = omega (arith, ap (λ (y : ℕ). one j y i) (marked-
 -- What one line does to the open invocations.
 
 -- by equal numbers of the first line
-stand-same : (s : List ℕ) (k : List Left) (n e : ℕ) → n ≡ e → AllStand s n k → AllStand s e k
-stand-same s k n e q h = subst (λ (j : ℕ). AllStand s j k) q h
+read-same : (how : Weigh) (s : List ℕ) (k : List Left) (n e : ℕ) → n ≡ e → AllRead how s n k → AllRead how s e k
+read-same how s k n e q h = subst (λ (j : ℕ). AllRead how s j k) q h
 
 on-same : (m : List ℕ) (k : List Left) (i n e : ℕ) → n ≡ e → onLeft m n k i ≡ onLeft m e k i
 on-same m k i n e q = ap (λ (j : ℕ). onLeft m j k i) q
 
--- a child's lines, and behind them those of the invocation that it was made in
-stand-two : (s : List ℕ) (n row j : ℕ) (g r : Body) (k : List Left) → Stands s (n + 1) (linesOf g ++ linesOf r) → AllStand s (n + suc (size g + size r)) k → AllStand s (n + 1) (left j g ∷ (left row r ∷ k))
-stand-two s n row j g r k h w =
-    let e : n + 1 + length (linesOf g) ≡ n + 1 + size g = omega (arith, size-is g) in (
-      stands-left s (linesOf g) (linesOf r) (n + 1) h,
-      (subst (λ (i : ℕ). Stands s i (linesOf r)) e (stands-right s (linesOf g) (linesOf r) (n + 1) h), stand-same s k (n + suc (size g + size r)) (n + 1 + size g + size r) (omega arith) w),
-    )
-
--- behind a line the rest stands
-stand-behind : (s : List ℕ) (n row : ℕ) (b : Body) (k : List Left) → AllStand s n (left row b ∷ k) → AllStand s (n + 1) (behind row b k)
-stand-behind s n row done k h = h .1
-stand-behind s n row (leaf l r) k h = (h .0 .1, stand-same s k (n + suc (size r)) (n + 1 + size r) (omega arith) (h .1))
-stand-behind s n row (child w j g r) k h = stand-two s n row j g r k (h .0 .1) (h .1)
+-- behind a line the rest is read
+read-behind : (how : Weigh) (s : List ℕ) (n row : ℕ) (b : Body) (k : List Left) → AllRead how s n (left row b ∷ k) → AllRead how s (n + 1) (behind row b k)
+read-behind how s n row done k h = h .1
+read-behind how s n row (leaf l r) k h = (h .0 .1, read-same how s k (n + suc (size r)) (n + 1 + size r) (omega arith) (h .1))
+read-behind how s n row (child y j g r) k h =
+    let e : n + (1 + size g) ≡ n + 1 + size g = omega arith in
+    (h .0 .1, (subst (λ (i : ℕ). Reads how s i row r) e (h .0 .2), read-same how s k (n + suc (size g + size r)) (n + 1 + size g + size r) (omega arith) (h .1)))
 
 -- it stays within the limits
 within-behind : (sites D row : ℕ) (b : Body) (k : List Left) → AllWithin sites D (left row b ∷ k) → AllWithin sites D (behind row b k)
@@ -142,13 +136,13 @@ held-entered z k a r t t′ row site b g h e q = (
 -- A line.
 
 -- what it asks for
-module _ {s : List ℕ} {n : ℕ} {a : Present} {t m rows : List ℕ} (q : LineAsks s n a t m rows) where
-  abbrev l : OnLent s n (left (q .row) (q .body) ∷ q .around) (q .z) a t m rows
+module _ {how : Weigh} {s : List ℕ} {n : ℕ} {a : Present} {t m rows : List ℕ} (q : LineAsks how s n a t m rows) where
+  abbrev l : OnLent how s n (left (q .row) (q .body) ∷ q .around) (q .z) a t m rows
   l = q .lent
 
   -- it has a mark
   mark-in : n < length m
-  mark-in = omega (arith, l .lines, lines-in s (q .body) n (l .stand .0), size-some (q .body))
+  mark-in = omega (arith, l .lines, lines-in how s n (q .row) (q .body) (l .reads .0), size-some (q .body))
 
   -- there is room for the rows around
   rows-fit : length (q .around) ≤ length (q .z)
@@ -162,7 +156,7 @@ module _ {s : List ℕ} {n : ℕ} {a : Present} {t m rows : List ℕ} (q : LineA
   leave-asks = omega (arith, enter-asks)
 
 -- what a line leaves, by its kind
-module _ {s : List ℕ} {n : ℕ} {a : Present} {t m rows : List ℕ} (p : LineAsks s n a t m rows) (kind : ℕ) (kind-is : kind ≡ kindAt s n) where
+module _ {how : Weigh} {s : List ℕ} {n : ℕ} {a : Present} {t m rows : List ℕ} (p : LineAsks how s n a t m rows) (kind : ℕ) (kind-is : kind ≡ kindAt s n) where
   says : Says kindOf s n kind
   says = kind-says s n n kind refl kind-is
 
@@ -175,84 +169,89 @@ module _ {s : List ℕ} {n : ℕ} {a : Present} {t m rows : List ℕ} (p : LineA
   grown-none i l = omega arith
 
   -- a sync
-  pub sync-leaves : kind ≡ 4 → LineLeaves s n a t m rows a t rows
+  pub sync-leaves : kind ≡ 4 → LineLeaves how s n a t m rows a t rows
   sync-leaves k4 q =
-      let e = is-sync s n kind says (q .body) (q .lent .stand .0) k4 in
+      let e = is-sync how s n (q .row) kind says (q .body) (q .lent .reads .0) k4 in
       subst (Leaves (q .z) (q .row) (q .around) a t rows) (sym (e .1))
       (q .lent .held, λ i h. omega (arith, cond-same (eqb (slot (q .row) Column.onSpan) i), ap (λ (x : ℕ). one (slot (q .row) Column.onSpan) x i) (cond-same (eqb (getD m n 0) 1))))
 
   -- a return
-  pub return-leaves : kind ≡ 5 → (r : Present) (t′ : List ℕ) → Returned t a r t′ → LineLeaves s n a t m rows r t′ rows
+  pub return-leaves : kind ≡ 5 → (r : Present) (t′ : List ℕ) → Returned t a r t′ → LineLeaves how s n a t m rows r t′ rows
   return-leaves k5 r t′ x q =
       let l = q .lent in
-      let e = is-done s n kind says (q .body) (l .stand .0) k5 in
+      let e = is-done how s n (q .row) kind says (q .body) (l .reads .0) k5 in
       subst (Leaves (q .z) (q .row) (q .around) r t′ rows) (sym e) (held-left (q .z) (l .zero) (q .around) a r t t′ (rows-fit q) (l .held .1) (l .held .2) x, grown-none)
 
   -- a cost of v
   module _ (k6 : kind ≡ 6) where
     abbrev v : ℕ
-    v = weightAt s n
+    v = how n (a .row) (valueAt s n)
 
-    spend-is : (b : Body) → Stands s n (linesOf b) → (r : Body) × (b ≡ leaf (spend v) r)
-    spend-is = cost-is s n kind says v (weight-says s n n v refl refl) k6
+    -- what is left of the innermost invocation begins with it
+    spend-is : (q : LineAsks how s n a t m rows) → (r : Body) × (q .body ≡ leaf (spend v) r)
+    spend-is q =
+        let weighs = ap (λ (x : ℕ). how n x (valueAt s n)) (q .lent .held .0) in
+        cost-is how s n (q .row) kind says (valueAt s n) v (value-says s n n (valueAt s n) refl refl) weighs k6 (q .body) (q .lent .reads .0)
 
     pub add-asks : (n < length m) × ColumnFits rows (a .row) Column.onSpan (marked (getD m n 0) v)
     add-asks =
         let l = p .lent in
-        let e = spend-is (p .body) (l .stand .0) in
-        let f = l .fits (p .row) (l .within .0) in
-        rw (l .held .0)
-        (mark-in p, (omega (arith, l .within .0, l .rows-long), omega (arith, f, ap (λ (x : Body). onGain m n (p .row) x (slot (p .row) Column.onSpan)) (e .1), one-same (slot (p .row) Column.onSpan) (marked (getD m n 0) v))))
+        let e = spend-is p in
+        let f = l .fits (p .row) (l .within .0) in (
+          mark-in p,
+          subst (λ (x : ℕ). ColumnFits rows x Column.onSpan (marked (getD m n 0) v)) (sym (l .held .0))
+              (omega (arith, l .within .0, l .rows-long), omega (arith, f, ap (λ (x : Body). onGain m n (p .row) x (slot (p .row) Column.onSpan)) (e .1), one-same (slot (p .row) Column.onSpan) (marked (getD m n 0) v))),
+        )
 
-    pub cost-leaves : (rows′ : List ℕ) → Grown rows (one (slot (a .row) Column.onSpan) (marked (getD m n 0) v)) rows′ → LineLeaves s n a t m rows a t rows′
+    pub cost-leaves : (rows′ : List ℕ) → Grown rows (one (slot (a .row) Column.onSpan) (marked (getD m n 0) v)) rows′ → LineLeaves how s n a t m rows a t rows′
     cost-leaves rows′ grown q =
         let l = q .lent in
-        let e = spend-is (q .body) (l .stand .0) in
+        let e = spend-is q in
         subst (Leaves (q .z) (q .row) (q .around) a t rows′) (sym (e .1)) (l .held, subst (λ (x : ℕ). Grown rows (one (slot x Column.onSpan) (marked (getD m n 0) v)) rows′) (l .held .0) grown)
 
   -- a call or a spawn of site
   module _ (site : ℕ) (sited : site ≡ siteAt s n) (k6 : kind ≡ 6 → ⊥) (k5 : kind ≡ 5 → ⊥) (k4 : kind ≡ 4 → ⊥) where
-    pub child-leaves : (r : Present) (t′ : List ℕ) → r ≡ entered site a → t′ ≡ set t (a .around) (a .row) → LineLeaves s n a t m rows r t′ rows
+    pub child-leaves : (r : Present) (t′ : List ℕ) → r ≡ entered site a → t′ ≡ set t (a .around) (a .row) → LineLeaves how s n a t m rows r t′ rows
     child-leaves r t′ er et q =
-        let c = child-is s n kind site says (site-says s n n site refl sited) k6 k4 (q .body) (q .lent .stand .0) (is-more s n kind says (q .body) (q .lent .stand .0) k5) in
+        let c = child-is how s n (q .row) kind site says (site-says s n n site refl sited) k6 k4 (q .body) (q .lent .reads .0) (is-more how s n (q .row) kind says (q .body) (q .lent .reads .0) k5) in
         subst (Leaves (q .z) (q .row) (q .around) r t′ rows) (sym (c .is)) (held-entered (q .z) (q .around) a r t t′ (q .row) site (c .r) (c .g) (q .lent .held) er et, grown-none)
 
 -- The loop.
 
 -- it has come to line n: the open invocations, and what they come to, are as from the first line of the root's body b on
-pub record Turn (s : List ℕ) (from lines : ℕ) (z m rows₀ : List ℕ) (n : ℕ) (a : Present) (t rows : List ℕ) (b : Body) : Type 0 where
+pub record Turn (how : Weigh) (s : List ℕ) (from lines : ℕ) (z m rows₀ : List ℕ) (n : ℕ) (a : Present) (t rows : List ℕ) (b : Body) : Type 0 where
   pub opened : List Left
   pub ends : n + linesLeft opened ≡ lines
-  pub lent : OnLent s n opened z a t m rows
+  pub lent : OnLent how s n opened z a t m rows
   pub same-rows : (i : ℕ) → i < length rows₀ → getD rows i 0 + onLeft m n opened i ≡ getD rows₀ i 0 + onGain m from 0 b i
 
 -- the same of whatever body that is
-pub record Loop (s : List ℕ) (from lines : ℕ) (z m rows₀ : List ℕ) (n : ℕ) (a : Present) (t rows : List ℕ) : Type 0 where
+pub record Loop (how : Weigh) (s : List ℕ) (from lines : ℕ) (z m rows₀ : List ℕ) (n : ℕ) (a : Present) (t rows : List ℕ) : Type 0 where
   pub rows-long : length rows ≡ length rows₀
-  pub turns : (q : ColumnAsks s from lines z m rows₀) → Turn s from lines z m rows₀ n a t rows (q .body)
+  pub turns : (q : ColumnAsks how s from lines z m rows₀) → Turn how s from lines z m rows₀ n a t rows (q .body)
 
 -- at the first line the root is open
-pub turn-start : (s : List ℕ) (from lines : ℕ) (z m rows : List ℕ) → Loop s from lines z m rows from root z rows
-turn-start s from lines z m rows = record { rows-long = refl; turns = λ q. record { opened = left 0 (q .body) ∷ []; ends = omega (arith, q .ends); lent = q .lent; same-rows = λ i h. omega arith } }
+pub turn-start : (how : Weigh) (s : List ℕ) (from lines : ℕ) (z m rows : List ℕ) → Loop how s from lines z m rows from root z rows
+turn-start how s from lines z m rows = record { rows-long = refl; turns = λ q. record { opened = left 0 (q .body) ∷ []; ends = omega (arith, q .ends); lent = q .lent; same-rows = λ i h. omega arith } }
 
-module _ {s : List ℕ} {from lines : ℕ} {z m rows₀ : List ℕ} {n : ℕ} {a : Present} {t rows : List ℕ} (x : Loop s from lines z m rows₀ n a t rows) where
+module _ {how : Weigh} {s : List ℕ} {from lines : ℕ} {z m rows₀ : List ℕ} {n : ℕ} {a : Present} {t rows : List ℕ} (x : Loop how s from lines z m rows₀ n a t rows) where
   -- at least one invocation is open before the last line
-  line-of : {b : Body} → n < lines → Turn s from lines z m rows₀ n a t rows b → LineAsks s n a t m rows
+  line-of : {b : Body} → n < lines → Turn how s from lines z m rows₀ n a t rows b → LineAsks how s n a t m rows
   line-of less u = go (u .opened) (u .ends) (u .lent)
     where
-      go : (k : List Left) → n + linesLeft k ≡ lines → OnLent s n k z a t m rows → LineAsks s n a t m rows
+      go : (k : List Left) → n + linesLeft k ≡ lines → OnLent how s n k z a t m rows → LineAsks how s n a t m rows
       go [] e l = absurd (omega arith)
       go (y ∷ k) e l = record { row = y .row; body = y .body; around = k; z = z; lent = l }
 
   -- so it can be read
-  pub turn-asks : n < lines → ColumnAsks s from lines z m rows₀ → LineAsks s n a t m rows
+  pub turn-asks : n < lines → ColumnAsks how s from lines z m rows₀ → LineAsks how s n a t m rows
   turn-asks less q = line-of less (x .turns q)
 
   -- it was read
-  pub turn-again : n < lines → (r : Present) (t′ rows′ : List ℕ) → length rows′ ≡ length rows → LineLeaves s n a t m rows r t′ rows′ → Loop s from lines z m rows₀ (n + 1) r t′ rows′
+  pub turn-again : n < lines → (r : Present) (t′ rows′ : List ℕ) → length rows′ ≡ length rows → LineLeaves how s n a t m rows r t′ rows′ → Loop how s from lines z m rows₀ (n + 1) r t′ rows′
   turn-again less r t′ rows′ len leaves = record { rows-long = len ∙ x .rows-long; turns = λ q. let u = x .turns q in go q (u .opened) (u .ends) (u .lent) (u .same-rows) }
     where
-      go : (q : ColumnAsks s from lines z m rows₀) (k : List Left) → n + linesLeft k ≡ lines → OnLent s n k z a t m rows → ((i : ℕ) → i < length rows₀ → getD rows i 0 + onLeft m n k i ≡ getD rows₀ i 0 + onGain m from 0 (q .body) i) → Turn s from lines z m rows₀ (n + 1) r t′ rows′ (q .body)
+      go : (q : ColumnAsks how s from lines z m rows₀) (k : List Left) → n + linesLeft k ≡ lines → OnLent how s n k z a t m rows → ((i : ℕ) → i < length rows₀ → getD rows i 0 + onLeft m n k i ≡ getD rows₀ i 0 + onGain m from 0 (q .body) i) → Turn how s from lines z m rows₀ (n + 1) r t′ rows′ (q .body)
       go q [] e l w = absurd (omega arith)
       go q (y ∷ k) e l w =
           let d = leaves (record { row = y .row; body = y .body; around = k; z = z; lent = l }) in
@@ -264,7 +263,7 @@ module _ {s : List ℕ} {from lines : ℕ} {z m rows₀ : List ℕ} {n : ℕ} {a
                 record {
                   sites = l .sites;
                   D = l .D;
-                  stand = stand-behind s n (y .row) b k (l .stand);
+                  reads = read-behind how s n (y .row) b k (l .reads);
                   within = within-behind (l .sites) (l .D) (y .row) b k (l .within);
                   zero = l .zero;
                   room = l .room;
@@ -278,7 +277,7 @@ module _ {s : List ℕ} {from lines : ℕ} {z m rows₀ : List ℕ} {n : ℕ} {a
 
   -- none is open behind the last line
   module _ (last : lines ≤ n) where
-    none-left : {b : Body} → (u : Turn s from lines z m rows₀ n a t rows b) → u .opened ≡ []
+    none-left : {b : Body} → (u : Turn how s from lines z m rows₀ n a t rows b) → u .opened ≡ []
     none-left u = go (u .opened) (u .ends)
       where
         go : (k : List Left) → n + linesLeft k ≡ lines → k ≡ []
@@ -286,13 +285,13 @@ module _ {s : List ℕ} {from lines : ℕ} {z m rows₀ : List ℕ} {n : ℕ} {a
         go (y ∷ k) e = absurd (omega (arith, size-some (y .body)))
 
     -- so the scratch is as it was
-    pub turn-zero : ColumnAsks s from lines z m rows₀ → t ≡ z
+    pub turn-zero : ColumnAsks how s from lines z m rows₀ → t ≡ z
     turn-zero q =
         let u = x .turns q in
         subst (λ (k : List Left). Held z k a t) (none-left u) (u .lent .held)
 
     -- and nothing is left to add
-    pub turn-done : ColumnLeaves s from lines z m rows₀ rows
+    pub turn-done : ColumnLeaves how s from lines z m rows₀ rows
     turn-done q i h =
         let u = x .turns q in
         omega (arith, u .same-rows i h, ap (λ (k : List Left). onLeft m n k i) (none-left u))

@@ -5,23 +5,24 @@ use Prim.Native.Nat.{ℕ, _+_, _-_, _^_, _≤_, _<_}
 use native.Mathlib.Omega.{arith}
 use lib.ListN.{length}
 use lib.Dec.{eqb}
-use Rattle.line.specs.At.{kindAt, siteAt}
+use Rattle.line.specs.At.{kindAt, siteAt, valueAt}
 use Rattle.chain.specs.Plan.{weight}
 use Rattle.trace.specs.Column.{Column, slot}
-use Rattle.trace.specs.Tree.{call, spawn, spend, sync, Body, leaf, child as nested, linesOf, workOf}
+use Rattle.trace.specs.Tree.{call, spawn, spend, sync, Body, leaf, child as nested, workOf}
 use Rattle.trace.specs.Fold.{Chains, nothing, joined, called, spawned, chainOf}
 use Rattle.trace.proofs.Basics.{cond-same}
+use Rattle.weigh.specs.Weighed.{Weigh}
 use Rattle.walk.specs.declared.Open.{Open}
 use Rattle.walk.specs.declared.Credit.{Credit}
-use Rattle.walk.specs.Weight.{weightAt}
-use Rattle.walk.specs.Stands.{Stands, Says, kindOf, siteOf}
+use Rattle.walk.specs.Stands.{Says, kindOf, siteOf}
+use Rattle.walk.specs.Reads.{Reads}
 use Rattle.walk.specs.Numbers.{numbers}
 use Rattle.walk.specs.Gain.{ColumnFits, creditOf, ReturnFits, one, Returned, Grown}
 use Rattle.walk.specs.Item.{itemChains}
 use Rattle.walk.specs.Reader.{ItemDone}
 use Rattle.walk.proofs.Items.{size-some, chain-le}
 use Rattle.walk.proofs.Lines.{is-sync}
-use Rattle.walk.proofs.Says.{kind-says, site-says, weight-says}
+use Rattle.walk.proofs.Says.{kind-says, site-says, value-says}
 use Rattle.walk.proofs.Room.{lines-in}
 use Rattle.walk.proofs.Child.{cost-is, call-is, spawn-is, Child, child-is, cost-fits, child-work, deeper as child-deeper, child-row, child-ready, count-fits as child-fits, ChildDone, child-done}
 use Rattle.marks.specs.declared.Zones.{Zones}
@@ -49,9 +50,9 @@ shows-kept n a e m m₁ z k l kept s =
       C = zone-kept m m₁ (z .after) (z .own .at) (k .c) (λ i p q. kept i (λ x y. omega arith)) (s .C);
     }
 
-module _ {s : List ℕ} {deep : ℕ} {z : Zones} {t m rows : List ℕ} (l : Lent s deep z t m rows) where
+module _ {how : Weigh} {s : List ℕ} {deep : ℕ} {z : Zones} {t m rows : List ℕ} (l : Lent how s deep z t m rows) where
   line-in : z .own .at < length m
-  line-in = omega (arith, l .lines, lines-in s (l .ready .body) (z .own .at) (l .ready .stands), size-some (l .ready .body))
+  line-in = omega (arith, l .lines, lines-in how s (z .own .at) (z .row) (l .ready .body) (l .ready .reads), size-some (l .ready .body))
 
   -- whatever fits the chains
   step-asks : (v : ℕ) (m₁ : List ℕ) → length m₁ ≡ length m → z .own .prefix + (z .own .longest + z .own .since) + v < 2 ^ 64 → Fits m₁ z v
@@ -64,29 +65,29 @@ module _ {s : List ℕ} {deep : ℕ} {z : Zones} {t m rows : List ℕ} (l : Lent
   pub join-asks : Fits m z 0
   join-asks = step-asks 0 m refl (omega (arith, l .ready .load-fits))
 
-  pub sync-leaves : (kind : ℕ) → kind ≡ kindAt s (z .own .at) → kind ≡ 4 → (r : Zones) (m′ : List ℕ) → Joined m z r m′ → ItemLeaves s z m rows r m′ rows
+  pub sync-leaves : (kind : ℕ) → kind ≡ kindAt s (z .own .at) → kind ≡ 4 → (r : Zones) (m′ : List ℕ) → Joined m z r m′ → ItemLeaves how s z m rows r m′ rows
   sync-leaves kind reads k4 r m′ j b n k more h e sh =
-      let q = is-sync s (z .own .at) kind (kind-says s (z .own .at) (z .own .at) kind refl reads) b h k4 in
+      let q = is-sync how s (z .own .at) (z .row) kind (kind-says s (z .own .at) (z .own .at) kind refl reads) b h k4 in
       let d = j n k e sh in
       let o : z .own .work ≡ z .own .work + 0 = omega arith in
       subst (λ (x : Body). ItemLeft n x k z m rows r m′ rows) (sym (q .1))
       (left-is n (z .own .at + 1) (z .own .work) (leaf sync (q .0)) k z m rows r m′ rows d (record { numbers-are = d .numbers-are ∙ ap (λ (x : ℕ). numbers (z .own .at + 1) x (joined k)) o; rows-are = λ i l. omega (arith, cond-same (eqb (slot (z .row) Column.local) i)) }))
 
 -- the item is a cost of v
-pub record Costs (s : List ℕ) (deep : ℕ) (z : Zones) (t m rows : List ℕ) (kind v : ℕ) : Type 0 where
-  pub asks : ItemAsks s kind deep z t m rows
-  pub weight-is : v ≡ weightAt s (z .own .at)
+pub record Costs (how : Weigh) (s : List ℕ) (deep : ℕ) (z : Zones) (t m rows : List ℕ) (kind v : ℕ) : Type 0 where
+  pub asks : ItemAsks how s kind deep z t m rows
+  pub weight-is : v ≡ how (z .own .at) (z .row) (valueAt s (z .own .at))
   pub cost : kind ≡ 6
 
-module _ {s : List ℕ} {deep : ℕ} {z : Zones} {t m rows : List ℕ} {kind v : ℕ} (h : Costs s deep z t m rows kind v) where
-  spend-is : (b : Body) → Stands s (z .own .at) (linesOf b) → (r : Body) × (b ≡ leaf (spend v) r)
-  spend-is = cost-is s (z .own .at) kind (kind-says s (z .own .at) (z .own .at) kind refl (h .asks .kind-is)) v (weight-says s (z .own .at) (z .own .at) v refl (h .weight-is)) (h .cost)
+module _ {how : Weigh} {s : List ℕ} {deep : ℕ} {z : Zones} {t m rows : List ℕ} {kind v : ℕ} (h : Costs how s deep z t m rows kind v) where
+  spend-is : (b : Body) → Reads how s (z .own .at) (z .row) b → (r : Body) × (b ≡ leaf (spend v) r)
+  spend-is = cost-is how s (z .own .at) (z .row) kind (kind-says s (z .own .at) (z .own .at) kind refl (h .asks .kind-is)) (valueAt s (z .own .at)) v (value-says s (z .own .at) (z .own .at) (valueAt s (z .own .at)) refl refl) (h .weight-is) (h .cost)
 
   fit : ColumnFits rows (z .row) Column.local v × ((z .own .work + v < 2 ^ 64) × (z .own .prefix + (z .own .longest + z .own .since) + v < 2 ^ 64))
   fit =
       let y = h .asks .lent .ready in
-      let q = spend-is (y .body) (y .stands) in
-      cost-fits s (z .row) (h .asks .lent .sites) deep (z .own) rows y v (q .0) (q .1)
+      let q = spend-is (y .body) (y .reads) in
+      cost-fits how s (z .row) (h .asks .lent .sites) deep (z .own) rows y v (q .0) (q .1)
 
   pub rows-asks : ColumnFits rows (z .row) Column.local v
   rows-asks = fit .0
@@ -94,7 +95,7 @@ module _ {s : List ℕ} {deep : ℕ} {z : Zones} {t m rows : List ℕ} {kind v :
   pub spend-asks : Fits m z v × (z .own .work + v < 2 ^ 64)
   spend-asks = (step-asks (h .asks .lent) v m refl (fit .1 .1), fit .1 .0)
 
-  pub cost-leaves : (r : Zones) (m′ rows′ : List ℕ) → Grown rows (one (slot (z .row) Column.local) v) rows′ → Spent v m z r m′ → ItemLeaves s z m rows r m′ rows′
+  pub cost-leaves : (r : Zones) (m′ rows′ : List ℕ) → Grown rows (one (slot (z .row) Column.local) v) rows′ → Spent v m z r m′ → ItemLeaves how s z m rows r m′ rows′
   cost-leaves r m′ rows′ grown sp b n k more st e sh =
       let q = spend-is b st in
       let d = sp n k e sh in
@@ -102,14 +103,14 @@ module _ {s : List ℕ} {deep : ℕ} {z : Zones} {t m rows : List ℕ} {kind v :
       (left-is n (z .own .at + 1) (z .own .work + v) (leaf (spend v) (q .0)) k z m rows r m′ rows′ d (record { numbers-are = d .numbers-are; rows-are = grown }))
 
 -- the item is a call or a spawn of site
-pub record Calls (s : List ℕ) (deep : ℕ) (z : Zones) (t m rows : List ℕ) (kind site : ℕ) : Type 0 where
-  pub asks : ItemAsks s kind deep z t m rows
+pub record Calls (how : Weigh) (s : List ℕ) (deep : ℕ) (z : Zones) (t m rows : List ℕ) (kind site : ℕ) : Type 0 where
+  pub asks : ItemAsks how s kind deep z t m rows
   pub site-is : site ≡ siteAt s (z .own .at)
   pub no-cost : kind ≡ 6 → ⊥
   pub no-sync : kind ≡ 4 → ⊥
 
-module _ {s : List ℕ} {deep : ℕ} {z : Zones} {t m rows : List ℕ} {kind site : ℕ} (h : Calls s deep z t m rows kind site) where
-  abbrev l : Lent s deep z t m rows
+module _ {how : Weigh} {s : List ℕ} {deep : ℕ} {z : Zones} {t m rows : List ℕ} {kind site : ℕ} (h : Calls how s deep z t m rows kind site) where
+  abbrev l : Lent how s deep z t m rows
   l = h .asks .lent
 
   says : Says kindOf s (z .own .at) kind
@@ -118,20 +119,20 @@ module _ {s : List ℕ} {deep : ℕ} {z : Zones} {t m rows : List ℕ} {kind sit
   sited : Says siteOf s (z .own .at) site
   sited = site-says s (z .own .at) (z .own .at) site refl (h .site-is)
 
-  abbrev child : Child s (z .own .at) site (l .ready .body)
-  child = child-is s (z .own .at) kind site says sited (h .no-cost) (h .no-sync) (l .ready .body) (l .ready .stands) (h .asks .more)
+  abbrev child : Child how s (z .own .at) site (l .ready .body)
+  child = child-is how s (z .own .at) (z .row) kind site says sited (h .no-cost) (h .no-sync) (l .ready .body) (l .ready .reads) (h .asks .more)
 
   pub deeper : 1 ≤ deep
-  deeper = child-deeper s (z .row) (l .sites) deep (z .own) rows (l .ready) site child
+  deeper = child-deeper how s (z .row) (l .sites) deep (z .own) rows (l .ready) site child
 
   pub room : 8 ≤ length t
   room = omega (arith, l .room)
 
-  pub body-asks : (part : List ℕ) → Zero part → length part ≡ length t - 8 → BodyAsks s (z .own .at + 1) site (deep - 1) part m rows
+  pub body-asks : (part : List ℕ) → Zero part → length part ≡ length t - 8 → BodyAsks how s (z .own .at + 1) site (deep - 1) part m rows
   body-asks part zero long =
       record {
         sites = l .sites;
-        ready = child-ready s (z .row) (l .sites) deep (z .own) rows (l .ready) site child;
+        ready = child-ready how s (z .row) (l .sites) deep (z .own) rows (l .ready) site child;
         lines = l .lines;
         zero = zero;
         room = omega (arith, l .room, long, deeper);
@@ -143,7 +144,7 @@ module _ {s : List ℕ} {deep : ℕ} {z : Zones} {t m rows : List ℕ} {kind sit
 
   -- columns 2 and 3 of its row can be taken
   pub credit-asks : slot site Column.span < length rows
-  credit-asks = child-row s (z .row) (l .sites) deep (z .own) rows (l .ready) site child
+  credit-asks = child-row how s (z .row) (l .sites) deep (z .own) rows (l .ready) site child
 
   -- The child has returned: its numbers are c, and it left the marks m₁ and the rows rows₁. Before it, columns 2 and 3 of
   -- its row were taken.
@@ -151,17 +152,17 @@ module _ {s : List ℕ} {deep : ℕ} {z : Zones} {t m rows : List ℕ} {kind sit
     pub taken : before ≡ creditOf rows site
     pub marks-long : length m₁ ≡ length m
     pub rows-long : length rows₁ ≡ length rows
-    pub leaves : BodyLeaves s (z .own .at + 1) site m rows c m₁ rows₁
+    pub leaves : BodyLeaves how s (z .own .at + 1) site m rows c m₁ rows₁
 
   module _ {before : Credit} {c : Open} {m₁ rows₁ : List ℕ} (u : Back before c m₁ rows₁) where
     left : BodyLeft (z .own .at + 1) site (child .g) m rows c m₁ rows₁
-    left = u .leaves (child .g) (child .stands)
+    left = u .leaves (child .g) (child .reads)
 
     pub count-asks : ReturnFits before rows₁ site (c .work) (c .prefix)
-    count-asks = child-fits s (z .row) (l .sites) deep (z .own) rows (l .ready) site child before c rows₁ (u .taken) (u .rows-long) (left .done)
+    count-asks = child-fits how s (z .row) (l .sites) deep (z .own) rows (l .ready) site child before c rows₁ (u .taken) (u .rows-long) (left .done)
 
     both : (z .own .work + workOf (child .g) < 2 ^ 64) × (z .own .prefix + (z .own .longest + z .own .since) + workOf (child .g) < 2 ^ 64)
-    both = child-work s (z .row) (l .sites) deep (z .own) rows (l .ready) site child
+    both = child-work how s (z .row) (l .sites) deep (z .own) rows (l .ready) site child
 
     pub called-asks : Fits m₁ z (c .prefix) × (z .own .work + c .work < 2 ^ 64)
     called-asks = (
@@ -172,12 +173,12 @@ module _ {s : List ℕ} {deep : ℕ} {z : Zones} {t m rows : List ℕ} {kind sit
     pub spawned-asks : Fits m₁ z (c .prefix) × ((z .own .work + c .work < 2 ^ 64) × ((z .own .at < c .at) × (c .at ≤ length m₁)))
     spawned-asks =
         let at = ap (λ (x : Open). x .at) (left .done .numbers-are) in
-        (called-asks .0, (called-asks .1, (omega (arith, at), omega (arith, at, u .marks-long, l .lines, lines-in s (child .g) (z .own .at + 1) (child .stands)))))
+        (called-asks .0, (called-asks .1, (omega (arith, at), omega (arith, at, u .marks-long, l .lines, lines-in how s (z .own .at + 1) site (child .g) (child .reads)))))
 
     -- it was counted, and the step left r and the marks m₂
     module _ {rows₂ : List ℕ} (counts : Returned before site (c .work) (c .prefix) rows₁ rows₂) (r : Zones) (m₂ : List ℕ) where
       -- the child's body is g: what the step asks for and leaves, as the item's
-      behind : (n : ℕ) (k : Chains) (g b : Body) (x : Chains) → Stands s (z .own .at + 1) (linesOf g) → Shows n m z k
+      behind : (n : ℕ) (k : Chains) (g b : Body) (x : Chains) → Reads how s (z .own .at + 1) site g → Shows n m z k
           → (weight (chainOf (z .own .at + 1) site g) ≡ c .prefix → Shows n m₁ z k → z .own .at < c .at → Zone m₁ (z .own .at + 1) (c .at) (chainOf (z .own .at + 1) site g) → At n (c .at) (z .own .work + c .work) x m₁ z r m₂)
           → (ChildDone (z .own) site rows g c rows₂ → r .own ≡ numbers (c .at) (z .own .work + c .work) x → ItemDone (z .row) (z .own) rows b k (r .own) rows₂)
           → x ≡ itemChains (z .own .at) (z .row) b k → ItemLeft n b k z m rows r m₂ rows₂
@@ -194,16 +195,16 @@ module _ {s : List ℕ} {deep : ℕ} {z : Zones} {t m rows : List ℕ} {kind sit
                 q .kept j (λ p w. o p (omega (arith, to))) ∙ d .kept j (λ p w. o (omega (arith, sh .begins, sh .then, sh .ends)) (omega (arith, to)));
           }
 
-      pub call-leaves : kind ≡ 2 → Called m₁ z c r m₂ → ItemLeaves s z m rows r m₂ rows₂
+      pub call-leaves : kind ≡ 2 → Called m₁ z c r m₂ → ItemLeaves how s z m rows r m₂ rows₂
       call-leaves k2 step b n k more st e sh =
-          let q = call-is s (z .own .at) kind says site sited b st k2 in
+          let q = call-is how s (z .own .at) (z .row) kind says site sited b st k2 in
           let g = chainOf (z .own .at + 1) site (q .0) in
           subst (λ (x : Body). ItemLeft n x k z m rows r m₂ rows₂) (sym (q .2))
           (behind n k (q .0) (nested call site (q .0) (q .1)) (called g k) (q .3) sh (step n k g e) (λ v w. record { numbers-are = w ∙ v .numbers-are (called g k); rows-are = v .rows-are }) refl)
 
-      pub spawn-leaves : (kind ≡ 2 → ⊥) → Spawned m₁ z c r m₂ → ItemLeaves s z m rows r m₂ rows₂
+      pub spawn-leaves : (kind ≡ 2 → ⊥) → Spawned m₁ z c r m₂ → ItemLeaves how s z m rows r m₂ rows₂
       spawn-leaves k2 step b n k more st e sh =
-          let q = spawn-is s (z .own .at) kind says site sited (h .no-cost) (h .no-sync) b st more k2 in
+          let q = spawn-is how s (z .own .at) (z .row) kind says site sited (h .no-cost) (h .no-sync) b st more k2 in
           let g = chainOf (z .own .at + 1) site (q .0) in
           subst (λ (x : Body). ItemLeft n x k z m rows r m₂ rows₂) (sym (q .2))
           (behind n k (q .0) (nested spawn site (q .0) (q .1)) (spawned g k) (q .3) sh (step n k g e) (λ v w. record { numbers-are = w ∙ v .numbers-are (spawned g k); rows-are = v .rows-are }) refl)

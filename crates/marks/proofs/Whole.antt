@@ -1,7 +1,7 @@
 -- From acceptance to the promise: what the two readings of the root ask for, and what they come to.
 use mathlib.Core.Path.{_≡_, refl, ap, _∙_, sym, subst}
 use mathlib.Core.Bool.{Bool, cond}
-use mathlib.Core.List.{List}
+use mathlib.Core.List.{List, [], _∷_}
 use Prim.Native.Nat.{ℕ, _+_, _*_, _-_, _≤_, _<_}
 use native.Mathlib.Decide.{decLt}
 use native.Mathlib.Omega.{arith}
@@ -10,29 +10,33 @@ use Rattle.line.specs.declared.Frame.{Frame}
 use Rattle.chain.specs.Over.{linesIn}
 use Rattle.trace.specs.declared.Answer.{Answer}
 use Rattle.trace.specs.declared.Answer.the-variants.{Accepted, Refused}
-use Rattle.trace.specs.Shape.{has, sites}
+use Rattle.trace.specs.Shape.{has}
 use Rattle.trace.specs.Rows.{columns}
 use Rattle.trace.specs.Column.{Column, slot}
-use Rattle.trace.specs.Refusals.{refused, verdict}
+use Rattle.trace.specs.Refusals.{verdict}
 use Rattle.trace.specs.Promise.{marks, Lent, enough, scratchRoom, rowsRoom, marksRoom, Profile, Promise}
 use Rattle.trace.specs.ByTree.{cell, ProfileBy}
-use Rattle.trace.specs.Tree.{Body, linesOf, size, Within, Parts, workOf, spanOf}
+use Rattle.trace.specs.Tree.{Body, size, Within, workOf, spanOf}
 use Rattle.trace.specs.Fold.{nothing, chainOf, onRow}
-use Rattle.trace.proofs.Basics.{clash}
 use Rattle.trace.proofs.Slots.{slot-in, is-column}
-use Rattle.trace.proofs.Scan.{Fine, accepted-is, accepted-same}
-use Rattle.trace.proofs.Outcome.{tree-profile, work-small, length-is, profile-same}
+use Rattle.trace.proofs.Scan.{accepted-is, accepted-same}
 use Rattle.admit.specs.declared.Verdict.the-variants as Verdict
 use Rattle.admit.specs.Answer.{admission}
 use Rattle.admit.proofs.Admitted.{refused-only, accepted-only}
+use Rattle.weigh.specs.Weighed.{Weigh, Tabled, reweighed}
+use Rattle.forecast.specs.declared.Listed.{Listed}
+use Rattle.forecast.specs.OfList.{ForecastOf}
 use Rattle.walk.specs.declared.Open.{Open}
 use Rattle.walk.specs.declared.Credit.{Credit}
-use Rattle.walk.specs.Stands.{Stands}
+use Rattle.walk.specs.Weight.{byFactors}
+use Rattle.walk.specs.Reads.{Reads}
 use Rattle.walk.specs.Gain.{creditOf, ReturnFits, Returned}
-use Rattle.walk.proofs.Root.{tree}
+use Rattle.walk.specs.Profiled.{Profiled}
+use Rattle.walk.proofs.Weight.{weight-plain}
+use Rattle.walk.proofs.Profiled.{kept-refused, text-refused, plain-promise}
 use Rattle.walk.proofs.Room.{lines-in}
 use Rattle.walk.proofs.Zeros.{zeros-at}
-use Rattle.walk.proofs.Accepted.{fine, limits, rooms, rows-room, cleared, body, stands, ready, row-there, work-is, span-is, count-fits, cells, none-on, rest, first, first-is}
+use Rattle.walk.proofs.Accepted.{limits, rooms, rows-room, cleared, first, row-there, trace, root, body, first-is, lines-are, within, small, reads, ready, profiled, work-is, span-is, count-fits, cells, none-on, rest}
 use Rattle.marks.specs.Shown.{Wiped}
 use Rattle.marks.specs.Reader.{BodyAsks, BodyLeft, BodyLeaves}
 use Rattle.marks.specs.Column.{onGain, ColumnAsks, ColumnLeaves}
@@ -45,21 +49,12 @@ module _ {s : List ℕ} {D M : ℕ} {x : Lent} {count lines : ℕ} (a : Admitted
   abbrev t : List Frame
   t = a .frames
 
-  abbrev b : Body
-  b = body marks s D M x t (a .is) count (a .count-is)
-
-  -- the line at which it begins
+  -- the line at which the root's body begins
   abbrev at : ℕ
   at = first marks s D M x t (a .is) count (a .count-is)
 
   abbrev rows₀ : List ℕ
   rows₀ = cleared marks s D M x t (a .is) count (a .count-is)
-
-  abbrev good : Fine D M t
-  good = fine marks s D M x t (a .is) count (a .count-is)
-
-  here : Stands s at (linesOf b)
-  here = stands marks s D M x t (a .is) count (a .count-is)
 
   long : (scratchRoom marks D M ≤ length (x .scratch)) × (rowsRoom M ≤ length (x .rows)) × (marksRoom marks s ≤ length (x .marks))
   long = rooms marks s D M x t (a .is) count (a .count-is)
@@ -70,18 +65,12 @@ module _ {s : List ℕ} {D M : ℕ} {x : Lent} {count lines : ℕ} (a : Admitted
   pub rows-in : columns * (count + 1) ≤ length (x .rows)
   rows-in = rows-room marks s D M x t (a .is) count (a .count-is)
 
-  lines-are : lines ≡ at + size b
-  lines-are = omega (arith, a .lines-is, length-is D t (tree D M t good), first-is marks s D M x t (a .is) count (a .count-is))
-
   -- each line of the text has a mark
   text-in : length s ≤ 23 * length (x .marks)
   text-in =
       let r = long .2 in
       let w = accepted-is s D M (enough marks s D M x) t (a .is) .1 .whole-lines in
       omega arith
-
-  pub marks-in : at ≤ length (x .marks)
-  marks-in = omega (arith, text-in, lines-in s b at here)
 
   -- the scratch, the rows, and the marks of the sites were cleared, and go by these names
   pub record Blank (t₁ m₁ r₁ : List ℕ) : Type 0 where
@@ -90,147 +79,155 @@ module _ {s : List ℕ} {D M : ℕ} {x : Lent} {count lines : ℕ} (a : Admitted
     pub marks-same : length m₁ ≡ length (x .marks)
     pub rows-are : r₁ ≡ rows₀
 
-  -- the first reading
-  pub body-asks : {t₁ m₁ r₁ : List ℕ} → Blank t₁ m₁ r₁ → BodyAsks s at 0 (D - 1) t₁ m₁ r₁
-  body-asks {t₁} {m₁} {r₁} o =
-      subst (λ (y : List ℕ). BodyAsks s at 0 (D - 1) t₁ m₁ y) (sym (o .rows-are))
-      (record {
-        sites = sites t;
-        ready = ready marks s D M x t (a .is) count (a .count-is);
-        lines = omega (arith, text-in, o .marks-same);
-        zero = λ j. ap (λ (y : List ℕ). getD y j 0) (o .scratch-is) ∙ zeros-at (length (x .scratch)) j;
-        room = omega (arith, long .0, bounds .0, ap length (o .scratch-is), length-replicate {A = ℕ} (length (x .scratch)) 0);
-        n = at;
-        k = nothing;
-        weighs = refl;
-        shows = shows-begun at 0 m₁;
-      })
-
   -- columns 2 and 3 of its row can be taken
   pub credit-asks : {t₁ m₁ r₁ : List ℕ} → Blank t₁ m₁ r₁ → slot 0 Column.span < length r₁
   credit-asks o = omega (arith, ap length (o .rows-are), row-there marks s D M x t (a .is) count (a .count-is))
 
-  -- The root was read: its numbers are c, and it left the scratch t₂ zero, the marks m₂ and the rows rows₁. Before it,
-  -- columns 2 and 3 of its row were taken.
-  pub record Read (before : Credit) (c : Open) (t₂ m₂ rows₁ : List ℕ) : Type 0 where
-    pub t₁ : List ℕ
-    pub m₁ : List ℕ
-    pub r₁ : List ℕ
-    pub blank : Blank t₁ m₁ r₁
-    pub taken : before ≡ creditOf r₁ 0
-    pub zero : t₂ ≡ replicate (length (x .scratch)) 0
-    pub marks-same : length m₂ ≡ length (x .marks)
-    pub rows-same : length rows₁ ≡ length (x .rows)
-    pub leaves : BodyLeaves s at 0 m₁ r₁ c m₂ rows₁
+  -- its cost lines weigh so
+  module _ (how : Weigh) (tabled : Tabled how) where
+    abbrev b : Body
+    b = body marks s D M x t (a .is) count (a .count-is) how tabled
 
-  module _ {before : Credit} {c : Open} {t₂ m₂ rows₁ : List ℕ} (u : Read before c t₂ m₂ rows₁) where
-    took : before ≡ creditOf rows₀ 0
-    took = u .taken ∙ ap (λ (y : List ℕ). creditOf y 0) (u .blank .rows-are)
+    here : Reads how s at 0 b
+    here = reads marks s D M x t (a .is) count (a .count-is) how tabled
 
-    left : BodyLeft at 0 b (u .m₁) rows₀ c m₂ rows₁
-    left = subst (λ (y : List ℕ). BodyLeft at 0 b (u .m₁) y c m₂ rows₁) (u .blank .rows-are) (u .leaves b here)
+    in-limits : Within count D 1 b
+    in-limits = within marks s D M x t (a .is) count (a .count-is) how tabled
 
-    at-is : c .at ≡ at + size b
-    at-is = ap (λ (y : Open). y .at) (left .done .numbers-are)
+    ends : lines ≡ at + size b
+    ends = omega (arith, a .lines-is, lines-are marks s D M x t (a .is) count (a .count-is) how tabled)
 
-    pub count-asks : ReturnFits before rows₁ 0 (c .work) (c .prefix)
-    count-asks = count-fits marks s D M x t (a .is) count (a .count-is) before took c rows₁ (u .rows-same) (left .done)
+    pub marks-in : at ≤ length (x .marks)
+    marks-in = omega (arith, text-in, lines-in how s at 0 b here)
 
-    -- the root was counted
-    module _ (rows₂ : List ℕ) (counts : Returned before 0 (c .work) (c .prefix) rows₁ rows₂) (lr₂ : length rows₂ ≡ length (x .rows)) where
-      abbrev p : Parts D t
-      p = tree D M t good
+    -- the first reading
+    pub body-asks : {t₁ m₁ r₁ : List ℕ} → Blank t₁ m₁ r₁ → BodyAsks how s at 0 (D - 1) t₁ m₁ r₁
+    body-asks {t₁} {m₁} {r₁} o =
+        subst (λ (y : List ℕ). BodyAsks how s at 0 (D - 1) t₁ m₁ y) (sym (o .rows-are))
+        (record {
+          sites = count;
+          ready = ready marks s D M x t (a .is) count (a .count-is) how tabled;
+          lines = omega (arith, text-in, o .marks-same);
+          zero = λ j. ap (λ (y : List ℕ). getD y j 0) (o .scratch-is) ∙ zeros-at (length (x .scratch)) j;
+          room = omega (arith, long .0, bounds .0, ap length (o .scratch-is), length-replicate {A = ℕ} (length (x .scratch)) 0);
+          n = at;
+          k = nothing;
+          weighs = refl;
+          shows = shows-begun at 0 m₁;
+        })
 
-      within : Within count D 1 b
-      within = subst (λ (k : ℕ). Within k D 1 b) (a .count-is) (p .within)
+    -- The root was read: its numbers are c, and it left the scratch t₂ zero, the marks m₂ and the rows rows₁. Before it,
+    -- columns 2 and 3 of its row were taken.
+    pub record Read (before : Credit) (c : Open) (t₂ m₂ rows₁ : List ℕ) : Type 0 where
+      pub t₁ : List ℕ
+      pub m₁ : List ℕ
+      pub r₁ : List ℕ
+      pub blank : Blank t₁ m₁ r₁
+      pub taken : before ≡ creditOf r₁ 0
+      pub zero : t₂ ≡ replicate (length (x .scratch)) 0
+      pub marks-same : length m₂ ≡ length (x .marks)
+      pub rows-same : length rows₁ ≡ length (x .rows)
+      pub leaves : BodyLeaves how s at 0 m₁ r₁ c m₂ rows₁
 
-      -- the second reading
-      pub on-asks : ColumnAsks s at lines t₂ m₂ rows₂
-      on-asks =
-          record {
-            body = b;
-            ends = omega (arith, lines-are);
-            lent =
-                record {
-                  sites = count;
-                  D = D;
-                  stand = (here, tt);
-                  within = (omega arith, omega (arith, bounds .0), within, tt);
-                  zero = λ j. ap (λ (y : List ℕ). getD y j 0) (u .zero) ∙ zeros-at (length (x .scratch)) j;
-                  room = omega (arith, long .0, ap length (u .zero), length-replicate {A = ℕ} (length (x .scratch)) 0);
-                  held = (refl, refl, refl);
-                  rows-long = omega (arith, lr₂, rows-in);
-                  lines = omega (arith, text-in, u .marks-same);
-                  fits = λ j l.
-                      omega (
-                        arith,
-                        none-on marks s D M x t (a .is) count (a .count-is) before took c rows₁ (u .rows-same) (left .done) rows₂ counts j l,
-                        on-le m₂ (slot j Column.onSpan) b count 0,
-                        work-small D t p M good,
-                      );
-                };
-          }
+    module _ {before : Credit} {c : Open} {t₂ m₂ rows₁ : List ℕ} (u : Read before c t₂ m₂ rows₁) where
+      took : before ≡ creditOf rows₀ 0
+      took = u .taken ∙ ap (λ (y : List ℕ). creditOf y 0) (u .blank .rows-are)
 
-      -- what it left
-      module _ (t₃ rows₃ : List ℕ) (on : ColumnLeaves s at lines t₂ m₂ rows₂ rows₃) (same : t₃ ≡ t₂) (lr₃ : length rows₃ ≡ length (x .rows)) where
-        abbrev answer : Answer
-        answer = Accepted (c .work) (c .prefix) count lines
+      left : BodyLeft at 0 b (u .m₁) rows₀ c m₂ rows₁
+      left = subst (λ (y : List ℕ). BodyLeft at 0 b (u .m₁) y c m₂ rows₁) (u .blank .rows-are) (u .leaves b here)
 
-        grown : (i : ℕ) → i < length (x .rows) → getD rows₃ i 0 ≡ getD rows₂ i 0 + onGain m₂ at 0 b i
-        unfolding on-asks
-        grown i l = on on-asks i (omega (arith, lr₂))
+      at-is : c .at ≡ at + size b
+      at-is = ap (λ (y : Open). y .at) (left .done .numbers-are)
 
-        shown : (i : ℕ) → at ≤ i → i < at + size b → getD m₂ i 0 ≡ cond (has i (linesIn (chainOf at 0 b))) 1 0
-        shown i l r = left .zone .marks-are i l (omega (arith, at-is))
+      pub count-asks : ReturnFits before rows₁ 0 (c .work) (c .prefix)
+      count-asks = count-fits marks s D M x t (a .is) count (a .count-is) how tabled before took c rows₁ (u .rows-same) (left .done)
 
-        on-is : (k : ℕ) → onGain m₂ count 0 b (slot k Column.onSpan) ≡ onRow k (chainOf count 0 b)
-        on-is k =
-            subst (λ (h : ℕ). ((i : ℕ) → h ≤ i → i < h + size b → getD m₂ i 0 ≡ cond (has i (linesIn (chainOf h 0 b))) 1 0) → onGain m₂ h 0 b (slot k Column.onSpan) ≡ onRow k (chainOf h 0 b)) (first-is marks s D M x t (a .is) count (a .count-is)) (on-row D t p m₂ k) shown
-
-        cells-are : (k : ℕ) (j : Column) → k ≤ count → getD rows₃ (slot k j) 0 ≡ cell count b k j
-        cells-are k j h = go (is-column j Column.onSpan)
-          where
-            in-rows : slot k j < length (x .rows)
-            in-rows = omega (arith, slot-in count k j h, rows-in)
-
-            go : Dec (j ≡ Column.onSpan) → getD rows₃ (slot k j) 0 ≡ cell count b k j
-            go (no q) = omega (arith, grown (slot k j) in-rows, on-cross m₂ j k q b count 0, cells marks s D M x t (a .is) count (a .count-is) before took c rows₁ (u .rows-same) (left .done) rows₂ counts k j h q)
-            go (yes e) =
-                rw e (omega (arith, grown (slot k Column.onSpan) (omega (arith, rows-in)), none-on marks s D M x t (a .is) count (a .count-is) before took c rows₁ (u .rows-same) (left .done) rows₂ counts k h, on-is k))
-
-        rest-is : (i : ℕ) → columns * (count + 1) ≤ i → getD rows₃ i 0 ≡ getD (x .rows) i 0
-        rest-is i h = go (decLt i (length (x .rows)))
-          where
-            go : Dec (i < length (x .rows)) → getD rows₃ i 0 ≡ getD (x .rows) i 0
-            go (yes q) = omega (arith, grown i q, on-out m₂ count D 1 i b at 0 within (omega arith) h, rest marks s D M x t (a .is) count (a .count-is) before took c rows₁ (u .rows-same) (left .done) rows₂ counts i h q)
-            go (no q) = List·getD-eq-default rows₃ 0 {n = i} (omega arith) ∙ sym (List·getD-eq-default (x .rows) 0 {n = i} (omega arith))
-
-        marks-are : (k : ℕ) → k < at + size b → getD m₂ k 0 ≡ cond (has k (linesIn (chainOf at 0 b))) 1 0
-        marks-are k l = go (decLt k at)
-          where
-            go : Dec (k < at) → getD m₂ k 0 ≡ cond (has k (linesIn (chainOf at 0 b))) 1 0
-            go (yes q) =
-                left .kept k (λ v w. omega arith)
-                ∙ u .blank .sites-off .gone k (omega arith) q
-                ∙ ap (λ (y : Bool). cond y 1 0) (sym (outside k at (c .at) (chainOf at 0 b) (left .zone .inside) (λ v w. omega arith)))
-            go (no q) = shown k (omega arith) l
-
-        by-tree : ProfileBy marks count at b x answer (lent t₃ m₂ rows₃)
-        by-tree =
+      -- the root was counted
+      module _ (rows₂ : List ℕ) (counts : Returned before 0 (c .work) (c .prefix) rows₁ rows₂) (lr₂ : length rows₂ ≡ length (x .rows)) where
+        -- the second reading
+        pub on-asks : ColumnAsks how s at lines t₂ m₂ rows₂
+        on-asks =
             record {
-              answer = ap (λ (y : ℕ). Accepted y (c .prefix) count lines) (work-is marks s D M x t (a .is) count (a .count-is) before took c rows₁ (u .rows-same) (left .done)) ∙ ap (λ (y : ℕ). Accepted (workOf b) y count lines) (span-is marks s D M x t (a .is) count (a .count-is) before took c rows₁ (u .rows-same) (left .done)) ∙ ap (Accepted (workOf b) (spanOf b) count) lines-are;
-              rows = record { same-length = lr₃; cells = cells-are; rest = rest-is };
-              scratch = same ∙ u .zero;
-              marked = record { same-length = u .marks-same; marks-are = marks-are; rest = λ k l. left .kept k (λ v w. omega (arith, at-is)) ∙ u .blank .sites-off .rest k (λ v w. omega arith) };
+              body = b;
+              ends = omega (arith, ends);
+              lent =
+                  record {
+                    sites = count;
+                    D = D;
+                    reads = (here, tt);
+                    within = (omega arith, omega (arith, bounds .0), in-limits, tt);
+                    zero = λ j. ap (λ (y : List ℕ). getD y j 0) (u .zero) ∙ zeros-at (length (x .scratch)) j;
+                    room = omega (arith, long .0, ap length (u .zero), length-replicate {A = ℕ} (length (x .scratch)) 0);
+                    held = (refl, refl, refl);
+                    rows-long = omega (arith, lr₂, rows-in);
+                    lines = omega (arith, text-in, u .marks-same);
+                    fits = λ j l.
+                        omega (
+                          arith,
+                          none-on marks s D M x t (a .is) count (a .count-is) how tabled before took c rows₁ (u .rows-same) (left .done) rows₂ counts j l,
+                          on-le m₂ (slot j Column.onSpan) b count 0,
+                          small marks s D M x t (a .is) count (a .count-is) how tabled,
+                        );
+                  };
             }
 
-        pub promised : Promise marks s D M x answer (lent t₃ m₂ rows₃)
-        promised =
-            let h = tree-profile D t p marks x answer (lent t₃ m₂ rows₃) (profile-same marks x answer (lent t₃ m₂ rows₃) (a .count-is) (first-is marks s D M x t (a .is) count (a .count-is)) refl by-tree) in
-            record {
-              when-accepted = λ u e. subst (λ (y : List Frame). Profile marks y x answer (lent t₃ m₂ rows₃)) (accepted-same t u (sym (a .is) ∙ e)) h;
-              when-refused = λ k n e. clash (let z = sym (a .is) ∙ e in cc);
-            }
+        -- what it left
+        module _ (t₃ rows₃ : List ℕ) (on : ColumnLeaves how s at lines t₂ m₂ rows₂ rows₃) (same : t₃ ≡ t₂) (lr₃ : length rows₃ ≡ length (x .rows)) where
+          abbrev answer : Answer
+          answer = Accepted (c .work) (c .prefix) count lines
+
+          grown : (i : ℕ) → i < length (x .rows) → getD rows₃ i 0 ≡ getD rows₂ i 0 + onGain m₂ at 0 b i
+          unfolding on-asks
+          grown i l = on on-asks i (omega (arith, lr₂))
+
+          shown : (i : ℕ) → at ≤ i → i < at + size b → getD m₂ i 0 ≡ cond (has i (linesIn (chainOf at 0 b))) 1 0
+          shown i l r = left .zone .marks-are i l (omega (arith, at-is))
+
+          on-is : (k : ℕ) → onGain m₂ count 0 b (slot k Column.onSpan) ≡ onRow k (chainOf count 0 b)
+          on-is k =
+              subst (λ (h : ℕ). ((i : ℕ) → h ≤ i → i < h + size b → getD m₂ i 0 ≡ cond (has i (linesIn (chainOf h 0 b))) 1 0) → onGain m₂ h 0 b (slot k Column.onSpan) ≡ onRow k (chainOf h 0 b)) (first-is marks s D M x t (a .is) count (a .count-is) how tabled) (on-row D (trace marks s D M x t (a .is) count (a .count-is) how tabled) (root marks s D M x t (a .is) count (a .count-is) how tabled) m₂ k) shown
+
+          cells-are : (k : ℕ) (j : Column) → k ≤ count → getD rows₃ (slot k j) 0 ≡ cell count b k j
+          cells-are k j h = go (is-column j Column.onSpan)
+            where
+              in-rows : slot k j < length (x .rows)
+              in-rows = omega (arith, slot-in count k j h, rows-in)
+
+              go : Dec (j ≡ Column.onSpan) → getD rows₃ (slot k j) 0 ≡ cell count b k j
+              go (no q) = omega (arith, grown (slot k j) in-rows, on-cross m₂ j k q b count 0, cells marks s D M x t (a .is) count (a .count-is) how tabled before took c rows₁ (u .rows-same) (left .done) rows₂ counts k j h q)
+              go (yes e) =
+                  rw e (omega (arith, grown (slot k Column.onSpan) (omega (arith, rows-in)), none-on marks s D M x t (a .is) count (a .count-is) how tabled before took c rows₁ (u .rows-same) (left .done) rows₂ counts k h, on-is k))
+
+          rest-is : (i : ℕ) → columns * (count + 1) ≤ i → getD rows₃ i 0 ≡ getD (x .rows) i 0
+          rest-is i h = go (decLt i (length (x .rows)))
+            where
+              go : Dec (i < length (x .rows)) → getD rows₃ i 0 ≡ getD (x .rows) i 0
+              go (yes q) = omega (arith, grown i q, on-out m₂ count D 1 i b at 0 in-limits (omega arith) h, rest marks s D M x t (a .is) count (a .count-is) how tabled before took c rows₁ (u .rows-same) (left .done) rows₂ counts i h q)
+              go (no q) = List·getD-eq-default rows₃ 0 {n = i} (omega arith) ∙ sym (List·getD-eq-default (x .rows) 0 {n = i} (omega arith))
+
+          marks-are : (k : ℕ) → k < at + size b → getD m₂ k 0 ≡ cond (has k (linesIn (chainOf at 0 b))) 1 0
+          marks-are k l = go (decLt k at)
+            where
+              go : Dec (k < at) → getD m₂ k 0 ≡ cond (has k (linesIn (chainOf at 0 b))) 1 0
+              go (yes q) =
+                  left .kept k (λ v w. omega arith)
+                  ∙ u .blank .sites-off .gone k (omega arith) q
+                  ∙ ap (λ (y : Bool). cond y 1 0) (sym (outside k at (c .at) (chainOf at 0 b) (left .zone .inside) (λ v w. omega arith)))
+              go (no q) = shown k (omega arith) l
+
+          by-tree : ProfileBy marks count at b x answer (lent t₃ m₂ rows₃)
+          by-tree =
+              record {
+                answer = ap (λ (y : ℕ). Accepted y (c .prefix) count lines) (work-is marks s D M x t (a .is) count (a .count-is) how tabled before took c rows₁ (u .rows-same) (left .done)) ∙ ap (λ (y : ℕ). Accepted (workOf b) y count lines) (span-is marks s D M x t (a .is) count (a .count-is) how tabled before took c rows₁ (u .rows-same) (left .done)) ∙ ap (Accepted (workOf b) (spanOf b) count) ends;
+                rows = record { same-length = lr₃; cells = cells-are; rest = rest-is };
+                scratch = same ∙ u .zero;
+                marked = record { same-length = u .marks-same; marks-are = marks-are; rest = λ k l. left .kept k (λ v w. omega (arith, at-is)) ∙ u .blank .sites-off .rest k (λ v w. omega arith) };
+              }
+
+          pub promised : Profiled marks how s D M x answer (lent t₃ m₂ rows₃)
+          promised u e =
+              let h = profiled marks s D M x t (a .is) count (a .count-is) how tabled answer (lent t₃ m₂ rows₃) by-tree in
+              subst (λ (y : List Frame). Profile marks (reweighed how 0 (0 ∷ []) y) x answer (lent t₃ m₂ rows₃)) (accepted-same t u (sym (a .is) ∙ e)) h
 
 -- what the answer of acceptance says
 module _ (s : List ℕ) (D M : ℕ) (x : Lent) where
@@ -242,5 +239,13 @@ module _ (s : List ℕ) (D M : ℕ) (x : Lent) where
   pub refuses : (number line : ℕ) → Verdict.Refused number line ≡ admission marks s D M (length (x .scratch)) (length (x .rows)) (length (x .marks)) → Promise marks s D M x (Refused number line) x
   refuses number line e =
       let v = verdict s D M (enough marks s D M x) in
-      let h : v ≡ refused number line = refused-only v number line e in
-      record { when-accepted = λ t q. clash (let z = sym h ∙ q in cc); when-refused = λ n k q. (let z = sym h ∙ q in (cc), refl) }
+      kept-refused marks v x number line (refused-only v number line e)
+
+  -- whatever is asked
+  pub unasked : (l : Listed) (number line : ℕ) → Verdict.Refused number line ≡ admission marks s D M (length (x .scratch)) (length (x .rows)) (length (x .marks))
+      → ForecastOf marks l s D M x (Refused number line) x
+  unasked l number line e = text-refused marks s D M x l number line (refused-only (verdict s D M (enough marks s D M x)) number line e)
+
+-- with no factor it is the plain profile
+pub plain : {s : List ℕ} {D M : ℕ} {x : Lent} {count lines : ℕ} → Admitted s D M x count lines → (r : Answer) (y : Lent) → Profiled marks (byFactors []) s D M x r y → Promise marks s D M x r y
+plain {s} {D} {M} {x} a r y h = plain-promise marks s D M x (a .frames) (a .is) (byFactors []) weight-plain r y h

@@ -1,5 +1,5 @@
 -- For proofs and engines, not for the reader of document 01: what the second reading, for the on-span column, asks
--- for and leaves. m are the marks.
+-- for and leaves. m are the marks, and how is what a cost line weighs.
 use Prim.Native.Nat.{ℕ, _+_, _*_, _^_, _≤_, _<_}
 use mathlib.Core.Path.{_≡_}
 use mathlib.Core.Bool.{cond}
@@ -9,8 +9,9 @@ use lib.ListN.{length, getD, set}
 use Rattle.line.specs.Read.{width}
 use Rattle.trace.specs.Rows.{columns}
 use Rattle.trace.specs.Column.{Column, slot}
-use Rattle.trace.specs.Tree.{leafWork, Body, done, leaf, child, linesOf, size, Within}
-use Rattle.walk.specs.Stands.{Stands}
+use Rattle.trace.specs.Tree.{leafWork, Body, done, leaf, child, size, Within}
+use Rattle.weigh.specs.Weighed.{Weigh}
+use Rattle.walk.specs.Reads.{Reads}
 use Rattle.walk.specs.Gain.{one, Grown}
 use Rattle.marks.specs.declared.Present.{Present}
 use Rattle.marks.specs.Park.{Zero}
@@ -35,11 +36,11 @@ pub record Left : Type 0 where
 abbrev pub left : ℕ → Body → Left
 left s b = record { row = s; body = b }
 
--- All open invocations are a list, the innermost first. What is left of each stands behind what is left of those
+-- All open invocations are a list, the innermost first. What is left of each is read behind what is left of those
 -- inside it, from line n on.
-abbrev pub AllStand : List ℕ → ℕ → List Left → Type 0
-AllStand s n [] = Unit {0}
-AllStand s n (x ∷ k) = Stands s n (linesOf (x .body)) × AllStand s (n + size (x .body)) k
+abbrev pub AllRead : Weigh → List ℕ → ℕ → List Left → Type 0
+AllRead how s n [] = Unit {0}
+AllRead how s n (x ∷ k) = Reads how s n (x .row) (x .body) × AllRead how s (n + size (x .body)) k
 
 -- how many lines are left
 abbrev pub linesLeft : List Left → ℕ
@@ -97,12 +98,12 @@ pub record Returned (t : List ℕ) (a r : Present) (t′ : List ℕ) : Type 0 wh
   pub last : a .around ≡ 0 → (r ≡ a) × (t′ ≡ t)
   pub inner : (d : ℕ) → a .around ≡ d + 1 → (r ≡ record { row = getD t d 0; around = d }) × (t′ ≡ set t d 0)
 
--- What is left of the open invocations k stands from line n on, and each line of the text has a mark. z is the
+-- What is left of the open invocations k is read from line n on, and each line of the text has a mark. z is the
 -- scratch where none is open: it is zero, and has room for all rows. The on-span numbers fit.
-pub record OnLent (s : List ℕ) (n : ℕ) (k : List Left) (z : List ℕ) (a : Present) (t m rows : List ℕ) : Type 0 where
+pub record OnLent (how : Weigh) (s : List ℕ) (n : ℕ) (k : List Left) (z : List ℕ) (a : Present) (t m rows : List ℕ) : Type 0 where
   pub sites : ℕ
   pub D : ℕ
-  pub stand : AllStand s n k
+  pub reads : AllRead how s n k
   pub within : AllWithin sites D k
   pub zero : Zero z
   pub room : D ≤ length z
@@ -112,23 +113,23 @@ pub record OnLent (s : List ℕ) (n : ℕ) (k : List Left) (z : List ℕ) (a : P
   pub fits : (j : ℕ) → j ≤ sites → getD rows (slot j Column.onSpan) 0 + onLeft m n k (slot j Column.onSpan) < 2 ^ 64
 
 -- a line: at least one invocation is open
-pub record LineAsks (s : List ℕ) (n : ℕ) (a : Present) (t m rows : List ℕ) : Type 0 where
+pub record LineAsks (how : Weigh) (s : List ℕ) (n : ℕ) (a : Present) (t m rows : List ℕ) : Type 0 where
   pub row : ℕ
   pub body : Body
   pub around : List Left
   pub z : List ℕ
-  pub lent : OnLent s n (left row body ∷ around) z a t m rows
+  pub lent : OnLent how s n (left row body ∷ around) z a t m rows
 
 -- whatever invocations are open
-abbrev pub LineLeaves : (s : List ℕ) (n : ℕ) (a : Present) (t m rows : List ℕ) (r : Present) (t′ rows′ : List ℕ) → Type 0
-LineLeaves s n a t m rows r t′ rows′ = (q : LineAsks s n a t m rows) → HeldAfter (q .z) (behind (q .row) (q .body) (q .around)) a r t′ × Grown rows (onLine m n (q .row) (q .body)) rows′
+abbrev pub LineLeaves : (how : Weigh) (s : List ℕ) (n : ℕ) (a : Present) (t m rows : List ℕ) (r : Present) (t′ rows′ : List ℕ) → Type 0
+LineLeaves how s n a t m rows r t′ rows′ = (q : LineAsks how s n a t m rows) → HeldAfter (q .z) (behind (q .row) (q .body) (q .around)) a r t′ × Grown rows (onLine m n (q .row) (q .body)) rows′
 
 -- the lines from line n on and before line e are those of the root's body
-pub record ColumnAsks (s : List ℕ) (n e : ℕ) (t m rows : List ℕ) : Type 0 where
+pub record ColumnAsks (how : Weigh) (s : List ℕ) (n e : ℕ) (t m rows : List ℕ) : Type 0 where
   pub body : Body
   pub ends : n + size body ≡ e
-  pub lent : OnLent s n (left 0 body ∷ []) t root t m rows
+  pub lent : OnLent how s n (left 0 body ∷ []) t root t m rows
 
 -- whatever body that is
-abbrev pub ColumnLeaves : (s : List ℕ) (n e : ℕ) (t m rows rows′ : List ℕ) → Type 0
-ColumnLeaves s n e t m rows rows′ = (q : ColumnAsks s n e t m rows) → Grown rows (onGain m n 0 (q .body)) rows′
+abbrev pub ColumnLeaves : (how : Weigh) (s : List ℕ) (n e : ℕ) (t m rows rows′ : List ℕ) → Type 0
+ColumnLeaves how s n e t m rows rows′ = (q : ColumnAsks how s n e t m rows) → Grown rows (onGain m n 0 (q .body)) rows′

@@ -1,15 +1,16 @@
 -- For proofs and engines, not for the reader of document 01: what the three readers of the marks engine ask for and
--- leave. t is the scratch from their invocation's part on, and m the marks.
+-- leave. t is the scratch from their invocation's part on, m the marks, and how is what a cost line weighs.
 use Prim.Native.Nat.{ℕ, _+_, _*_, _≤_}
 use mathlib.Core.Path.{_≡_}
 use mathlib.Core.List.{List}
 use lib.ListN.{length}
 use Rattle.line.specs.Read.{width}
 use Rattle.line.specs.At.{kindAt}
-use Rattle.trace.specs.Tree.{Body, linesOf}
+use Rattle.trace.specs.Tree.{Body}
 use Rattle.trace.specs.Fold.{Chains, nothing, chainOf, run}
+use Rattle.weigh.specs.Weighed.{Weigh}
 use Rattle.walk.specs.declared.Open.{Open}
-use Rattle.walk.specs.Stands.{Stands}
+use Rattle.walk.specs.Reads.{Reads}
 use Rattle.walk.specs.Numbers.{numbers}
 use Rattle.walk.specs.Item.{More, itemChains}
 use Rattle.walk.specs.Reader.{Ready, ItemDone, ItemsDone, BodyDone}
@@ -19,9 +20,9 @@ use Rattle.marks.specs.Park.{Zero}
 
 -- The marks show the chains that the invocation's numbers weigh, and each line of the text has one; the scratch is
 -- zero, and has room for deep invocations more.
-pub record Lent (s : List ℕ) (deep : ℕ) (z : Zones) (t m rows : List ℕ) : Type 0 where
+pub record Lent (how : Weigh) (s : List ℕ) (deep : ℕ) (z : Zones) (t m rows : List ℕ) : Type 0 where
   pub sites : ℕ
-  pub ready : Ready s (z .row) sites deep (z .own) rows
+  pub ready : Ready how s (z .row) sites deep (z .own) rows
   pub lines : length s ≤ width * length m
   pub zero : Zero t
   pub room : 8 + deep * 8 ≤ length t
@@ -31,8 +32,8 @@ pub record Lent (s : List ℕ) (deep : ℕ) (z : Zones) (t m rows : List ℕ) : 
   pub shows : Shows n m z k
 
 -- the item reader: there is an item, whose first line is of this kind
-pub record ItemAsks (s : List ℕ) (kind deep : ℕ) (z : Zones) (t m rows : List ℕ) : Type 0 where
-  pub lent : Lent s deep z t m rows
+pub record ItemAsks (how : Weigh) (s : List ℕ) (kind deep : ℕ) (z : Zones) (t m rows : List ℕ) : Type 0 where
+  pub lent : Lent how s deep z t m rows
   pub kind-is : kind ≡ kindAt s (z .own .at)
   pub more : More (lent .ready .body)
 
@@ -44,8 +45,8 @@ pub record ItemLeft (n : ℕ) (b : Body) (k : Chains) (z : Zones) (m rows : List
   pub kept : Kept n (r .own .at) m m′
 
 -- whatever body stands here, wherever its invocation began and whatever chains it has come to
-abbrev pub ItemLeaves : (s : List ℕ) (z : Zones) (m rows : List ℕ) (r : Zones) (m′ rows′ : List ℕ) → Type 0
-ItemLeaves s z m rows r m′ rows′ = (b : Body) (n : ℕ) (k : Chains) → More b → Stands s (z .own .at) (linesOf b) → z .own ≡ numbers (z .own .at) (z .own .work) k → Shows n m z k
+abbrev pub ItemLeaves : (how : Weigh) (s : List ℕ) (z : Zones) (m rows : List ℕ) (r : Zones) (m′ rows′ : List ℕ) → Type 0
+ItemLeaves how s z m rows r m′ rows′ = (b : Body) (n : ℕ) (k : Chains) → More b → Reads how s (z .own .at) (z .row) b → z .own ≡ numbers (z .own .at) (z .own .work) k → Shows n m z k
     → ItemLeft n b k z m rows r m′ rows′
 
 -- at the return of b, of an invocation that began at line n and had come to the chains k
@@ -56,18 +57,18 @@ pub record ItemsLeft (n : ℕ) (b : Body) (k : Chains) (z : Zones) (m rows : Lis
 
 -- The reader of an invocation's items up to its return: whatever body stands here, wherever its invocation began and
 -- whatever chains it has come to. At the return a join may follow.
-pub record ItemsLeave (s : List ℕ) (deep : ℕ) (z : Zones) (t m rows : List ℕ) (r : Zones) (m′ rows′ : List ℕ) : Type 0 where
-  pub lent : Lent s deep r t m′ rows′
+pub record ItemsLeave (how : Weigh) (s : List ℕ) (deep : ℕ) (z : Zones) (t m rows : List ℕ) (r : Zones) (m′ rows′ : List ℕ) : Type 0 where
+  pub lent : Lent how s deep r t m′ rows′
   pub same-row : r .row ≡ z .row
-  pub leaves : (b : Body) (n : ℕ) (k : Chains) → Stands s (z .own .at) (linesOf b) → z .own ≡ numbers (z .own .at) (z .own .work) k → Shows n m z k → ItemsLeft n b k z m rows r m′ rows′
+  pub leaves : (b : Body) (n : ℕ) (k : Chains) → Reads how s (z .own .at) (z .row) b → z .own ≡ numbers (z .own .at) (z .own .work) k → Shows n m z k → ItemsLeft n b k z m rows r m′ rows′
 
 -- an invocation of a row whose body begins at a line
 abbrev pub begun : ℕ → ℕ → Zones
 begun from row = allPrefix (numbers from 0 nothing) row
 
 -- the body reader
-abbrev pub BodyAsks : (s : List ℕ) (from row deep : ℕ) (t m rows : List ℕ) → Type 0
-BodyAsks s from row deep t m rows = Lent s deep (begun from row) t m rows
+abbrev pub BodyAsks : (how : Weigh) (s : List ℕ) (from row deep : ℕ) (t m rows : List ℕ) → Type 0
+BodyAsks how s from row deep t m rows = Lent how s deep (begun from row) t m rows
 
 -- behind the whole body b: its zone shows its chain
 pub record BodyLeft (from row : ℕ) (b : Body) (m rows : List ℕ) (r : Open) (m′ rows′ : List ℕ) : Type 0 where
@@ -75,5 +76,5 @@ pub record BodyLeft (from row : ℕ) (b : Body) (m rows : List ℕ) (r : Open) (
   pub zone : Zone m′ from (r .at) (chainOf from row b)
   pub kept : Kept from (r .at) m m′
 
-abbrev pub BodyLeaves : (s : List ℕ) (from row : ℕ) (m rows : List ℕ) (r : Open) (m′ rows′ : List ℕ) → Type 0
-BodyLeaves s from row m rows r m′ rows′ = (b : Body) → Stands s from (linesOf b) → BodyLeft from row b m rows r m′ rows′
+abbrev pub BodyLeaves : (how : Weigh) (s : List ℕ) (from row : ℕ) (m rows : List ℕ) (r : Open) (m′ rows′ : List ℕ) → Type 0
+BodyLeaves how s from row m rows r m′ rows′ = (b : Body) → Reads how s from row b → BodyLeft from row b m rows r m′ rows′

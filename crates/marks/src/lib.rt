@@ -6,7 +6,9 @@ ghost use Prim.Native.Nat.{_+_, _*_, _^_, _≤_, _<_};
 ghost use lib.ListN.{length, getD, set, replicate};
 ghost use Rattle.trace.specs.Column.{Column, slot};
 ghost use Rattle.trace.specs.Promise.{Engine, Promise};
-ghost use Rattle.walk.specs.Weight.{weightAt};
+ghost use Rattle.forecast.specs.OfList.{ForecastOf};
+ghost use Rattle.walk.specs.Weight.{byFactors, Factors, weightAt};
+ghost use Rattle.walk.specs.Profiled.{Profiled};
 ghost use Rattle.walk.specs.Gain.{ColumnFits, one, Grown};
 ghost use Rattle.marks.specs.Shown.{allPrefix, Wiped};
 ghost use Rattle.marks.specs.Steps.{Fits, Spent, Joined, Called, Spawned};
@@ -198,16 +200,17 @@ fn read_items(
     t: &mut [u64],
     marks: &mut [u8],
     rows: &mut [u64],
+    factors: &[u64],
 ) -> Zones
-    requires { ⌜ Lent (now trace) deep z (now t) (now marks) (now rows) ⌝ }
-    ensures { λ r. ⌜ ItemsLeave (now (trace .entry)) deep z (now (t .entry)) (now (marks .entry)) (now (rows .entry))
-        r (now (marks .exit)) (now (rows .exit)) ⌝ }
+    requires { ⌜ Lent (byFactors (now factors)) (now trace) deep z (now t) (now marks) (now rows) ⌝ }
+    ensures { λ r. ⌜ ItemsLeave (byFactors (now (factors .entry))) (now (trace .entry)) deep z (now (t .entry))
+        (now (marks .entry)) (now (rows .entry)) r (now (marks .exit)) (now (rows .exit)) ⌝ }
     ensures { λ _. ⌜ now (t .exit) ≡ now (t .entry) ⌝ }
 {
     let mut a = z;
     let mut kind = line::kind_at(trace, z.own.at);
     while kind != 5 {
-        a = item(trace, kind, a, deep, t, marks, rows);
+        a = item(trace, kind, a, deep, t, marks, rows, factors);
         kind = line::kind_at(trace, a.own.at);
     }
     a
@@ -222,10 +225,11 @@ fn body(
     t: &mut [u64],
     marks: &mut [u8],
     rows: &mut [u64],
+    factors: &[u64],
 ) -> walk::Open
-    requires { ⌜ BodyAsks (now trace) from row deep (now t) (now marks) (now rows) ⌝ }
-    ensures { λ r. ⌜ BodyLeaves (now (trace .entry)) from row (now (marks .entry)) (now (rows .entry)) r
-        (now (marks .exit)) (now (rows .exit)) ⌝ }
+    requires { ⌜ BodyAsks (byFactors (now factors)) (now trace) from row deep (now t) (now marks) (now rows) ⌝ }
+    ensures { λ r. ⌜ BodyLeaves (byFactors (now (factors .entry))) (now (trace .entry)) from row (now (marks .entry))
+        (now (rows .entry)) r (now (marks .exit)) (now (rows .exit)) ⌝ }
     ensures { λ _. ⌜ now (t .exit) ≡ now (t .entry) ⌝ }
 {
     let z = read_items(
@@ -235,6 +239,7 @@ fn body(
         t,
         marks,
         rows,
+        factors,
     );
     let end = join(marks, z);
     end.own
@@ -249,15 +254,16 @@ fn item(
     t: &mut [u64],
     marks: &mut [u8],
     rows: &mut [u64],
+    factors: &[u64],
 ) -> Zones
-    requires { ⌜ ItemAsks (now trace) kind deep z (now t) (now marks) (now rows) ⌝ }
-    ensures { λ r. ⌜ ItemLeaves (now (trace .entry)) z (now (marks .entry)) (now (rows .entry)) r (now (marks .exit))
-        (now (rows .exit)) ⌝ }
+    requires { ⌜ ItemAsks (byFactors (now factors)) (now trace) kind deep z (now t) (now marks) (now rows) ⌝ }
+    ensures { λ r. ⌜ ItemLeaves (byFactors (now (factors .entry))) (now (trace .entry)) z (now (marks .entry))
+        (now (rows .entry)) r (now (marks .exit)) (now (rows .exit)) ⌝ }
     ensures { λ _. ⌜ now (t .exit) ≡ now (t .entry) ⌝ }
 {
     let at = z.own.at;
     if kind == 6 {
-        let v = walk::weight_at(trace, at);
+        let v = walk::weight_at(trace, at, z.row, factors);
         walk::spend(rows, z.row, v);
         return spend(marks, z, v);
     }
@@ -267,7 +273,16 @@ fn item(
     let site = line::site_at(trace, at) as usize;
     let before = walk::credit_of(rows, site);
     store(t, z);
-    let c = body(trace, at + 1, site, deep - 1, &mut t[8..], marks, rows);
+    let c = body(
+        trace,
+        at + 1,
+        site,
+        deep - 1,
+        &mut t[8..],
+        marks,
+        rows,
+        factors,
+    );
     let back = load(t);
     walk::returned(rows, site, c.work, c.prefix, before);
     if kind == 2 {
@@ -276,19 +291,18 @@ fn item(
     spawned(marks, back, c)
 }
 
-// Column 5 of a row: the cost of a line, where the line is marked.
-fn add_marked(trace: &[u8], at: usize, row: usize, marks: &[u8], rows: &mut [u64])
+// Column 5 of a row: what a cost line of it weighs, where the line is marked.
+fn add_marked(trace: &[u8], at: usize, row: usize, marks: &[u8], rows: &mut [u64], factors: &[u64])
     requires { ⌜ (at < length (now marks)) × ColumnFits (now rows) row Column.onSpan
-        (marked (getD (now marks) at 0) (weightAt (now trace) at)) ⌝ }
-    ensures { λ _. ⌜ Grown (now (rows .entry))
-        (one (slot row Column.onSpan) (marked (getD (now (marks .entry)) at 0) (weightAt (now (trace .entry)) at)))
-        (now (rows .exit)) ⌝ }
+        (marked (getD (now marks) at 0) (weightAt (now factors) (now trace) at row)) ⌝ }
+    ensures { λ _. ⌜ Grown (now (rows .entry)) (one (slot row Column.onSpan) (marked (getD (now (marks .entry)) at 0)
+        (weightAt (now (factors .entry)) (now (trace .entry)) at row))) (now (rows .exit)) ⌝ }
 {
     if marks[at] == 1 {
         walk::add(
             rows,
             trace::COLUMNS * row + trace::ON_SPAN,
-            walk::weight_at(trace, at),
+            walk::weight_at(trace, at, row, factors),
         );
     }
 }
@@ -336,14 +350,15 @@ fn on_line(
     t: &mut [u64],
     marks: &[u8],
     rows: &mut [u64],
+    factors: &[u64],
 ) -> Present
-    requires { ⌜ LineAsks (now trace) at a (now t) (now marks) (now rows) ⌝ }
-    ensures { λ r. ⌜ LineLeaves (now (trace .entry)) at a (now (t .entry)) (now (marks .entry)) (now (rows .entry)) r
-        (now (t .exit)) (now (rows .exit)) ⌝ }
+    requires { ⌜ LineAsks (byFactors (now factors)) (now trace) at a (now t) (now marks) (now rows) ⌝ }
+    ensures { λ r. ⌜ LineLeaves (byFactors (now (factors .entry))) (now (trace .entry)) at a (now (t .entry))
+        (now (marks .entry)) (now (rows .entry)) r (now (t .exit)) (now (rows .exit)) ⌝ }
 {
     let kind = line::kind_at(trace, at);
     if kind == 6 {
-        add_marked(trace, at, a.row, marks, rows);
+        add_marked(trace, at, a.row, marks, rows, factors);
         return a;
     }
     if kind == 5 {
@@ -357,22 +372,30 @@ fn on_line(
 
 // Reads the root's lines once more, from its first line up to the end: each marked cost is added to column 5 of the
 // row that it stands in.
-fn column(trace: &[u8], from: usize, lines: usize, t: &mut [u64], marks: &[u8], rows: &mut [u64])
-    requires { ⌜ ColumnAsks (now trace) from lines (now t) (now marks) (now rows) ⌝ }
-    ensures { λ _. ⌜ ColumnLeaves (now (trace .entry)) from lines (now (t .entry)) (now (marks .entry))
-        (now (rows .entry)) (now (rows .exit)) ⌝ }
+fn column(
+    trace: &[u8],
+    from: usize,
+    lines: usize,
+    t: &mut [u64],
+    marks: &[u8],
+    rows: &mut [u64],
+    factors: &[u64],
+)
+    requires { ⌜ ColumnAsks (byFactors (now factors)) (now trace) from lines (now t) (now marks) (now rows) ⌝ }
+    ensures { λ _. ⌜ ColumnLeaves (byFactors (now (factors .entry))) (now (trace .entry)) from lines (now (t .entry))
+        (now (marks .entry)) (now (rows .entry)) (now (rows .exit)) ⌝ }
     ensures { λ _. ⌜ now (t .exit) ≡ now (t .entry) ⌝ }
 {
     let mut a = Present { row: 0, around: 0 };
     let mut at = from;
     while at < lines {
-        a = on_line(trace, at, a, t, marks, rows);
+        a = on_line(trace, at, a, t, marks, rows, factors);
         at += 1;
     }
 }
 
-// An accepted trace of count sites and lines lines: the room is cleared, and the root is read twice, once for all and
-// once for column 5.
+// An accepted trace of count sites and lines lines, each cost weighed by its row's factor: the room is cleared, and the
+// root is read twice, once for all and once for column 5.
 fn accepted(
     text: &[u8],
     depth: usize,
@@ -382,9 +405,11 @@ fn accepted(
     scratch: &mut [u64],
     marks: &mut [u8],
     rows: &mut [u64],
+    factors: &[u64],
 ) -> trace::Answer
     requires { ⌜ Admitted (now text) depth sites (lent (now scratch) (now marks) (now rows)) count lines ⌝ }
-    ensures { λ r. ⌜ Promise Engine.marks (now (text .entry)) depth sites
+    requires { ⌜ Factors (now factors) ⌝ }
+    ensures { λ r. ⌜ Profiled Engine.marks (byFactors (now (factors .entry))) (now (text .entry)) depth sites
         (lent (now (scratch .entry)) (now (marks .entry)) (now (rows .entry))) r
         (lent (now (scratch .exit)) (now (marks .exit)) (now (rows .exit))) ⌝ }
 {
@@ -394,9 +419,9 @@ fn accepted(
     let first = count;
     wipe_lines(marks, 0, first);
     let before = walk::credit_of(rows, 0);
-    let f = body(text, first, 0, depth - 1, scratch, marks, rows);
+    let f = body(text, first, 0, depth - 1, scratch, marks, rows, factors);
     walk::returned(rows, 0, f.work, f.prefix, before);
-    column(text, first, lines, scratch, marks, rows);
+    column(text, first, lines, scratch, marks, rows, factors);
     trace::Answer::Accepted(f.work, f.prefix, count, lines)
 }
 
@@ -420,6 +445,74 @@ pub fn profile(
             sites,
             count,
             lines,
+            scratch,
+            marks,
+            rows,
+            &[],
+        ),
+        admit::Verdict::Refused(number, line) => trace::Answer::Refused(number, line),
+    }
+}
+
+// An accepted trace of count sites and lines lines, asked by a list of forecast entries: refusal 19 or 20 of the list,
+// else the trace with each cost weighed by its row's factor.
+fn asked(
+    text: &[u8],
+    depth: usize,
+    sites: usize,
+    count: usize,
+    lines: usize,
+    list: forecast::Listed,
+    scratch: &mut [u64],
+    marks: &mut [u8],
+    rows: &mut [u64],
+) -> trace::Answer
+    requires { ⌜ Admitted (now text) depth sites (lent (now scratch) (now marks) (now rows)) count lines ⌝ }
+    ensures { λ r. ⌜ ForecastOf Engine.marks list (now (text .entry)) depth sites
+        (lent (now (scratch .entry)) (now (marks .entry)) (now (rows .entry))) r
+        (lent (now (scratch .exit)) (now (marks .exit)) (now (rows .exit))) ⌝ }
+{
+    let number = forecast::check(list, count);
+    if number != 0 {
+        return trace::Answer::Refused(number, 0);
+    }
+    let factors = forecast::factors(list);
+    accepted(
+        text,
+        depth,
+        sites,
+        count,
+        lines,
+        scratch,
+        marks,
+        rows,
+        &factors,
+    )
+}
+
+// The marks engine's forecast: any text, any limits, any list of entries and any room.
+pub fn forecast(
+    text: &[u8],
+    depth: usize,
+    sites: usize,
+    list: forecast::Listed,
+    scratch: &mut [u64],
+    marks: &mut [u8],
+    rows: &mut [u64],
+) -> trace::Answer
+    ensures { λ r. ⌜ ForecastOf Engine.marks list (now (text .entry)) depth sites
+        (lent (now (scratch .entry)) (now (marks .entry)) (now (rows .entry))) r
+        (lent (now (scratch .exit)) (now (marks .exit)) (now (rows .exit))) ⌝ }
+{
+    let verdict = admit::for_marks(text, depth, sites, scratch.len(), rows.len(), marks.len());
+    match verdict {
+        admit::Verdict::Accepted(count, lines) => asked(
+            text,
+            depth,
+            sites,
+            count,
+            lines,
+            list,
             scratch,
             marks,
             rows,

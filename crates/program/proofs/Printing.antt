@@ -40,7 +40,7 @@ too-large {s} h p =
     record { out = refusalText 3 0; prints = subst (λ (v : Verdict). Prints v (refusalText 3 0)) (sym e) refl; put = p }
 
 -- at most so many, and what the table engine answered and left in its room
-module _ {s scratch rows scratch′ rows′ : List ℕ} {r : Answer} (p : Promise tables s 32 31 (lent scratch rows) r (lent scratch′ rows′))
+module _ (s : List ℕ) {scratch rows scratch′ rows′ : List ℕ} {r : Answer} (p : Promise tables s 32 31 (lent scratch rows) r (lent scratch′ rows′))
     (few : length s ≤ 65527) (wide : scratchRoom tables 32 31 ≤ length scratch) (long : rowsRoom 31 ≤ length rows) where
   abbrev judgement : Verdict
   judgement = verdict s 32 31 (enough tables s 32 31 (lent scratch rows))

@@ -5,10 +5,12 @@ use Prim.Native.Nat.{ℕ, _+_, _-_, _<_}
 use native.Mathlib.Omega.{arith}
 use lib.ListN.{length}
 use Rattle.line.specs.At.{kindAt}
-use Rattle.trace.specs.Tree.{Body, linesOf, workOf}
+use Rattle.trace.specs.Tree.{Body, workOf}
 use Rattle.trace.specs.Fold.{Chains, nothing, run, chainOf}
+use Rattle.weigh.specs.Weighed.{Weigh}
 use Rattle.walk.specs.declared.Open.{Open}
-use Rattle.walk.specs.Stands.{Stands, Says, kindOf}
+use Rattle.walk.specs.Stands.{Says, kindOf}
+use Rattle.walk.specs.Reads.{Reads}
 use Rattle.walk.specs.Numbers.{numbers}
 use Rattle.walk.specs.Item.{More, rest, itemSize, itemWork, itemChains}
 use Rattle.walk.specs.Reader.{ItemDone, ItemsDone, Turn}
@@ -20,33 +22,33 @@ use Rattle.tables.specs.Blocks.{Holds, Joined}
 use Rattle.tables.specs.Reader.{Lent, ItemAsks, ItemLeaves, ItemsLeave, BodyAsks, BodyLeaves}
 use Rattle.tables.proofs.Held.{holds-two, alone-shows}
 
-module _ (s : List ℕ) (row deep n w : ℕ) where
+module _ (how : Weigh) (s : List ℕ) (row deep n w : ℕ) where
   -- the loop has come from f₀ to f: what is left of the body, and what it comes to, are as from f₀ on
   abbrev Turns : (f₀ : Open) (t₀ rows₀ : List ℕ) (f : Open) (t rows : List ℕ) → Type 0
-  Turns f₀ t₀ rows₀ f t rows = (b : Body) (k₀ : Chains) → Stands s (f₀ .at) (linesOf b) → f₀ ≡ numbers (f₀ .at) (f₀ .work) k₀ → Holds n w t₀ k₀ []
-      → (l : Body) × (k : Chains) × Turn s row f₀ rows₀ b k₀ f rows l k × Holds n w t k []
+  Turns f₀ t₀ rows₀ f t rows = (b : Body) (k₀ : Chains) → Reads how s (f₀ .at) row b → f₀ ≡ numbers (f₀ .at) (f₀ .work) k₀ → Holds n w t₀ k₀ []
+      → (l : Body) × (k : Chains) × Turn how s row f₀ rows₀ b k₀ f rows l k × Holds n w t k []
 
   turns-start : (f : Open) (t rows : List ℕ) → Turns f t rows f t rows
-  turns-start f t rows b k h e sh = (b, k, turn-start s row f rows b k h e, sh)
+  turns-start f t rows b k h e sh = (b, k, turn-start how s row f rows b k h e, sh)
 
   module _ (kind : ℕ) (f : Open) (t rows : List ℕ) (says : Says kindOf s (f .at) kind) where
-    more : (kind ≡ 5 → ⊥) → (l : Lent s row deep f t rows n w) → More (l .ready .body)
-    more k5 l = is-more s (f .at) kind says (l .ready .body) (l .ready .stands) k5
+    more : (kind ≡ 5 → ⊥) → (l : Lent how s row deep f t rows n w) → More (l .ready .body)
+    more k5 l = is-more how s (f .at) row kind says (l .ready .body) (l .ready .reads) k5
 
-    module _ (l : Lent s row deep f t rows n w) (k5 : kind ≡ 5 → ⊥) (r : Open) (t′ rows′ : List ℕ) (lt : length t′ ≡ length t) (lr : length rows′ ≡ length rows)
-        (done : ItemLeaves s row f t rows n w r t′ rows′) where
+    module _ (l : Lent how s row deep f t rows n w) (k5 : kind ≡ 5 → ⊥) (r : Open) (t′ rows′ : List ℕ) (lt : length t′ ≡ length t) (lr : length rows′ ≡ length rows)
+        (done : ItemLeaves how s row f t rows n w r t′ rows′) where
       left : ItemDone row f rows (l .ready .body) (l .k) r rows′ × Holds n w t′ (itemChains (f .at) row (l .ready .body) (l .k)) []
-      left = done (l .ready .body) (l .k) (more k5 l) (l .ready .stands) (l .weighs) (l .holds)
+      left = done (l .ready .body) (l .k) (more k5 l) (l .ready .reads) (l .weighs) (l .holds)
 
       goes-on : f .at < r .at
-      goes-on = farther s row (l .m) deep f rows (l .ready) (more k5 l) (l .k) (l .weighs) r rows′ lr (left .0)
+      goes-on = farther how s row (l .m) deep f rows (l .ready) (more k5 l) (l .k) (l .weighs) r rows′ lr (left .0)
 
-      lent-again : Lent s row deep r t′ rows′ n w
+      lent-again : Lent how s row deep r t′ rows′ n w
       lent-again =
           let b = l .ready .body in
           record {
             m = l .m;
-            ready = ready-again s row (l .m) deep f rows (l .ready) (more k5 l) (l .k) (l .weighs) r rows′ lr (left .0);
+            ready = ready-again how s row (l .m) deep f rows (l .ready) (more k5 l) (l .k) (l .weighs) r rows′ lr (left .0);
             blocks = l .blocks;
             wide = l .wide;
             room = omega (arith, l .room, lt);
@@ -58,71 +60,71 @@ module _ (s : List ℕ) (row deep n w : ℕ) where
       turns-again : (f₀ : Open) (t₀ rows₀ : List ℕ) → length rows ≡ length rows₀ → Turns f₀ t₀ rows₀ f t rows → Turns f₀ t₀ rows₀ r t′ rows′
       turns-again f₀ t₀ rows₀ len turns b k₀ h e sh =
           let u = turns b k₀ h e sh in
-          let m = is-more s (f .at) kind says (u .0) (u .2 .stands) k5 in
-          let d = done (u .0) (u .1) m (u .2 .stands) (u .2 .weighs) (u .3) in
-          (rest (u .0), itemChains (f .at) row (u .0) (u .1), turn-again s row f₀ rows₀ b k₀ f rows (u .0) (u .1) (u .2) len r rows′ m (d .0), d .1)
+          let m = is-more how s (f .at) row kind says (u .0) (u .2 .reads) k5 in
+          let d = done (u .0) (u .1) m (u .2 .reads) (u .2 .weighs) (u .3) in
+          (rest (u .0), itemChains (f .at) row (u .0) (u .1), turn-again how s row f₀ rows₀ b k₀ f rows (u .0) (u .1) (u .2) len r rows′ m (d .0), d .1)
 
-    turns-done : (f₀ : Open) (t₀ rows₀ : List ℕ) → length rows ≡ length rows₀ → Turns f₀ t₀ rows₀ f t rows → kind ≡ 5 → (b : Body) (k₀ : Chains) → Stands s (f₀ .at) (linesOf b)
+    turns-done : (f₀ : Open) (t₀ rows₀ : List ℕ) → length rows ≡ length rows₀ → Turns f₀ t₀ rows₀ f t rows → kind ≡ 5 → (b : Body) (k₀ : Chains) → Reads how s (f₀ .at) row b
         → f₀ ≡ numbers (f₀ .at) (f₀ .work) k₀ → Holds n w t₀ k₀ [] → ItemsDone row f₀ rows₀ b k₀ f rows × Holds n w t (run (f₀ .at) row b k₀) []
     turns-done f₀ t₀ rows₀ len turns k5 b k₀ h e sh =
         let u = turns b k₀ h e sh in
-        let z = is-done s (f .at) kind says (u .0) (u .2 .stands) k5 in
+        let z = is-done how s (f .at) row kind says (u .0) (u .2 .reads) k5 in
         let c : u .1 ≡ run (f₀ .at) row b k₀ = sym (ap (λ (x : Body). run (f .at) row x (u .1)) z) ∙ u .2 .same-chains in
-        (turn-done s row f₀ rows₀ b k₀ f rows (u .0) (u .1) (u .2) len z, subst (λ (x : Chains). Holds n w t x []) c (u .3))
+        (turn-done how s row f₀ rows₀ b k₀ f rows (u .0) (u .1) (u .2) len z, subst (λ (x : Chains). Holds n w t x []) c (u .3))
 
 -- the loop has come from f₀ to f, whose next line is of this kind
-pub record Loop (s : List ℕ) (row deep : ℕ) (f₀ : Open) (t₀ rows₀ t rows : List ℕ) (n w : ℕ) (f : Open) (kind : ℕ) : Type 0 where
+pub record Loop (how : Weigh) (s : List ℕ) (row deep : ℕ) (f₀ : Open) (t₀ rows₀ t rows : List ℕ) (n w : ℕ) (f : Open) (kind : ℕ) : Type 0 where
   pub kind-is : kind ≡ kindAt s (f .at)
   pub scratch-long : length t ≡ length t₀
   pub rows-long : length rows ≡ length rows₀
-  pub lent : Lent s row deep f t rows n w
-  pub turns : Turns s row deep n w f₀ t₀ rows₀ f t rows
+  pub lent : Lent how s row deep f t rows n w
+  pub turns : Turns how s row deep n w f₀ t₀ rows₀ f t rows
 
-pub loop-start : {s : List ℕ} {row deep : ℕ} {f : Open} {t rows : List ℕ} {n w : ℕ} → Lent s row deep f t rows n w → (kind : ℕ) → kind ≡ kindAt s (f .at) → Loop s row deep f t rows t rows n w f kind
-loop-start {s} {row} {deep} {f} {t} {rows} {n} {w} asks kind k = record { kind-is = k; scratch-long = refl; rows-long = refl; lent = asks; turns = turns-start s row deep n w f t rows }
+pub loop-start : {how : Weigh} {s : List ℕ} {row deep : ℕ} {f : Open} {t rows : List ℕ} {n w : ℕ} → Lent how s row deep f t rows n w → (kind : ℕ) → kind ≡ kindAt s (f .at) → Loop how s row deep f t rows t rows n w f kind
+loop-start {how} {s} {row} {deep} {f} {t} {rows} {n} {w} asks kind k = record { kind-is = k; scratch-long = refl; rows-long = refl; lent = asks; turns = turns-start how s row deep n w f t rows }
 
-module _ {s : List ℕ} {row deep : ℕ} {f₀ : Open} {t₀ rows₀ t rows : List ℕ} {n w : ℕ} {f : Open} {kind : ℕ} (l : Loop s row deep f₀ t₀ rows₀ t rows n w f kind) where
+module _ {how : Weigh} {s : List ℕ} {row deep : ℕ} {f₀ : Open} {t₀ rows₀ t rows : List ℕ} {n w : ℕ} {f : Open} {kind : ℕ} (l : Loop how s row deep f₀ t₀ rows₀ t rows n w f kind) where
   says : Says kindOf s (f .at) kind
   says = kind-says s (f .at) (f .at) kind refl (l .kind-is)
 
-  pub loop-asks : (kind ≡ 5 → ⊥) → ItemAsks s kind row deep f t rows n w
-  loop-asks k5 = record { lent = l .lent; kind-is = l .kind-is; more = more s row deep n w kind f t rows says k5 (l .lent) }
+  pub loop-asks : (kind ≡ 5 → ⊥) → ItemAsks how s kind row deep f t rows n w
+  loop-asks k5 = record { lent = l .lent; kind-is = l .kind-is; more = more how s row deep n w kind f t rows says k5 (l .lent) }
 
   -- an item was read: r, and the room behind it
   pub record Next (r : Open) (t′ rows′ : List ℕ) : Type 0 where
     pub more-lines : kind ≡ 5 → ⊥
     pub scratch-long : length t′ ≡ length t
     pub rows-long : length rows′ ≡ length rows
-    pub leaves : ItemLeaves s row f t rows n w r t′ rows′
+    pub leaves : ItemLeaves how s row f t rows n w r t′ rows′
 
   module _ {r : Open} {t′ rows′ : List ℕ} (i : Next r t′ rows′) where
     pub loop-less : 65536 - r .at < 65536 - f .at
     loop-less =
-        let h = goes-on s row deep n w kind f t rows says (l .lent) (i .more-lines) r t′ rows′ (i .scratch-long) (i .rows-long) (i .leaves) in
+        let h = goes-on how s row deep n w kind f t rows says (l .lent) (i .more-lines) r t′ rows′ (i .scratch-long) (i .rows-long) (i .leaves) in
         omega (arith, l .lent .ready .ends, size-some (l .lent .ready .body))
 
-    pub loop-again : (next : ℕ) → next ≡ kindAt s (r .at) → Loop s row deep f₀ t₀ rows₀ t′ rows′ n w r next
+    pub loop-again : (next : ℕ) → next ≡ kindAt s (r .at) → Loop how s row deep f₀ t₀ rows₀ t′ rows′ n w r next
     loop-again next k =
         record {
           kind-is = k;
           scratch-long = i .scratch-long ∙ l .scratch-long;
           rows-long = i .rows-long ∙ l .rows-long;
-          lent = lent-again s row deep n w kind f t rows says (l .lent) (i .more-lines) r t′ rows′ (i .scratch-long) (i .rows-long) (i .leaves);
-          turns = turns-again s row deep n w kind f t rows says (l .lent) (i .more-lines) r t′ rows′ (i .scratch-long) (i .rows-long) (i .leaves) f₀ t₀ rows₀ (l .rows-long) (l .turns);
+          lent = lent-again how s row deep n w kind f t rows says (l .lent) (i .more-lines) r t′ rows′ (i .scratch-long) (i .rows-long) (i .leaves);
+          turns = turns-again how s row deep n w kind f t rows says (l .lent) (i .more-lines) r t′ rows′ (i .scratch-long) (i .rows-long) (i .leaves) f₀ t₀ rows₀ (l .rows-long) (l .turns);
         }
 
-  pub loop-done : kind ≡ 5 → ItemsLeave s row deep f₀ t₀ rows₀ n w f t rows
-  loop-done k5 = record { lent = l .lent; leaves = turns-done s row deep n w kind f t rows says f₀ t₀ rows₀ (l .rows-long) (l .turns) k5 }
+  pub loop-done : kind ≡ 5 → ItemsLeave how s row deep f₀ t₀ rows₀ n w f t rows
+  loop-done k5 = record { lent = l .lent; leaves = turns-done how s row deep n w kind f t rows says f₀ t₀ rows₀ (l .rows-long) (l .turns) k5 }
 
 -- the body may be read from its first line on
-pub begins : {s : List ℕ} {from row deep : ℕ} {t rows : List ℕ} {n w : ℕ} (f : Open) → f ≡ numbers from 0 nothing → BodyAsks s from row deep t rows n w → Lent s row deep f t rows n w
-begins {s} {from} {row} {deep} {t} {rows} {n} {w} f e a = subst (λ (x : Open). Lent s row deep x t rows n w) (sym e) a
+pub begins : {how : Weigh} {s : List ℕ} {from row deep : ℕ} {t rows : List ℕ} {n w : ℕ} (f : Open) → f ≡ numbers from 0 nothing → BodyAsks how s from row deep t rows n w → Lent how s row deep f t rows n w
+begins {how} {s} {from} {row} {deep} {t} {rows} {n} {w} f e a = subst (λ (x : Open). Lent how s row deep x t rows n w) (sym e) a
 
 -- its items were read from there on, and the join at the return follows
-pub body-leaves : {s : List ℕ} {from row deep : ℕ} {t rows : List ℕ} {n w : ℕ} {f : Open} {t₁ rows₁ : List ℕ} (f₀ : Open) → f₀ ≡ numbers from 0 nothing → ItemsLeave s row deep f₀ t rows n w f t₁ rows₁
-    → (r : Open) (t₂ : List ℕ) → Joined n w t₁ f r t₂ → BodyLeaves s from row t rows n w r t₂ rows₁
-body-leaves {s} {from} {row} {deep} {t} {rows} {n} {w} {f} {t₁} {rows₁} f₀ e₀ i r t₂ j b h sh =
-    let o = subst (λ (x : Open). ItemsLeave s row deep x t rows n w f t₁ rows₁) e₀ i .leaves b nothing h refl (holds-two n w t [] [] sh) in
+pub body-leaves : {how : Weigh} {s : List ℕ} {from row deep : ℕ} {t rows : List ℕ} {n w : ℕ} {f : Open} {t₁ rows₁ : List ℕ} (f₀ : Open) → f₀ ≡ numbers from 0 nothing → ItemsLeave how s row deep f₀ t rows n w f t₁ rows₁
+    → (r : Open) (t₂ : List ℕ) → Joined n w t₁ f r t₂ → BodyLeaves how s from row t rows n w r t₂ rows₁
+body-leaves {how} {s} {from} {row} {deep} {t} {rows} {n} {w} {f} {t₁} {rows₁} f₀ e₀ i r t₂ j b h sh =
+    let o = subst (λ (x : Open). ItemsLeave how s row deep x t rows n w f t₁ rows₁) e₀ i .leaves b nothing h refl (holds-two n w t [] [] sh) in
     let weighs = own-numbers f (f .at) (0 + workOf b) (run from row b nothing) (o .0 .numbers-are) in
     let d = j (run from row b nothing) weighs (o .1) in
     (body-done from row rows b f rows₁ (o .0) r (d .0), alone-shows n w t₂ (chainOf from row b) (d .1))

@@ -1,8 +1,8 @@
 -- From acceptance to the promise: the root's room, and what its reading comes to.
 use mathlib.Core.Path.{_≡_, refl, ap, _∙_, sym, subst}
-use mathlib.Core.List.{List, [], _++_}
+use mathlib.Core.List.{List, [], _∷_, _++_}
 use Prim.Native.Nat.{ℕ, suc, _+_, _*_, _-_, _≤_, _<_}
-use native.Mathlib.Nat.{suc-mul, mul-comm, mul-assoc}
+use native.Mathlib.Nat.{suc-mul, mul-comm, mul-assoc, mul-le-mul-left}
 use native.Mathlib.Decide.{decLt}
 use native.Mathlib.Omega.{arith}
 use lib.ListN.{length, getD, drop, replicate, length-replicate, List·getD-eq-default}
@@ -10,27 +10,30 @@ use lib.Seq.{ext-getD}
 use Rattle.line.specs.declared.Frame.{Frame}
 use Rattle.trace.specs.declared.Answer.{Answer}
 use Rattle.trace.specs.declared.Answer.the-variants.{Accepted, Refused}
-use Rattle.trace.specs.Shape.{sites}
 use Rattle.trace.specs.Rows.{columns}
 use Rattle.trace.specs.Column.{Column, slot}
-use Rattle.trace.specs.Refusals.{refused, verdict}
+use Rattle.trace.specs.Refusals.{verdict}
 use Rattle.trace.specs.Promise.{tables, enough, Profile, Promise}
 use Rattle.trace.specs.ByTree.{cell, ProfileBy}
-use Rattle.trace.specs.Tree.{Body, size, workOf, spanOf}
+use Rattle.trace.specs.Tree.{Body, workOf, spanOf}
 use Rattle.trace.specs.Fold.{nothing, chainOf}
-use Rattle.trace.proofs.Basics.{clash}
 use Rattle.trace.proofs.Slots.{slot-apart, is-column}
 use Rattle.trace.proofs.Scan.{accepted-same}
-use Rattle.trace.proofs.Outcome.{tree-profile, length-is, profile-same}
 use Rattle.admit.specs.declared.Verdict.the-variants as Verdict
 use Rattle.admit.specs.Answer.{admission}
 use Rattle.admit.proofs.Admitted.{refused-only, accepted-only}
+use Rattle.weigh.specs.Weighed.{Weigh, Tabled, reweighed}
+use Rattle.forecast.specs.declared.Listed.{Listed}
+use Rattle.forecast.specs.OfList.{ForecastOf}
 use Rattle.walk.specs.declared.Open.{Open}
 use Rattle.walk.specs.declared.Credit.{Credit}
 use Rattle.walk.specs.Gain.{creditOf, ReturnFits, Returned}
 use Rattle.walk.specs.Reader.{alone, BodyDone}
+use Rattle.walk.specs.Profiled.{Profiled}
+use Rattle.walk.specs.Weight.{byFactors}
+use Rattle.walk.proofs.Weight.{weight-plain}
+use Rattle.walk.proofs.Profiled.{kept-refused, text-refused, plain-promise}
 use Rattle.walk.proofs.Zeros.{zeros-at}
-use Rattle.walk.proofs.Root.{tree}
 use Rattle.walk.proofs.Accepted as root
 use Rattle.tables.specs.Blocks.{Shows}
 use Rattle.tables.specs.Reader.{BodyAsks, BodyLeaves}
@@ -58,8 +61,14 @@ module _ {s : List ℕ} {D M : ℕ} {scratch rows : List ℕ} {count lines : ℕ
   scratch-long : 4 * D * (M + 3) ≤ length scratch
   scratch-long = root.rooms tables s D M (lent scratch rows) (a .t) (a .is) count (a .count-is) .0
 
-  pub table-room : 4 * (M + 3) ≤ length scratch
-  table-room = omega (arith, scratch-long, room-is D (M + 3) (limits .0))
+  -- four blocks of a number a row for each invocation that may be open
+  blocks-long : 4 * D * (count + 1) ≤ length scratch
+  blocks-long =
+      let few : count + 1 ≤ M + 3 = omega (arith, limits .3) in
+      omega (arith, scratch-long, mul-le-mul-left (4 * D) few)
+
+  pub table-room : count + 1 ≤ length scratch
+  table-room = omega (arith, blocks-long, room-is D (count + 1) (limits .0))
 
   -- the line at which the root's body begins
   abbrev first : ℕ
@@ -73,108 +82,104 @@ module _ {s : List ℕ} {D M : ℕ} {scratch rows : List ℕ} {count lines : ℕ
     pub scratch-is : t₁ ≡ replicate (length scratch) 0
     pub rows-are : r₁ ≡ rows₁
 
-  pub root-asks : {t₁ r₁ : List ℕ} → Blank t₁ r₁ → BodyAsks s first 0 (D - 1) t₁ r₁ (M + 3) (count + 1)
-  root-asks {t₁} {r₁} z =
-      subst (λ (x : List ℕ). BodyAsks s first 0 (D - 1) x r₁ (M + 3) (count + 1)) (sym (z .scratch-is))
-      (subst (λ (y : List ℕ). BodyAsks s first 0 (D - 1) (replicate (length scratch) 0) y (M + 3) (count + 1)) (sym (z .rows-are))
-      (record {
-        m = sites (a .t);
-        ready = root.ready tables s D M (lent scratch rows) (a .t) (a .is) count (a .count-is);
-        blocks = omega (arith, limits .3);
-        wide = omega (arith, a .count-is);
-        room = omega (arith, scratch-long, room-is D (M + 3) (limits .0), length-replicate {A = ℕ} (length scratch) 0);
-        k = nothing;
-        weighs = refl;
-        holds = holds-two (M + 3) (count + 1) (replicate (length scratch) 0) [] [] (zeros-show (M + 3) (count + 1) (length scratch));
-      }))
-
   -- columns 2 and 3 of its row can be taken
   pub credit-asks : {t₁ r₁ : List ℕ} → Blank t₁ r₁ → slot 0 Column.span < length r₁
   credit-asks z = omega (arith, ap length (z .rows-are), root.row-there tables s D M (lent scratch rows) (a .t) (a .is) count (a .count-is))
 
-  -- The root was read: its numbers are c, and it left the scratch t₂ and the rows rows₂. Before it, columns 2 and 3 of its
-  -- row were taken.
-  pub record Read (before : Credit) (c : Open) (t₂ rows₂ : List ℕ) : Type 0 where
-    pub t₁ : List ℕ
-    pub r₁ : List ℕ
-    pub blank : Blank t₁ r₁
-    pub taken : before ≡ creditOf r₁ 0
-    pub scratch-same : length t₂ ≡ length scratch
-    pub rows-same : length rows₂ ≡ length rows
-    pub leaves : BodyLeaves s first 0 t₁ r₁ (M + 3) (count + 1) c t₂ rows₂
+  -- its cost lines weigh so
+  module _ (how : Weigh) (tabled : Tabled how) where
+    pub root-asks : {t₁ r₁ : List ℕ} → Blank t₁ r₁ → BodyAsks how s first 0 (D - 1) t₁ r₁ (count + 1) (count + 1)
+    root-asks {t₁} {r₁} z =
+        subst (λ (x : List ℕ). BodyAsks how s first 0 (D - 1) x r₁ (count + 1) (count + 1)) (sym (z .scratch-is))
+        (subst (λ (y : List ℕ). BodyAsks how s first 0 (D - 1) (replicate (length scratch) 0) y (count + 1) (count + 1)) (sym (z .rows-are))
+        (record {
+          m = count;
+          ready = root.ready tables s D M (lent scratch rows) (a .t) (a .is) count (a .count-is) how tabled;
+          blocks = omega arith;
+          wide = omega arith;
+          room = omega (arith, blocks-long, room-is D (count + 1) (limits .0), length-replicate {A = ℕ} (length scratch) 0);
+          k = nothing;
+          weighs = refl;
+          holds = holds-two (count + 1) (count + 1) (replicate (length scratch) 0) [] [] (zeros-show (count + 1) (count + 1) (length scratch));
+        }))
 
-  -- what its reading comes to
-  module _ {before : Credit} {c : Open} {t₂ rows₂ : List ℕ} (u : Read before c t₂ rows₂) where
-    took : before ≡ creditOf rows₁ 0
-    took = u .taken ∙ ap (λ (y : List ℕ). creditOf y 0) (u .blank .rows-are)
+    -- The root was read: its numbers are c, and it left the scratch t₂ and the rows rows₂. Before it, columns 2 and 3 of its
+    -- row were taken.
+    pub record Read (before : Credit) (c : Open) (t₂ rows₂ : List ℕ) : Type 0 where
+      pub t₁ : List ℕ
+      pub r₁ : List ℕ
+      pub blank : Blank t₁ r₁
+      pub taken : before ≡ creditOf r₁ 0
+      pub scratch-same : length t₂ ≡ length scratch
+      pub rows-same : length rows₂ ≡ length rows
+      pub leaves : BodyLeaves how s first 0 t₁ r₁ (count + 1) (count + 1) c t₂ rows₂
 
-    abbrev b : Body
-    b = root.body tables s D M (lent scratch rows) (a .t) (a .is) count (a .count-is)
+    -- what its reading comes to
+    module _ {before : Credit} {c : Open} {t₂ rows₂ : List ℕ} (u : Read before c t₂ rows₂) where
+      took : before ≡ creditOf rows₁ 0
+      took = u .taken ∙ ap (λ (y : List ℕ). creditOf y 0) (u .blank .rows-are)
 
-    left : BodyDone first 0 rows₁ b c rows₂ × Shows (M + 3) (count + 1) t₂ (alone (chainOf first 0 b)) []
-    left =
-        let h = u .leaves b (root.stands tables s D M (lent scratch rows) (a .t) (a .is) count (a .count-is)) (subst (λ (x : List ℕ). Shows (M + 3) (count + 1) x nothing []) (sym (u .blank .scratch-is)) (zeros-show (M + 3) (count + 1) (length scratch))) in
-        (subst (λ (y : List ℕ). BodyDone first 0 y b c rows₂) (u .blank .rows-are) (h .0), h .1)
+      abbrev b : Body
+      b = root.body tables s D M (lent scratch rows) (a .t) (a .is) count (a .count-is) how tabled
 
-    pub root-counts : ReturnFits before rows₂ 0 (c .work) (c .prefix)
-    root-counts = root.count-fits tables s D M (lent scratch rows) (a .t) (a .is) count (a .count-is) before took c rows₂ (u .rows-same) (left .0)
+      left : BodyDone first 0 rows₁ b c rows₂ × Shows (count + 1) (count + 1) t₂ (alone (chainOf first 0 b)) []
+      left =
+          let h = u .leaves b (root.reads tables s D M (lent scratch rows) (a .t) (a .is) count (a .count-is) how tabled) (subst (λ (x : List ℕ). Shows (count + 1) (count + 1) x nothing []) (sym (u .blank .scratch-is)) (zeros-show (count + 1) (count + 1) (length scratch))) in
+          (subst (λ (y : List ℕ). BodyDone first 0 y b c rows₂) (u .blank .rows-are) (h .0), h .1)
 
-    -- the root itself, and its table
-    module _ {rows₃ : List ℕ} (counts : Returned before 0 (c .work) (c .prefix) rows₂ rows₃) {t₃ rows₄ : List ℕ} (settled : Settled (count + 1) t₂ rows₃ t₃ rows₄) (l₃ : length t₃ ≡ length scratch) (l₄ : length rows₄ ≡ length rows) where
-      abbrev answer : Answer
-      answer = Accepted (c .work) (c .prefix) count lines
+      pub root-counts : ReturnFits before rows₂ 0 (c .work) (c .prefix)
+      root-counts = root.count-fits tables s D M (lent scratch rows) (a .t) (a .is) count (a .count-is) how tabled before took c rows₂ (u .rows-same) (left .0)
 
-      cells : (k : ℕ) (j : Column) → k ≤ count → getD rows₄ (slot k j) 0 ≡ cell count b k j
-      cells k j h = go (is-column j Column.onSpan)
-        where
-          go : Dec (j ≡ Column.onSpan) → getD rows₄ (slot k j) 0 ≡ cell count b k j
-          go (no q) =
-              settled .others (slot k j) (λ x y e. q (slot-apart k x j Column.onSpan e .1))
-              ∙ root.cells tables s D M (lent scratch rows) (a .t) (a .is) count (a .count-is) before took c rows₂ (u .rows-same) (left .0) rows₃ counts k j h q
-          go (yes e) =
-              let z : k ≡ 0 + k = omega arith in
-              rw e (settled .on-span k (omega arith) ∙ ap (λ (x : ℕ). getD t₂ x 0) z ∙ left .1 .P k (omega arith))
+      -- the root itself, and its table
+      module _ {rows₃ : List ℕ} (counts : Returned before 0 (c .work) (c .prefix) rows₂ rows₃) {t₃ rows₄ : List ℕ} (settled : Settled (count + 1) t₂ rows₃ t₃ rows₄) (l₃ : length t₃ ≡ length scratch) (l₄ : length rows₄ ≡ length rows) where
+        abbrev answer : Answer
+        answer = Accepted (c .work) (c .prefix) count lines
 
-      rest : (i : ℕ) → columns * (count + 1) ≤ i → getD rows₄ i 0 ≡ getD rows i 0
-      rest i h = go (decLt i (length rows))
-        where
-          go : Dec (i < length rows) → getD rows₄ i 0 ≡ getD rows i 0
-          go (yes q) =
-              settled .others i (λ x y e. omega arith) ∙ root.rest tables s D M (lent scratch rows) (a .t) (a .is) count (a .count-is) before took c rows₂ (u .rows-same) (left .0) rows₃ counts i h q
-          go (no q) = List·getD-eq-default rows₄ 0 {n = i} (omega arith) ∙ sym (List·getD-eq-default rows 0 {n = i} (omega arith))
+        cells : (k : ℕ) (j : Column) → k ≤ count → getD rows₄ (slot k j) 0 ≡ cell count b k j
+        cells k j h = go (is-column j Column.onSpan)
+          where
+            go : Dec (j ≡ Column.onSpan) → getD rows₄ (slot k j) 0 ≡ cell count b k j
+            go (no q) =
+                settled .others (slot k j) (λ x y e. q (slot-apart k x j Column.onSpan e .1))
+                ∙ root.cells tables s D M (lent scratch rows) (a .t) (a .is) count (a .count-is) how tabled before took c rows₂ (u .rows-same) (left .0) rows₃ counts k j h q
+            go (yes e) =
+                let z : k ≡ 0 + k = omega arith in
+                rw e (settled .on-span k (omega arith) ∙ ap (λ (x : ℕ). getD t₂ x 0) z ∙ left .1 .P k (omega arith))
 
-      scratch-zero : t₃ ≡ replicate (length scratch) 0
-      scratch-zero = ext-getD 0 t₃ (replicate (length scratch) 0) (l₃ ∙ sym (length-replicate {A = ℕ} (length scratch) 0)) (λ i l. go i (decLt i (count + 1)) ∙ sym (zeros-at (length scratch) i))
-        where
-          go : (i : ℕ) → Dec (i < count + 1) → getD t₃ i 0 ≡ 0
-          go i (yes q) = settled .gone i q
-          go i (no q) = settled .rest i (omega arith) ∙ own-only (M + 3) (count + 1) t₂ (chainOf first 0 b) (left .1) i (λ x y. omega arith)
+        rest : (i : ℕ) → columns * (count + 1) ≤ i → getD rows₄ i 0 ≡ getD rows i 0
+        rest i h = go (decLt i (length rows))
+          where
+            go : Dec (i < length rows) → getD rows₄ i 0 ≡ getD rows i 0
+            go (yes q) =
+                settled .others i (λ x y e. omega arith) ∙ root.rest tables s D M (lent scratch rows) (a .t) (a .is) count (a .count-is) how tabled before took c rows₂ (u .rows-same) (left .0) rows₃ counts i h q
+            go (no q) = List·getD-eq-default rows₄ 0 {n = i} (omega arith) ∙ sym (List·getD-eq-default rows 0 {n = i} (omega arith))
 
-      by-tree : ProfileBy tables count first b (lent scratch rows) answer (lent t₃ rows₄)
-      by-tree =
-          let fine = root.fine tables s D M (lent scratch rows) (a .t) (a .is) count (a .count-is) in
-          let work-is = root.work-is tables s D M (lent scratch rows) (a .t) (a .is) count (a .count-is) before took c rows₂ (u .rows-same) (left .0) in
-          let span-is = root.span-is tables s D M (lent scratch rows) (a .t) (a .is) count (a .count-is) before took c rows₂ (u .rows-same) (left .0) in
-          record {
-            answer =
-                ap (λ (x : ℕ). Accepted x (c .prefix) count lines) work-is
-                ∙ ap (λ (x : ℕ). Accepted (workOf b) x count lines) span-is
-                ∙ ap (λ (x : ℕ). Accepted (workOf b) (spanOf b) count x) (sym (a .lines-is) ∙ length-is D (a .t) (tree D M (a .t) fine) ∙ ap (λ (m : ℕ). m + size b) (root.first-is tables s D M (lent scratch rows) (a .t) (a .is) count (a .count-is)));
-            rows = record { same-length = l₄; cells = cells; rest = rest };
-            scratch = scratch-zero;
-            marked = refl;
-          }
+        scratch-zero : t₃ ≡ replicate (length scratch) 0
+        scratch-zero = ext-getD 0 t₃ (replicate (length scratch) 0) (l₃ ∙ sym (length-replicate {A = ℕ} (length scratch) 0)) (λ i l. go i (decLt i (count + 1)) ∙ sym (zeros-at (length scratch) i))
+          where
+            go : (i : ℕ) → Dec (i < count + 1) → getD t₃ i 0 ≡ 0
+            go i (yes q) = settled .gone i q
+            go i (no q) = settled .rest i (omega arith) ∙ own-only (count + 1) (count + 1) t₂ (chainOf first 0 b) (left .1) i (λ x y. omega arith)
 
-      pub promised : Promise tables s D M (lent scratch rows) answer (lent t₃ rows₄)
-      promised =
-          let fine = root.fine tables s D M (lent scratch rows) (a .t) (a .is) count (a .count-is) in
-          let p = tree D M (a .t) fine in
-          let q = profile-same tables (lent scratch rows) answer (lent t₃ rows₄) (a .count-is) (root.first-is tables s D M (lent scratch rows) (a .t) (a .is) count (a .count-is)) refl by-tree in
-          let h = tree-profile D (a .t) p tables (lent scratch rows) answer (lent t₃ rows₄) q in
-          record {
-            when-accepted = λ u e. (let z : a .t ≡ u = accepted-same (a .t) u (sym (a .is) ∙ e) in subst (λ (x : List Frame). Profile tables x (lent scratch rows) answer (lent t₃ rows₄)) z h);
-            when-refused = λ k n e. clash (let z = sym (a .is) ∙ e in cc);
-          }
+        by-tree : ProfileBy tables count first b (lent scratch rows) answer (lent t₃ rows₄)
+        by-tree =
+            let work-is = root.work-is tables s D M (lent scratch rows) (a .t) (a .is) count (a .count-is) how tabled before took c rows₂ (u .rows-same) (left .0) in
+            let span-is = root.span-is tables s D M (lent scratch rows) (a .t) (a .is) count (a .count-is) how tabled before took c rows₂ (u .rows-same) (left .0) in
+            record {
+              answer =
+                  ap (λ (x : ℕ). Accepted x (c .prefix) count lines) work-is
+                  ∙ ap (λ (x : ℕ). Accepted (workOf b) x count lines) span-is
+                  ∙ ap (λ (x : ℕ). Accepted (workOf b) (spanOf b) count x) (sym (a .lines-is) ∙ root.lines-are tables s D M (lent scratch rows) (a .t) (a .is) count (a .count-is) how tabled);
+              rows = record { same-length = l₄; cells = cells; rest = rest };
+              scratch = scratch-zero;
+              marked = refl;
+            }
+
+        pub promised : Profiled tables how s D M (lent scratch rows) answer (lent t₃ rows₄)
+        promised t e =
+            let same : a .t ≡ t = accepted-same (a .t) t (sym (a .is) ∙ e) in
+            let h = root.profiled tables s D M (lent scratch rows) (a .t) (a .is) count (a .count-is) how tabled answer (lent t₃ rows₄) by-tree in
+            subst (λ (x : List Frame). Profile tables (reweighed how 0 (0 ∷ []) x) (lent scratch rows) answer (lent t₃ rows₄)) same h
 
 -- what the answer of acceptance says
 module _ (s : List ℕ) (D M : ℕ) (scratch rows : List ℕ) where
@@ -186,5 +191,14 @@ module _ (s : List ℕ) (D M : ℕ) (scratch rows : List ℕ) where
   pub refuses : (number line : ℕ) → Verdict.Refused number line ≡ admission tables s D M (length scratch) (length rows) 0 → Promise tables s D M (lent scratch rows) (Refused number line) (lent scratch rows)
   refuses number line e =
       let v = verdict s D M (enough tables s D M (lent scratch rows)) in
-      let h : v ≡ refused number line = refused-only v number line e in
-      record { when-accepted = λ t q. clash (let z = sym h ∙ q in cc); when-refused = λ n k q. (let z = sym h ∙ q in (cc), refl) }
+      kept-refused tables v (lent scratch rows) number line (refused-only v number line e)
+
+  -- whatever is asked
+  pub unasked : (l : Listed) (number line : ℕ) → Verdict.Refused number line ≡ admission tables s D M (length scratch) (length rows) 0
+      → ForecastOf tables l s D M (lent scratch rows) (Refused number line) (lent scratch rows)
+  unasked l number line e = text-refused tables s D M (lent scratch rows) l number line (refused-only (verdict s D M (enough tables s D M (lent scratch rows))) number line e)
+
+-- with no factor it is the plain profile
+pub plain : {s : List ℕ} {D M : ℕ} {scratch rows : List ℕ} {count lines : ℕ} → Admitted s D M scratch rows count lines → (r : Answer) (t′ rows′ : List ℕ)
+    → Profiled tables (byFactors []) s D M (lent scratch rows) r (lent t′ rows′) → Promise tables s D M (lent scratch rows) r (lent t′ rows′)
+plain {s} {D} {M} {scratch} {rows} a r t′ rows′ h = plain-promise tables s D M (lent scratch rows) (a .t) (a .is) (byFactors []) weight-plain r (lent t′ rows′) h

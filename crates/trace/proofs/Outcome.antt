@@ -17,7 +17,7 @@ use Rattle.trace.specs.Shape.{has, sites}
 use Rattle.trace.specs.Rows.{columns, Spans}
 use Rattle.trace.specs.Column.{Column, slot}
 use Rattle.trace.specs.Refusals.{lineCount, Verdict, accepted, refused, verdict}
-use Rattle.trace.specs.Promise.{Engine, tables, marks, Lent, scratchRoom, marksRoom, rowsRoom, enough, acceptance, refusal, Row, Marked, Profile, Promise}
+use Rattle.trace.specs.Promise.{Engine, tables, marks, Lent, scratchRoom, marksRoom, rowsRoom, enough, acceptance, refusal, Row, Marked, Profile, Kept, Promise}
 use Rattle.trace.specs.Tree.{Body, linesOf, size, Parts, workOf, spanOf, rootAt}
 use Rattle.trace.specs.Fold.{chainOf}
 use Rattle.trace.specs.ByTree.{cell, RowsBy, ProfileBy}
@@ -139,18 +139,19 @@ by-tree-unique e m first b before r q x y h k = (
       (marked-unique e (first + size b) (linesIn (chainOf first 0 b)) (before .marks) (x .marks) (y .marks) (h .marked) (k .marked)),
 )
 
+-- LAW: two outcomes that keep to a verdict for the same room are equal
+pub kept-unique : (e : Engine) (v : Verdict) (before : Lent) → ((t : List Frame) → v ≡ accepted t → (D : ℕ) × Parts D t) → (r q : Answer) (x y : Lent) → Kept e v before r x → Kept e v before q y → (r ≡ q) × (x ≡ y)
+kept-unique e (accepted t) before p r q x y h k =
+    let d = p t refl in
+    by-tree-unique e (sites t) (rootAt (d .1)) (d .1 .body) before r q x y (profile-tree (d .0) t (d .1) e before r x (h .when-accepted t refl)) (profile-tree (d .0) t (d .1) e before q y (k .when-accepted t refl))
+kept-unique e (refused n l) before p r q x y h k =
+    let u = h .when-refused n l refl in
+    let v = k .when-refused n l refl in
+    (u .0 ∙ sym (v .0), u .1 ∙ sym (v .1))
+
 -- LAW: two outcomes that meet the promise for the same text, limits and room are equal
 pub promise-unique : (e : Engine) (s : List ℕ) (D M : ℕ) (before : Lent) (r q : Answer) (x y : Lent) → Promise e s D M before r x → Promise e s D M before q y → (r ≡ q) × (x ≡ y)
-promise-unique e s D M before r q x y h k = go (verdict s D M (enough e s D M before)) refl
-  where
-    go : (v : Verdict) → verdict s D M (enough e s D M before) ≡ v → (r ≡ q) × (x ≡ y)
-    go (accepted t) a =
-        let p = accepted-parts s D M (enough e s D M before) t a in
-        by-tree-unique e (sites t) (rootAt p) (p .body) before r q x y (profile-tree D t p e before r x (h .when-accepted t a)) (profile-tree D t p e before q y (k .when-accepted t a))
-    go (refused n l) a =
-        let u = h .when-refused n l a in
-        let v = k .when-refused n l a in
-        (u .0 ∙ sym (v .0), u .1 ∙ sym (v .1))
+promise-unique e s D M before = kept-unique e (verdict s D M (enough e s D M before)) before (λ t a. (D, accepted-parts s D M (enough e s D M before) t a))
 
 -- ── there is some ──
 
@@ -227,34 +228,58 @@ module _ (m first : ℕ) (b : Body) (before : Lent) (rows-fit : columns * (m + 1
         record { answer = refl; rows = rows-by; scratch = refl; marked = w .1 },
       )
 
--- LAW: whatever is lent, some outcome meets the promise
-pub promise-met : (e : Engine) (s : List ℕ) (D M : ℕ) (before : Lent) → (r : Answer) × (after : Lent) × Promise e s D M before r after
-promise-met e s D M before = go (verdict s D M (enough e s D M before)) refl
+-- what a verdict says of a trace that it accepts: it keeps the limits, and the rows and the marks are there
+pub record Housed (e : Engine) (before : Lent) (t : List Frame) : Type 0 where
+  pub D : ℕ
+  pub parts : Parts D t
+  pub rows-there : columns * (sites t + 1) ≤ length (before .rows)
+  pub marks-there : e ≡ marks → length t ≤ length (before .marks)
+
+-- LAW: whatever is lent, some outcome keeps to the verdict
+pub kept-met : (e : Engine) (v : Verdict) (before : Lent) → ((t : List Frame) → v ≡ accepted t → Housed e before t) → (r : Answer) × (after : Lent) × Kept e v before r after
+kept-met e (accepted t) before h =
+    let a = h t refl in
+    let p = a .parts in
+    let w = some-profile (sites t) (rootAt p) (p .body) before (a .rows-there) e (λ q. omega (arith, a .marks-there q, length-is (a .D) t p)) in (
+      w .0,
+      w .1,
+      record {
+        when-accepted = λ u q. (let i : t ≡ u = cc in subst (λ (z : List Frame). Profile e z before (w .0) (w .1)) i (tree-profile (a .D) t p e before (w .0) (w .1) (w .2)));
+        when-refused = λ n k q. clash (cc);
+      },
+    )
+kept-met e (refused n k) before h = (
+  refusal n k,
+  before,
+  record {
+    when-accepted = λ u q. clash (cc);
+    when-refused = λ i j q. (let c : n ≡ i = cc in let d : k ≡ j = cc in (ap (λ (z : ℕ). refusal z k) c ∙ ap (refusal i) d, refl));
+  },
+)
+
+-- an accepted trace has its room
+pub accepted-housed : (e : Engine) (s : List ℕ) (D M : ℕ) (before : Lent) (t : List Frame) → verdict s D M (enough e s D M before) ≡ accepted t → Housed e before t
+accepted-housed e s D M before t a =
+    record {
+      D = D;
+      parts = parts D M t f;
+      rows-there = omega (arith, sites-le-M D M t f, y);
+      marks-there = marks-fit e (length t) (accepted-length s D M (enough e s D M before) t a) (x .1);
+    }
   where
+    f : Fine D M t
+    f = accepted-fine s D M (enough e s D M before) t a
+
+    x : (leb (scratchRoom e D M) (length (before .scratch)) && leb (rowsRoom M) (length (before .rows)) ≡ true) × (leb (marksRoom e s) (length (before .marks)) ≡ true)
+    x = both (leb (scratchRoom e D M) (length (before .scratch)) && leb (rowsRoom M) (length (before .rows))) (leb (marksRoom e s) (length (before .marks))) (accepted-is s D M (enough e s D M before) t a .0)
+
+    y : rowsRoom M ≤ length (before .rows)
+    y = leb-true (rowsRoom M) (length (before .rows)) (both (leb (scratchRoom e D M) (length (before .scratch))) (leb (rowsRoom M) (length (before .rows))) (x .0) .1)
+
     marks-fit : (e : Engine) (k : ℕ) → k ≡ lineCount s → leb (marksRoom e s) (length (before .marks)) ≡ true → e ≡ marks → k ≤ length (before .marks)
     marks-fit tables k l h q = clash (cc)
     marks-fit marks k l h q = omega (arith, leb-true (lineCount s) (length (before .marks)) h)
 
-    go : (v : Verdict) → verdict s D M (enough e s D M before) ≡ v → (r : Answer) × (after : Lent) × Promise e s D M before r after
-    go (accepted t) a =
-        let f = accepted-fine s D M (enough e s D M before) t a in
-        let p = parts D M t f in
-        let x = both (leb (scratchRoom e D M) (length (before .scratch)) && leb (rowsRoom M) (length (before .rows))) (leb (marksRoom e s) (length (before .marks))) (accepted-is s D M (enough e s D M before) t a .0) in
-        let y = leb-true (rowsRoom M) (length (before .rows)) (both (leb (scratchRoom e D M) (length (before .scratch))) (leb (rowsRoom M) (length (before .rows))) (x .0) .1) in
-        let w = some-profile (sites t) (rootAt p) (p .body) before (omega (arith, sites-le-M D M t f))
-        e (marks-fit e (rootAt p + size (p .body)) (sym (length-is D t p) ∙ accepted-length s D M (enough e s D M before) t a) (x .1)) in (
-          w .0,
-          w .1,
-          record {
-            when-accepted = λ u q. (let i : t ≡ u = cc in subst (λ (z : List Frame). Profile e z before (w .0) (w .1)) i (tree-profile D t p e before (w .0) (w .1) (w .2)));
-            when-refused = λ n k q. clash (cc);
-          },
-        )
-    go (refused n k) a = (
-      refusal n k,
-      before,
-      record {
-        when-accepted = λ u q. clash (cc);
-        when-refused = λ i j q. (let c : n ≡ i = cc in let d : k ≡ j = cc in (ap (λ (z : ℕ). refusal z k) c ∙ ap (refusal i) d, refl));
-      },
-    )
+-- LAW: whatever is lent, some outcome meets the promise
+pub promise-met : (e : Engine) (s : List ℕ) (D M : ℕ) (before : Lent) → (r : Answer) × (after : Lent) × Promise e s D M before r after
+promise-met e s D M before = kept-met e (verdict s D M (enough e s D M before)) before (accepted-housed e s D M before)

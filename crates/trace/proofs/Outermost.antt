@@ -27,7 +27,7 @@ open-here : (t : List Frame) (n : ℕ) (o : List ℕ) (e : Frame) (v : List Fram
 open-here t n o e v x = let f : n ≡ n + 0 = omega arith in ap (openAt t) f ∙ at-open t n o (e ∷ v) x 0
 
 -- the invocation that line n makes is of row s exactly where its site is s
-of-site : (t : List Frame) (n i s : ℕ) (w : Way) → Is t n (opening w i) → has (suc n) (made 0 t s) ≡ eqb i s
+pub of-site : (t : List Frame) (n i s : ℕ) (w : Way) → Is t n (opening w i) → has (suc n) (made 0 t s) ≡ eqb i s
 of-site t n i s w h =
     let q : suc n ≡ suc (0 + n) = omega arith in
     ap (λ (c : ℕ). has c (made 0 t s)) q ∙ has-made 0 t n s ∙ makes-at t n i s w h

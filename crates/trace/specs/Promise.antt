@@ -12,7 +12,7 @@ use Rattle.trace.specs.Shape.{root, has, sites}
 use Rattle.trace.specs.Series.{Span, Chosen}
 use Rattle.trace.specs.Rows.{columns, total, calls, work, Spans, local, onSpan}
 use Rattle.trace.specs.Column.{Column, slot}
-use Rattle.trace.specs.Refusals.{lineCount, accepted, refused, verdict}
+use Rattle.trace.specs.Refusals.{lineCount, Verdict, accepted, refused, verdict}
 
 pub data Engine : Type 0 where
   tables marks : Engine
@@ -90,8 +90,12 @@ pub record Profile (e : Engine) (t : List Frame) (before : Lent) (r : Answer) (a
   pub scratch : after .scratch ≡ replicate (length (before .scratch)) 0
   pub marked : Marked e (length t) chain (before .marks) (after .marks)
 
--- The engine e, lent the text s with limits D and M, and the room before, answers r and leaves after.
--- "Every lent slice, scratch included, is unchanged" where it refuses.
-pub record Promise (e : Engine) (s : List ℕ) (D M : ℕ) (before : Lent) (r : Answer) (after : Lent) : Type 0 where
-  pub when-accepted : (t : List Frame) → verdict s D M (enough e s D M before) ≡ accepted t → Profile e t before r after
-  pub when-refused : (number line : ℕ) → verdict s D M (enough e s D M before) ≡ refused number line → (r ≡ refusal number line) × (after ≡ before)
+-- The engine e, lent the room before, answers r and leaves after, where this is the verdict. "Every lent slice, scratch
+-- included, is unchanged" where it refuses.
+pub record Kept (e : Engine) (v : Verdict) (before : Lent) (r : Answer) (after : Lent) : Type 0 where
+  pub when-accepted : (t : List Frame) → v ≡ accepted t → Profile e t before r after
+  pub when-refused : (number line : ℕ) → v ≡ refused number line → (r ≡ refusal number line) × (after ≡ before)
+
+-- the same of the text s with limits D and M
+abbrev pub Promise : Engine → List ℕ → ℕ → ℕ → Lent → Answer → Lent → Type 0
+Promise e s D M before r after = Kept e (verdict s D M (enough e s D M before)) before r after

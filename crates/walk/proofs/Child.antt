@@ -12,65 +12,69 @@ use Rattle.line.specs.declared.Frame.the-variants.{Call, Spawn, Cost}
 use Rattle.chain.specs.Plan.{weight}
 use Rattle.trace.specs.Rows.{columns}
 use Rattle.trace.specs.Column.{Column, slot}
-use Rattle.trace.specs.Tree.{Way, call, spawn, spend, Body, leaf, child, linesOf, size, Within, workOf}
+use Rattle.trace.specs.Tree.{Way, call, spawn, spend, Body, leaf, child, size, Within, workOf}
 use Rattle.trace.specs.Fold.{Chains, nothing, chainOf}
 use Rattle.trace.proofs.Slots.{slot-in}
+use Rattle.weigh.specs.Weighed.{Weigh}
 use Rattle.walk.specs.declared.Open.{Open}
 use Rattle.walk.specs.declared.Credit.{Credit}
-use Rattle.walk.specs.Stands.{Stands, Says, kindOf, siteOf, valueOf}
+use Rattle.walk.specs.Stands.{Says, kindOf, siteOf, valueOf}
+use Rattle.walk.specs.Reads.{Reads}
 use Rattle.walk.specs.Numbers.{numbers}
 use Rattle.walk.specs.Gain.{ColumnFits, creditOf, ReturnFits, Returned, made}
 use Rattle.walk.specs.Item.{More}
 use Rattle.walk.specs.Reader.{Ready, BodyDone}
-use Rattle.walk.proofs.Items.{stands-left}
 use Rattle.walk.proofs.Lines.{is-spend, is-call, is-spawn}
 use Rattle.walk.proofs.Return.{came, return-fits, made-grown}
 
--- what stands at line n, where a line of this kind does
-module _ (s : List ℕ) (n kind : ℕ) (says : Says kindOf s n kind) where
-  pub cost-is : (v : ℕ) → Says valueOf s n v → kind ≡ 6 → (b : Body) → Stands s n (linesOf b) → (r : Body) × (b ≡ leaf (spend v) r)
-  cost-is v costs k6 b h =
-      let e = is-spend s n kind says b h k6 in
-      let q : v ≡ e .0 = costs (Cost (e .0)) (subst (λ (x : Body). Stands s n (linesOf x)) (e .2) h .0) in
-      (e .1, e .2 ∙ ap (λ (x : ℕ). leaf (spend x) (e .1)) (sym q))
+-- what is at line n, where a line of this kind is
+module _ (w : Weigh) (s : List ℕ) (n row kind : ℕ) (says : Says kindOf s n kind) where
+  -- a cost, whose value weighs v
+  pub cost-is : (x v : ℕ) → Says valueOf s n x → v ≡ w n row x → kind ≡ 6 → (b : Body) → Reads w s n row b → (r : Body) × (b ≡ leaf (spend v) r)
+  cost-is x v valued weighs k6 b h =
+      let e = is-spend w s n row kind says b h k6 in
+      let z = subst (Reads w s n row) (e .2) h .0 in
+      let q : v ≡ e .0 = weighs ∙ ap (w n row) (valued (Cost (z .0)) (z .1)) ∙ sym (z .2) in
+      (e .1, e .2 ∙ ap (λ (y : ℕ). leaf (spend y) (e .1)) (sym q))
 
   -- a call or a spawn of site
   module _ (site : ℕ) (sited : Says siteOf s n site) where
-    pub call-is : (b : Body) → Stands s n (linesOf b) → kind ≡ 2 → (g : Body) × (r : Body) × (b ≡ child call site g r) × Stands s (n + 1) (linesOf g)
+    pub call-is : (b : Body) → Reads w s n row b → kind ≡ 2 → (g : Body) × (r : Body) × (b ≡ child call site g r) × Reads w s (n + 1) site g
     call-is b h k2 =
-        let e = is-call s n kind says b h k2 in
-        let z = subst (λ (x : Body). Stands s n (linesOf x)) (e .3) h in
+        let e = is-call w s n row kind says b h k2 in
+        let z = subst (Reads w s n row) (e .3) h in
         let q : site ≡ e .0 = sited (Call (e .0)) (z .0) in
-        (e .1, e .2, e .3 ∙ ap (λ (x : ℕ). child call x (e .1) (e .2)) (sym q), stands-left s (linesOf (e .1)) (linesOf (e .2)) (n + 1) (z .1))
+        (e .1, e .2, e .3 ∙ ap (λ (x : ℕ). child call x (e .1) (e .2)) (sym q), subst (λ (x : ℕ). Reads w s (n + 1) x (e .1)) (sym q) (z .1))
 
     module _ (k6 : kind ≡ 6 → ⊥) (k4 : kind ≡ 4 → ⊥) where
-      pub spawn-is : (b : Body) → Stands s n (linesOf b) → More b → (kind ≡ 2 → ⊥) → (g : Body) × (r : Body) × (b ≡ child spawn site g r) × Stands s (n + 1) (linesOf g)
+      pub spawn-is : (b : Body) → Reads w s n row b → More b → (kind ≡ 2 → ⊥) → (g : Body) × (r : Body) × (b ≡ child spawn site g r) × Reads w s (n + 1) site g
       spawn-is b h m k2 =
-          let e = is-spawn s n kind says b h k2 k4 k6 m in
-          let z = subst (λ (x : Body). Stands s n (linesOf x)) (e .3) h in
+          let e = is-spawn w s n row kind says b h k2 k4 k6 m in
+          let z = subst (Reads w s n row) (e .3) h in
           let q : site ≡ e .0 = sited (Spawn (e .0)) (z .0) in
-          (e .1, e .2, e .3 ∙ ap (λ (x : ℕ). child spawn x (e .1) (e .2)) (sym q), stands-left s (linesOf (e .1)) (linesOf (e .2)) (n + 1) (z .1))
+          (e .1, e .2, e .3 ∙ ap (λ (x : ℕ). child spawn x (e .1) (e .2)) (sym q), subst (λ (x : ℕ). Reads w s (n + 1) x (e .1)) (sym q) (z .1))
 
 -- the first item of b, at line n, is a call or a spawn of site: its body g, and what stands behind it
-pub record Child (s : List ℕ) (n site : ℕ) (b : Body) : Type 0 where
+pub record Child (w : Weigh) (s : List ℕ) (n site : ℕ) (b : Body) : Type 0 where
   pub way : Way
   pub g : Body
   pub r : Body
   pub is : b ≡ child way site g r
-  pub stands : Stands s (n + 1) (linesOf g)
+  pub reads : Reads w s (n + 1) site g
 
-pub child-is : (s : List ℕ) (n kind site : ℕ) → Says kindOf s n kind → Says siteOf s n site → (kind ≡ 6 → ⊥) → (kind ≡ 4 → ⊥) → (b : Body) → Stands s n (linesOf b) → More b → Child s n site b
-child-is s n kind site says sited k6 k4 b h m = go (eqb kind 2) refl
+pub child-is : (w : Weigh) (s : List ℕ) (n row kind site : ℕ) → Says kindOf s n kind → Says siteOf s n site → (kind ≡ 6 → ⊥) → (kind ≡ 4 → ⊥) → (b : Body) → Reads w s n row b → More b
+    → Child w s n site b
+child-is w s n row kind site says sited k6 k4 b h m = go (eqb kind 2) refl
   where
-    go : (t : Bool) → eqb kind 2 ≡ t → Child s n site b
-    go true e = let q = call-is s n kind says site sited b h (eqb-true kind 2 e) in record { way = call; g = q .0; r = q .1; is = q .2; stands = q .3 }
-    go false e = let q = spawn-is s n kind says site sited k6 k4 b h m (eqb-false kind 2 e) in record { way = spawn; g = q .0; r = q .1; is = q .2; stands = q .3 }
+    go : (t : Bool) → eqb kind 2 ≡ t → Child w s n site b
+    go true e = let q = call-is w s n row kind says site sited b h (eqb-true kind 2 e) in record { way = call; g = q .0; r = q .1; is = q .2; reads = q .3 }
+    go false e = let q = spawn-is w s n row kind says site sited k6 k4 b h m (eqb-false kind 2 e) in record { way = spawn; g = q .0; r = q .1; is = q .2; reads = q .3 }
 
 -- a child's lines are among the item's, and its invocation is one more that is open
-pub within-child : (s : List ℕ) (n site m D d : ℕ) (b : Body) (c : Child s n site b) → Within m D d b → (site ≤ m) × (suc d ≤ D) × Within m D (suc d) (c .g) × (1 + size (c .g) ≤ size b)
-within-child s n site m D d b c w = let h = subst (Within m D d) (c .is) w in (h .1, h .2, h .3, omega (arith, ap size (c .is)))
+pub within-child : (w : Weigh) (s : List ℕ) (n site m D d : ℕ) (b : Body) (c : Child w s n site b) → Within m D d b → (site ≤ m) × (suc d ≤ D) × Within m D (suc d) (c .g) × (1 + size (c .g) ≤ size b)
+within-child w s n site m D d b c k = let h = subst (Within m D d) (c .is) k in (h .1, h .2, h .3, omega (arith, ap size (c .is)))
 
-module _ (s : List ℕ) (row m deep : ℕ) (f : Open) (rows : List ℕ) (y : Ready s row m deep f rows) where
+module _ (w : Weigh) (s : List ℕ) (row m deep : ℕ) (f : Open) (rows : List ℕ) (y : Ready w s row m deep f rows) where
   -- a cost of v fits the rows, the work and the chains
   pub cost-fits : (v : ℕ) (r : Body) → y .body ≡ leaf (spend v) r
       → ColumnFits rows row Column.local v × ((f .work + v < 2 ^ 64) × (f .prefix + (f .longest + f .since) + v < 2 ^ 64))
@@ -80,7 +84,7 @@ module _ (s : List ℕ) (row m deep : ℕ) (f : Open) (rows : List ℕ) (y : Rea
   )
 
   -- a call or a spawn of site
-  module _ (site : ℕ) (c : Child s (f .at) site (y .body)) where
+  module _ (site : ℕ) (c : Child w s (f .at) site (y .body)) where
     abbrev inner : Body
     inner = c .g
 
@@ -88,7 +92,7 @@ module _ (s : List ℕ) (row m deep : ℕ) (f : Open) (rows : List ℕ) (y : Rea
     child-work = (omega (arith, y .work-fits, ap workOf (c .is)), omega (arith, y .load-fits, ap workOf (c .is)))
 
     in-it : (site ≤ m) × (suc (y .d) ≤ y .D) × Within m (y .D) (suc (y .d)) inner × (1 + size inner ≤ size (y .body))
-    in-it = within-child s (f .at) site m (y .D) (y .d) (y .body) c (y .within)
+    in-it = within-child w s (f .at) site m (y .D) (y .d) (y .body) c (y .within)
 
     pub deeper : 1 ≤ deep
     deeper = omega (arith, in-it .1, y .depth)
@@ -103,11 +107,11 @@ module _ (s : List ℕ) (row m deep : ℕ) (f : Open) (rows : List ℕ) (y : Rea
     pub child-row : slot site Column.span < length rows
     child-row = omega (arith, slot-in m site Column.span (in-it .0), y .rows-long)
 
-    pub child-ready : Ready s site m (deep - 1) (numbers (f .at + 1) 0 nothing) rows
+    pub child-ready : Ready w s site m (deep - 1) (numbers (f .at + 1) 0 nothing) rows
     child-ready =
         record {
           body = inner;
-          stands = c .stands;
+          reads = c .reads;
           D = y .D;
           d = suc (y .d);
           within = in-it .2;

@@ -1,5 +1,5 @@
 -- A body is its first item and the rest: size, work, rows, chains, lines.
-use mathlib.Core.Path.{_≡_, refl, ap, sym, subst}
+use mathlib.Core.Path.{_≡_, refl, ap, sym}
 use mathlib.Core.Logic.{_⊎_, inl, inr}
 use mathlib.Core.Bool.{Bool, true, false, cond}
 use mathlib.Core.List.{List, [], _∷_, _++_}
@@ -7,17 +7,15 @@ use Prim.Native.Nat.{ℕ, suc, _+_, _≤_, _<_}
 use native.Mathlib.Numerals.{add-one}
 use native.Mathlib.Omega.{arith}
 use lib.Dec.{eqb, ltb}
-use lib.ListN.{length}
-use Rattle.line.specs.declared.Frame.{Frame}
 use Rattle.chain.specs.Plan.{CostLine, weight, choose}
 use Rattle.chain.proofs.Lists.{weight-append}
 use Rattle.chain.proofs.Choose.{choose-cases}
 use Rattle.trace.specs.Column.{Column, slot}
-use Rattle.trace.specs.Tree.{Way, call, spawn, Leaf, spend, sync, leafWork, Body, done, leaf, child, linesOf, size, Within, workOf}
+use Rattle.trace.specs.Tree.{Way, call, spawn, Leaf, spend, sync, leafWork, Body, done, leaf, child, size, Within, workOf}
 use Rattle.trace.specs.Fold.{costAt, Chains, nothing, joined, spawned, leafChains, ended, childChains, run, chainOf}
 use Rattle.trace.proofs.Basics.{cond-le}
-use Rattle.trace.proofs.Tree.{size-is}
-use Rattle.walk.specs.Stands.{Stands}
+use Rattle.weigh.specs.Weighed.{Weigh}
+use Rattle.walk.specs.Reads.{Reads}
 use Rattle.walk.specs.Numbers.{load}
 use Rattle.walk.specs.Gain.{gain}
 use Rattle.walk.specs.Item.{More, rest, itemSize, itemWork, itemGain, itemChains}
@@ -103,26 +101,11 @@ load-item done n s k = omega arith
 load-item (leaf l r) n s k = leaf-load l n s k
 load-item (child w j g r) n s k = omega (arith, child-load w (run (n + 1) j g) k, run-load g (n + 1) j nothing)
 
--- lines that stand one behind the other
-pub stands-left : (s : List ℕ) (u v : List Frame) (n : ℕ) → Stands s n (u ++ v) → Stands s n u
-stands-left s [] v n h = tt
-stands-left s (f ∷ u) v n h = (h .0, stands-left s u v (n + 1) (h .1))
-
-pub stands-right : (s : List ℕ) (u v : List Frame) (n : ℕ) → Stands s n (u ++ v) → Stands s (n + length u) v
-stands-right s [] v n h = let e : n ≡ n + 0 = omega arith in subst (λ (k : ℕ). Stands s k v) e h
-stands-right s (f ∷ u) v n h =
-    let e : n + 1 + length u ≡ n + suc (length u) = omega arith in
-    subst (λ (k : ℕ). Stands s k v) e (stands-right s u v (n + 1) (h .1))
-
-past-child : (s : List ℕ) (g r : Body) (n : ℕ) → Stands s (n + 1) (linesOf g ++ linesOf r) → Stands s (n + (1 + size g)) (linesOf r)
-past-child s g r n h =
-    let e : n + 1 + length (linesOf g) ≡ n + (1 + size g) = omega (arith, size-is g) in
-    subst (λ (k : ℕ). Stands s k (linesOf r)) e (stands-right s (linesOf g) (linesOf r) (n + 1) h)
-
-pub stands-rest : (s : List ℕ) (b : Body) (n : ℕ) → More b → Stands s n (linesOf b) → Stands s (n + itemSize b) (linesOf (rest b))
-stands-rest s done n m h = absurd m
-stands-rest s (leaf l r) n m h = h .1
-stands-rest s (child w j g r) n m h = past-child s g r n (h .1)
+-- the lines behind the first item
+pub reads-rest : (w : Weigh) (s : List ℕ) (n row : ℕ) (b : Body) → More b → Reads w s n row b → Reads w s (n + itemSize b) row (rest b)
+reads-rest w s n row done m h = absurd m
+reads-rest w s n row (leaf l r) m h = h .1
+reads-rest w s n row (child y j g r) m h = h .2
 
 pub within-rest : (m D d : ℕ) (b : Body) → Within m D d b → Within m D d (rest b)
 within-rest m D d done h = tt

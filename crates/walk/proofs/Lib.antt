@@ -5,9 +5,12 @@ pub mod Rows
 pub mod Return
 pub mod Reader
 pub mod Says
+pub mod Weight
 pub mod Columns
+pub mod Stands
 pub mod Root
 pub mod Zeros
 pub mod Child
 pub mod Room
 pub mod Accepted
+pub mod Profiled

@@ -4,15 +4,16 @@ use mathlib.Core.List.{List}
 use Prim.Native.Nat.{ℕ, _+_, _<_}
 use native.Mathlib.Omega.{arith}
 use lib.ListN.{length}
-use Rattle.trace.specs.Tree.{Body, done, linesOf, size, workOf}
+use Rattle.trace.specs.Tree.{Body, done, size, workOf}
 use Rattle.trace.specs.Fold.{Chains, nothing, joined, run}
+use Rattle.weigh.specs.Weighed.{Weigh}
 use Rattle.walk.specs.declared.Open.{Open}
-use Rattle.walk.specs.Stands.{Stands}
+use Rattle.walk.specs.Reads.{Reads}
 use Rattle.walk.specs.Numbers.{numbers, load}
 use Rattle.walk.specs.Gain.{gain}
 use Rattle.walk.specs.Item.{More, rest, itemSize, itemWork, itemChains}
 use Rattle.walk.specs.Reader.{Ready, ItemDone, ItemsDone, BodyDone, Turn}
-use Rattle.walk.proofs.Items.{size-item, item-some, work-item, gain-item, item-gain-le, run-item, load-item, stands-rest, within-rest}
+use Rattle.walk.proofs.Items.{size-item, item-some, work-item, gain-item, item-gain-le, run-item, load-item, reads-rest, within-rest}
 
 -- what the numbers of f are, where they are those of chains
 pub load-is : (f : Open) (k : Chains) → f ≡ numbers (f .at) (f .work) k → f .prefix + (f .longest + f .since) ≡ load k
@@ -22,7 +23,7 @@ load-is f k e = omega (arith, ap (λ (x : Open). x .prefix) e, ap (λ (x : Open)
 pub own-numbers : (f : Open) (n w : ℕ) (k : Chains) → f ≡ numbers n w k → f ≡ numbers (f .at) (f .work) k
 own-numbers f n w k e = e ∙ ap (λ (j : ℕ). numbers j w k) (sym (ap (λ (x : Open). x .at) e)) ∙ ap (λ (j : ℕ). numbers (f .at) j k) (sym (ap (λ (x : Open). x .work) e))
 
-module _ (s : List ℕ) (row m deep : ℕ) (f : Open) (rows : List ℕ) (r : Ready s row m deep f rows) (more : More (r .body))
+module _ (w : Weigh) (s : List ℕ) (row m deep : ℕ) (f : Open) (rows : List ℕ) (r : Ready w s row m deep f rows) (more : More (r .body))
     (k : Chains) (weighs : f ≡ numbers (f .at) (f .work) k) (f′ : Open) (rows′ : List ℕ) (len : length rows′ ≡ length rows)
     (h : ItemDone row f rows (r .body) k f′ rows′) where
   at-is : f′ .at ≡ f .at + itemSize (r .body)
@@ -31,12 +32,12 @@ module _ (s : List ℕ) (row m deep : ℕ) (f : Open) (rows : List ℕ) (r : Rea
   pub farther : f .at < f′ .at
   farther = omega (arith, at-is, item-some (r .body) more)
 
-  pub ready-again : Ready s row m deep f′ rows′
+  pub ready-again : Ready w s row m deep f′ rows′
   ready-again =
       let b = r .body in
       record {
         body = rest b;
-        stands = subst (λ (n : ℕ). Stands s n (linesOf (rest b))) (sym at-is) (stands-rest s b (f .at) more (r .stands));
+        reads = subst (λ (n : ℕ). Reads w s n row (rest b)) (sym at-is) (reads-rest w s (f .at) row b more (r .reads));
         D = r .D;
         d = r .d;
         within = within-rest (m) (r .D) (r .d) b (r .within);
@@ -49,16 +50,16 @@ module _ (s : List ℕ) (row m deep : ℕ) (f : Open) (rows : List ℕ) (r : Rea
         rows-fit = λ i l. omega (arith, h .rows-are i (omega (arith, r .rows-long)), item-gain-le row b more i, size-item b more, work-item b, r .rows-fit i l);
       }
 
-module _ (s : List ℕ) (row : ℕ) (f₀ : Open) (rows₀ : List ℕ) (b : Body) (k₀ : Chains) where
-  pub turn-start : Stands s (f₀ .at) (linesOf b) → f₀ ≡ numbers (f₀ .at) (f₀ .work) k₀ → Turn s row f₀ rows₀ b k₀ f₀ rows₀ b k₀
-  turn-start h e = record { stands = h; weighs = e; same-end = refl; same-work = refl; same-chains = refl; same-rows = λ i l. refl }
+module _ (w : Weigh) (s : List ℕ) (row : ℕ) (f₀ : Open) (rows₀ : List ℕ) (b : Body) (k₀ : Chains) where
+  pub turn-start : Reads w s (f₀ .at) row b → f₀ ≡ numbers (f₀ .at) (f₀ .work) k₀ → Turn w s row f₀ rows₀ b k₀ f₀ rows₀ b k₀
+  turn-start h e = record { reads = h; weighs = e; same-end = refl; same-work = refl; same-chains = refl; same-rows = λ i l. refl }
 
-  module _ (f : Open) (rows : List ℕ) (l : Body) (k : Chains) (u : Turn s row f₀ rows₀ b k₀ f rows l k) (len : length rows ≡ length rows₀) where
-    pub turn-again : (f′ : Open) (rows′ : List ℕ) → More l → ItemDone row f rows l k f′ rows′ → Turn s row f₀ rows₀ b k₀ f′ rows′ (rest l) (itemChains (f .at) row l k)
+  module _ (f : Open) (rows : List ℕ) (l : Body) (k : Chains) (u : Turn w s row f₀ rows₀ b k₀ f rows l k) (len : length rows ≡ length rows₀) where
+    pub turn-again : (f′ : Open) (rows′ : List ℕ) → More l → ItemDone row f rows l k f′ rows′ → Turn w s row f₀ rows₀ b k₀ f′ rows′ (rest l) (itemChains (f .at) row l k)
     turn-again f′ rows′ more h =
         let at : f′ .at ≡ f .at + itemSize l = ap (λ (x : Open). x .at) (h .numbers-are) in
         record {
-          stands = subst (λ (j : ℕ). Stands s j (linesOf (rest l))) (sym at) (stands-rest s l (f .at) more (u .stands));
+          reads = subst (λ (j : ℕ). Reads w s j row (rest l)) (sym at) (reads-rest w s (f .at) row l more (u .reads));
           weighs = own-numbers f′ (f .at + itemSize l) (f .work + itemWork l) (itemChains (f .at) row l k) (h .numbers-are);
           same-end = omega (arith, at, size-item l more, u .same-end);
           same-work = omega (arith, ap (λ (x : Open). x .work) (h .numbers-are), work-item l, u .same-work);
@@ -70,10 +71,10 @@ module _ (s : List ℕ) (row : ℕ) (f₀ : Open) (rows₀ : List ℕ) (b : Body
     pub turn-done : l ≡ done → ItemsDone row f₀ rows₀ b k₀ f rows
     turn-done e =
         let c : k ≡ run (f₀ .at) row b k₀ = sym (ap (λ (x : Body). run (f .at) row x k) e) ∙ u .same-chains in
-        let w : f .work ≡ f₀ .work + workOf b = omega (arith, u .same-work, ap workOf e) in
+        let v : f .work ≡ f₀ .work + workOf b = omega (arith, u .same-work, ap workOf e) in
         record {
           at-is = omega (arith, u .same-end, ap size e);
-          numbers-are = u .weighs ∙ ap (λ (x : ℕ). numbers (f .at) x k) w ∙ ap (numbers (f .at) (f₀ .work + workOf b)) c;
+          numbers-are = u .weighs ∙ ap (λ (x : ℕ). numbers (f .at) x k) v ∙ ap (numbers (f .at) (f₀ .work + workOf b)) c;
           rows-are = λ i q. omega (arith, u .same-rows i q, ap (λ (x : Body). gain row x i) e);
         }
 

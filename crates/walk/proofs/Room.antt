@@ -1,26 +1,24 @@
--- Lines that read as frames are whole lines of the text.
+-- Lines that read as those of a body are whole lines of the text.
 use mathlib.Core.Path.{_≡_}
-use mathlib.Core.List.{List, [], _∷_}
+use mathlib.Core.List.{List}
 use Prim.Native.Nat.{ℕ, _+_, _*_, _≤_}
 use native.Mathlib.Omega.{arith}
 use lib.ListN.{length, drop, length-drop, length-take}
 use Rattle.line.specs.declared.Frame.{Frame}
+use Rattle.line.specs.declared.Frame.the-variants.{Return}
 use Rattle.line.specs.declared.Read.the-variants.{Line}
 use Rattle.line.specs.Read.{lineAt, readAt}
 use Rattle.line.proofs.Cases.{frames}
-use Rattle.trace.specs.Tree.{Body, linesOf, size}
-use Rattle.walk.specs.Stands.{Stands, Whole}
-use Rattle.trace.proofs.Tree.{size-is}
-use Rattle.walk.proofs.Items.{size-some}
+use Rattle.trace.specs.Tree.{Body, done, leaf, child, size}
+use Rattle.weigh.specs.Weighed.{Weigh}
+use Rattle.walk.specs.Stands.{Whole}
+use Rattle.walk.specs.Reads.{Reads}
 
 line-whole : (s : List ℕ) (n : ℕ) (f : Frame) → readAt s n ≡ Line n f → Whole s n
 line-whole s n f e = omega (arith, frames (lineAt s n) n n f e .1, length-take 23 (drop (23 * n) s), length-drop (23 * n) s)
 
-stands-in : (s : List ℕ) (u : List Frame) (n : ℕ) → Stands s n u → 1 ≤ length u → 23 * (n + length u) ≤ length s
-stands-in s [] n h l = absurd (omega arith)
-stands-in s (f ∷ []) n h l = omega (arith, line-whole s n f (h .0))
-stands-in s (f ∷ g ∷ u) n h l = omega (arith, stands-in s (g ∷ u) (n + 1) (h .1) (omega arith))
-
 -- all lines of a body
-pub lines-in : (s : List ℕ) (b : Body) (n : ℕ) → Stands s n (linesOf b) → 23 * (n + size b) ≤ length s
-lines-in s b n h = omega (arith, stands-in s (linesOf b) n h (omega (arith, size-is b, size-some b)), size-is b)
+pub lines-in : (w : Weigh) (s : List ℕ) (n row : ℕ) (b : Body) → Reads w s n row b → 23 * (n + size b) ≤ length s
+lines-in w s n row done h = omega (arith, line-whole s n Return h)
+lines-in w s n row (leaf l r) h = omega (arith, lines-in w s (n + 1) row r (h .1))
+lines-in w s n row (child y j g r) h = omega (arith, lines-in w s (n + (1 + size g)) row r (h .2))

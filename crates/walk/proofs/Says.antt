@@ -1,10 +1,9 @@
--- What the readers of a line's kind, site and weight say of a line that reads as a frame.
+-- What the readers of a line's kind, site and value say of a line that reads as a frame.
 use mathlib.Core.Path.{_≡_, ap, _∙_}
 use mathlib.Core.List.{List}
 use Prim.Native.Nat.{ℕ}
-use Rattle.line.specs.At.{kindAt, siteAt}
+use Rattle.line.specs.At.{kindAt, siteAt, valueAt}
 use Rattle.line.proofs.Items.{item}
-use Rattle.walk.specs.Weight.{weightAt}
 use Rattle.walk.specs.Stands.{Says, kindOf, siteOf, valueOf}
 
 -- of a number that was read at line m, which is line n
@@ -15,5 +14,5 @@ module _ (s : List ℕ) (m n r : ℕ) (at : m ≡ n) where
   pub site-says : r ≡ siteAt s m → Says siteOf s n r
   site-says e f h = e ∙ ap (siteAt s) at ∙ item s n n f h .1
 
-  pub weight-says : r ≡ weightAt s m → Says valueOf s n r
-  weight-says e f h = e ∙ ap (weightAt s) at ∙ item s n n f h .2
+  pub value-says : r ≡ valueAt s m → Says valueOf s n r
+  value-says e f h = e ∙ ap (valueAt s) at ∙ item s n n f h .2

@@ -6,20 +6,21 @@ use mathlib.Core.List.{List, []}
 use lib.ListN.{length, getD}
 use Rattle.chain.specs.Plan.{CostLine}
 use Rattle.trace.specs.Rows.{columns}
-use Rattle.trace.specs.Tree.{Body, linesOf, size, Within, workOf}
+use Rattle.trace.specs.Tree.{Body, size, Within, workOf}
 use Rattle.trace.specs.Fold.{Chains, run, chainOf}
+use Rattle.weigh.specs.Weighed.{Weigh}
 use Rattle.walk.specs.declared.Open.{Open}
-use Rattle.walk.specs.Stands.{Stands}
+use Rattle.walk.specs.Reads.{Reads}
 use Rattle.walk.specs.Numbers.{numbers}
 use Rattle.walk.specs.Gain.{gain}
 use Rattle.walk.specs.Item.{itemSize, itemWork, itemGain, itemChains}
 
--- The lines of s from line f .at on are those of a body. Its sites are at most m, at most deep invocations open
--- inside one another, and whatever number reading it comes to, from the invocation's numbers f and the rows, fits: no
--- row number grows by more than lines and costs are left.
-pub record Ready (s : List ℕ) (row m deep : ℕ) (f : Open) (rows : List ℕ) : Type 0 where
+-- The lines of s from line f .at on are those of a body, as weighed by w. Its sites are at most m, at most deep
+-- invocations open inside one another, and whatever number reading it comes to, from the invocation's numbers f and the
+-- rows, fits: no row number grows by more than lines and costs are left.
+pub record Ready (w : Weigh) (s : List ℕ) (row m deep : ℕ) (f : Open) (rows : List ℕ) : Type 0 where
   pub body : Body
-  pub stands : Stands s (f .at) (linesOf body)
+  pub reads : Reads w s (f .at) row body
   pub D : ℕ
   pub d : ℕ
   pub within : Within m D d body
@@ -53,8 +54,8 @@ pub record BodyDone (n row : ℕ) (rows : List ℕ) (b : Body) (r : Open) (rows�
 
 -- Inside the body b, which is read from the numbers f₀ and the chains k₀ on: what is left of it, and that what b comes to
 -- is what this comes to from f and k on.
-pub record Turn (s : List ℕ) (row : ℕ) (f₀ : Open) (rows₀ : List ℕ) (b : Body) (k₀ : Chains) (f : Open) (rows : List ℕ) (left : Body) (k : Chains) : Type 0 where
-  pub stands : Stands s (f .at) (linesOf left)
+pub record Turn (w : Weigh) (s : List ℕ) (row : ℕ) (f₀ : Open) (rows₀ : List ℕ) (b : Body) (k₀ : Chains) (f : Open) (rows : List ℕ) (left : Body) (k : Chains) : Type 0 where
+  pub reads : Reads w s (f .at) row left
   pub weighs : f ≡ numbers (f .at) (f .work) k
   pub same-end : f .at + size left ≡ f₀ .at + size b
   pub same-work : f .work + workOf left ≡ f₀ .work + workOf b

@@ -1,8 +1,19 @@
--- What a cost line weighs.
-use Prim.Native.Nat.{ℕ}
+-- What a cost line weighs, where each row may have a factor.
+use Prim.Native.Nat.{ℕ, _≤_}
 use mathlib.Core.List.{List}
+use lib.ListN.{getD}
 use Rattle.line.specs.At.{valueAt}
+use Rattle.weigh.specs.Weighed.{Weigh}
+use Rattle.forecast.specs.Rewritten.{divided}
 
--- line n of s, a cost: its value
-abbrev pub weightAt : List ℕ → ℕ → ℕ
-weightAt s n = valueAt s n
+-- by the factors of the rows, number s being row s's: "divided by its factor and rounded up"; as it stands behind the last
+abbrev pub byFactors : List ℕ → Weigh
+byFactors fs n s v = divided v (getD fs s 1)
+
+-- each is one that a forecast may ask for, or 1
+abbrev pub Factors : List ℕ → Type 0
+Factors fs = (s : ℕ) → (1 ≤ getD fs s 1) × (getD fs s 1 ≤ 1000)
+
+-- line n of s, a cost directly in an invocation of a row
+abbrev pub weightAt : List ℕ → List ℕ → ℕ → ℕ → ℕ
+weightAt fs s n row = byFactors fs n row (valueAt s n)

@@ -128,11 +128,16 @@ impl Open {
     }
 }
 
-// What a cost line weighs.
-pub fn weight_at(trace: &[u8], at: usize) -> u64
-    ensures { λ r. ⌜ r ≡ weightAt (now (trace .entry)) at ⌝ }
+// What a cost line weighs that is directly in an invocation of a row: its value, divided by the row's factor where the
+// row is among the factors.
+pub fn weight_at(trace: &[u8], at: usize, row: usize, factors: &[u64]) -> u64
+    ensures { λ r. ⌜ r ≡ weightAt (now (factors .entry)) (now (trace .entry)) at row ⌝ }
 {
-    line::value_at(trace, at) as u64
+    let v = line::value_at(trace, at) as u64;
+    if row < factors.len() {
+        return forecast::share(v, factors[row]);
+    }
+    v
 }
 
 // Adds to a number.

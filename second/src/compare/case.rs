@@ -3,6 +3,7 @@
 use super::rng::Rng;
 use crate::check::{Lent, Limits};
 use crate::folded;
+use crate::forecast::Entry;
 use crate::library::Library;
 use crate::line::CHARS;
 
@@ -18,6 +19,8 @@ pub struct Case {
 pub enum Question {
     /// A trace, for both engines.
     Engines { trace: Vec<u8>, limits: Limits, spare: Spare },
+    /// A trace and forecast entries, for both engines.
+    Forecast { trace: Vec<u8>, limits: Limits, entries: Vec<Entry>, spare: Spare },
     /// Characters, for the line reader.
     ReadLine { line: Vec<u8>, frame: usize },
     /// A frame, for the line writer.
@@ -74,7 +77,10 @@ impl Case {
     pub fn ask(&self, library: &dyn Library) -> Outcome {
         let mut lender = Lender(Rng::new(self.rubbish));
         match &self.question {
-            Question::Engines { trace, limits, spare } => lender.engines(library, trace, *limits, *spare),
+            Question::Engines { trace, limits, spare } => lender.engines(library, trace, None, *limits, *spare),
+            Question::Forecast { trace, limits, entries, spare } => {
+                lender.engines(library, trace, Some(entries), *limits, *spare)
+            }
             Question::ReadLine { line, frame } => lender.read_line(library, line, *frame),
             Question::WriteLine { frame, out, written } => lender.write_line(library, frame, [*out, *written]),
             Question::Report { rows, count, out, written } => lender.report(library, rows, *count, [*out, *written]),
@@ -94,33 +100,71 @@ impl Case {
 struct Lender(Rng);
 
 impl Lender {
-    fn engines(&mut self, library: &dyn Library, trace: &[u8], limits: Limits, spare: Spare) -> Outcome {
+    /// Both engines on a trace; with forecast entries, where there are some.
+    fn engines(
+        &mut self,
+        library: &dyn Library,
+        trace: &[u8],
+        entries: Option<&[Entry]>,
+        limits: Limits,
+        spare: Spare,
+    ) -> Outcome {
         let near = limits.nearest();
-        let mut outcome = self.tables(library, trace, limits, spare.over(near.for_tables()));
-        let marks = self.marks(library, trace, limits, spare.over(near.for_marks(trace.len() / CHARS)));
+        let mut outcome = self.tables(library, trace, entries, limits, spare.over(near.for_tables()));
+        let marks = self.marks(library, trace, entries, limits, spare.over(near.for_marks(trace.len() / CHARS)));
         outcome.codes.extend(marks.codes);
         outcome.bytes.extend(marks.bytes);
         outcome.numbers.extend(marks.numbers);
         outcome
     }
 
-    fn tables(&mut self, library: &dyn Library, trace: &[u8], limits: Limits, lent: Lent) -> Outcome {
+    fn tables(
+        &mut self,
+        library: &dyn Library,
+        trace: &[u8],
+        entries: Option<&[Entry]>,
+        limits: Limits,
+        lent: Lent,
+    ) -> Outcome {
         let mut trace = self.bytes("table engine's trace", trace.len()).holding(trace);
         let mut scratch = self.numbers("table engine's scratch", lent.scratch);
         let mut rows = self.numbers("table engine's rows", lent.rows);
         let mut answer = self.numbers("table engine's answer", lent.answer);
-        let code = library.tables(trace.lent(), limits, scratch.lent(), rows.lent(), answer.lent());
-        Outcome { codes: vec![("table engine", code)], bytes: vec![trace], numbers: vec![answer, rows, scratch] }
+        let mut listed = entries.map(|entries| Listed::holding("table engine's entries", entries));
+        let code = match &mut listed {
+            None => library.tables(trace.lent(), limits, scratch.lent(), rows.lent(), answer.lent()),
+            Some(listed) => {
+                let entries = listed.lent();
+                library.forecast_tables(trace.lent(), limits, entries, scratch.lent(), rows.lent(), answer.lent())
+            }
+        };
+        let numbers = [answer, rows, scratch].into_iter().chain(listed.map(Listed::seen)).collect();
+        Outcome { codes: vec![("table engine", code)], bytes: vec![trace], numbers }
     }
 
-    fn marks(&mut self, library: &dyn Library, trace: &[u8], limits: Limits, lent: Lent) -> Outcome {
+    fn marks(
+        &mut self,
+        library: &dyn Library,
+        trace: &[u8],
+        entries: Option<&[Entry]>,
+        limits: Limits,
+        lent: Lent,
+    ) -> Outcome {
         let mut trace = self.bytes("marks engine's trace", trace.len()).holding(trace);
         let mut scratch = self.numbers("marks engine's scratch", lent.scratch);
         let mut marks = self.bytes("marks engine's marks", lent.marks.unwrap_or(0));
         let mut rows = self.numbers("marks engine's rows", lent.rows);
         let mut answer = self.numbers("marks engine's answer", lent.answer);
-        let code = library.marks(trace.lent(), limits, scratch.lent(), marks.lent(), rows.lent(), answer.lent());
-        Outcome { codes: vec![("marks engine", code)], bytes: vec![trace, marks], numbers: vec![answer, rows, scratch] }
+        let mut listed = entries.map(|entries| Listed::holding("marks engine's entries", entries));
+        let code = match &mut listed {
+            None => library.marks(trace.lent(), limits, scratch.lent(), marks.lent(), rows.lent(), answer.lent()),
+            Some(listed) => {
+                let (entries, scratch, marks) = (listed.lent(), scratch.lent(), marks.lent());
+                library.forecast_marks(trace.lent(), limits, entries, scratch, marks, rows.lent(), answer.lent())
+            }
+        };
+        let numbers = [answer, rows, scratch].into_iter().chain(listed.map(Listed::seen)).collect();
+        Outcome { codes: vec![("marks engine", code)], bytes: vec![trace, marks], numbers }
     }
 
     fn read_line(&mut self, library: &dyn Library, line: &[u8], frame: usize) -> Outcome {
@@ -210,6 +254,29 @@ impl<T: Copy> Room<T> {
     fn holding(mut self, contents: &[T]) -> Room<T> {
         self.lent().copy_from_slice(contents);
         self
+    }
+}
+
+/// Forecast entries between two strips of rubbish that is always the same, so that it moves no other.
+struct Listed {
+    name: &'static str,
+    all: Vec<Entry>,
+}
+
+impl Listed {
+    fn holding(name: &'static str, entries: &[Entry]) -> Listed {
+        let mut rng = Rng::new(0);
+        let mut strip = || (0..STRIP).map(|_| Entry { row: rng.number(), factor: rng.number() }).collect::<Vec<_>>();
+        Listed { name, all: [&strip(), entries, &strip()].concat() }
+    }
+
+    fn lent(&self) -> &[Entry] {
+        &self.all[STRIP..self.all.len() - STRIP]
+    }
+
+    /// The entries as numbers, row and factor in turn.
+    fn seen(self) -> Room<u64> {
+        Room { name: self.name, all: self.all.iter().flat_map(|entry| [entry.row, entry.factor]).collect() }
     }
 }
 

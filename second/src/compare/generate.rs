@@ -2,7 +2,7 @@
 
 use super::case::{Case, Question, Spare};
 use super::rng::Rng;
-use super::{damage, shapes, sheets, stacks};
+use super::{damage, forecasts, shapes, sheets, stacks};
 use crate::check::Limits;
 use crate::line::{chars, Fields, CHARS, WIDTHS};
 use crate::report::{REFUSAL_CHARS, ROW_CHARS};
@@ -12,14 +12,15 @@ use crate::trace::Trace;
 /// The case with a number, of a seed.
 pub fn case(seed: u64, number: u64) -> Case {
     let mut rng = Rng::of_case(seed, number);
-    let question = match rng.below(28) {
+    let question = match rng.below(36) {
         0 => read_line(&mut rng),
         1 => write_line(&mut rng),
         2 => report(&mut rng),
         3 => refusal(&mut rng),
         4 => sheets::write(&mut rng),
         5 | 6 => sheets::read(&mut rng),
-        7..=10 => stacks::write(&mut rng),
+        7..=11 => stacks::write(&mut rng),
+        12..=17 => forecasts::forecast(&mut rng),
         _ => engines(&mut rng),
     };
     Case { question, rubbish: rng.number() }

@@ -2,6 +2,7 @@
 
 use super::case::{Case, FoldedSpare, Question, Spare};
 use crate::check::Limits;
+use crate::forecast::Entry;
 use crate::line::{chars, read, Fields, Kind, CHARS};
 use std::ops::Range;
 
@@ -50,7 +51,9 @@ impl<D: Fn(&Case) -> bool> Shrinker<D> {
     /// The trace, if the case has one.
     fn trace(&self) -> Option<&[u8]> {
         match &self.case.question {
-            Question::Engines { trace, .. } | Question::Folded { trace, .. } => Some(trace),
+            Question::Engines { trace, .. } | Question::Forecast { trace, .. } | Question::Folded { trace, .. } => {
+                Some(trace)
+            }
             _ => None,
         }
     }
@@ -59,7 +62,9 @@ impl<D: Fn(&Case) -> bool> Shrinker<D> {
     fn keep_trace(&mut self, changed: Vec<u8>) -> bool {
         let mut question = self.case.question.clone();
         match &mut question {
-            Question::Engines { trace, .. } | Question::Folded { trace, .. } => *trace = changed,
+            Question::Engines { trace, .. } | Question::Forecast { trace, .. } | Question::Folded { trace, .. } => {
+                *trace = changed;
+            }
             _ => return false,
         }
         self.keep(question)
@@ -183,6 +188,17 @@ fn lower_questions(question: &Question) -> Vec<Question> {
             let lower = lower_limits(*limits).map(|limits| of(limits, *spare));
             lower.chain(lower_spares(*spare).map(|spare| of(*limits, spare))).collect()
         }
+        Question::Forecast { trace, limits, entries, spare } => {
+            let of = |limits, entries: &[Entry], spare| Question::Forecast {
+                trace: trace.clone(),
+                limits,
+                entries: entries.to_vec(),
+                spare,
+            };
+            let lower = lower_limits(*limits).map(|limits| of(limits, entries, *spare));
+            let lists = lower_entries(entries).map(|entries| of(*limits, &entries, *spare));
+            lower.chain(lists).chain(lower_spares(*spare).map(|spare| of(*limits, entries, spare))).collect()
+        }
         Question::ReadLine { .. } | Question::WriteLine { .. } | Question::Refusal { .. } => vec![],
         Question::Report { rows, count, out, written } => {
             let (out, written) = (*out, *written);
@@ -210,6 +226,20 @@ fn lower_questions(question: &Question) -> Vec<Question> {
             lower.chain(projects).chain(stocks).chain(rooms).collect()
         }
     }
+}
+
+/// A list without one of its entries, each in turn, and with the row or the factor of one lower.
+fn lower_entries(entries: &[Entry]) -> impl Iterator<Item = Vec<Entry>> + '_ {
+    let without = (0..entries.len()).map(|n| [&entries[..n], &entries[n + 1..]].concat());
+    let with = |n: usize, entry: Entry| [&entries[..n], &[entry], &entries[n + 1..]].concat();
+    let lower = (0..entries.len()).flat_map(move |n| {
+        let Entry { row, factor } = entries[n];
+        let rows = [0, row / 2, row.saturating_sub(1)].into_iter().filter(move |&new| new < row);
+        let factors = [2, factor / 2, factor.saturating_sub(1)].into_iter().filter(move |&new| new < factor);
+        let rows = rows.map(move |row| with(n, Entry { row, factor }));
+        rows.chain(factors.map(move |factor| with(n, Entry { row, factor })))
+    });
+    without.chain(lower)
 }
 
 /// A text without one of its lines, each in turn, and without its last character.

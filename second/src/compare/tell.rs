@@ -2,6 +2,7 @@
 
 use super::case::{Case, FoldedSpare, Outcome, Question, Room, Spare, STRIP};
 use super::Difference;
+use crate::forecast::Entry;
 use crate::line::CHARS;
 use crate::trace::events;
 use std::fmt::{Display, Formatter, Result};
@@ -13,7 +14,8 @@ impl Display for Difference {
     fn fmt(&self, f: &mut Formatter) -> Result {
         writeln!(f, "{}", self.case)?;
         writeln!(f, "the second program and {} differ:", self.name)?;
-        differing(f, self.name, &self.expected, &self.found)
+        differing(f, self.name, &self.expected, &self.found)?;
+        self.broken.iter().try_for_each(|law| writeln!(f, "  {} does not keep to: {law}", self.name))
     }
 }
 
@@ -22,6 +24,11 @@ impl Display for Case {
         match &self.question {
             Question::Engines { trace, limits, spare } => {
                 writeln!(f, "D = {}, M = {}{spare}", limits.depth, limits.sites)?;
+                told_trace(f, trace)
+            }
+            Question::Forecast { trace, limits, entries, spare } => {
+                writeln!(f, "forecast, D = {}, M = {}{spare}", limits.depth, limits.sites)?;
+                writeln!(f, "entries, row/factor: {}", told_entries(entries))?;
                 told_trace(f, trace)
             }
             Question::ReadLine { line, frame } => writeln!(f, "read {}; frame of {frame}", shown(line)),
@@ -69,6 +76,16 @@ impl Display for FoldedSpare {
 fn told_spares(f: &mut Formatter, spares: &[(&str, isize)]) -> Result {
     let mut told = spares.iter().filter(|(_, spare)| *spare != 0);
     told.try_for_each(|(name, spare)| write!(f, ", {name} {spare:+}"))
+}
+
+/// Forecast entries, one behind the other.
+fn told_entries(entries: &[Entry]) -> String {
+    let told: Vec<String> = entries.iter().map(|entry| format!("{}/{}", entry.row, entry.factor)).collect();
+    if told.is_empty() {
+        "none".into()
+    } else {
+        told.join(" ")
+    }
 }
 
 /// A trace, line by line.

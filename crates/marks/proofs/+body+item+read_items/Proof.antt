@@ -5,6 +5,7 @@ use mathlib.Core.Path.{_≡_, refl, _∙_, ap, subst}
 use native.Mathlib.Omega.{arith}
 use lib.ListN.{length, take, drop}
 use borrow.Author.Needs.{needs}
+use Rattle.walk.specs.Weight.{byFactors}
 use Rattle.walk.specs.declared.Open.{Open}
 use Rattle.marks.specs.declared.Zones.{Zones}
 use Rattle.marks.specs.Shown.{allPrefix}
@@ -42,32 +43,32 @@ use Rattle.marks.proofs.+body+item+read_items.{statement}
 use Rattle.marks.proofs.+body+item+read_items.Tie.{close}
 
 -- the depth left falls from item to body, a body is above its items, and they above each of them
-abbrev μ-body : Measures 4 body-kinds.ps ℕ
+abbrev μ-body : Measures 5 body-kinds.ps ℕ
 μ-body κs a = 3 * (a .1 .1 .1 .0) + 2
 
-abbrev μ-items : Measures 4 items-kinds.ps ℕ
+abbrev μ-items : Measures 5 items-kinds.ps ℕ
 μ-items κs a = 3 * (a .1 .1 .0) + 1
 
-abbrev μ-item : Measures 4 item-kinds.ps ℕ
+abbrev μ-item : Measures 5 item-kinds.ps ℕ
 μ-item κs a = 3 * (a .1 .1 .1 .0)
 
-abbrev body-at : ℕ → In 4 body-kinds.ps
-body-at t = and 4 body-kinds.ps (is 4 body-kinds.ps μ-body t) body.Pre
+abbrev body-at : ℕ → In 5 body-kinds.ps
+body-at t = and 5 body-kinds.ps (is 5 body-kinds.ps μ-body t) body.Pre
 
-abbrev body-below : ℕ → In 4 body-kinds.ps
-body-below t = and 4 body-kinds.ps (falls 4 body-kinds.ps _<_ μ-body t) body.Pre
+abbrev body-below : ℕ → In 5 body-kinds.ps
+body-below t = and 5 body-kinds.ps (falls 5 body-kinds.ps _<_ μ-body t) body.Pre
 
-abbrev items-at : ℕ → In 4 items-kinds.ps
-items-at t = and 4 items-kinds.ps (is 4 items-kinds.ps μ-items t) items.Pre
+abbrev items-at : ℕ → In 5 items-kinds.ps
+items-at t = and 5 items-kinds.ps (is 5 items-kinds.ps μ-items t) items.Pre
 
-abbrev items-below : ℕ → In 4 items-kinds.ps
-items-below t = and 4 items-kinds.ps (falls 4 items-kinds.ps _<_ μ-items t) items.Pre
+abbrev items-below : ℕ → In 5 items-kinds.ps
+items-below t = and 5 items-kinds.ps (falls 5 items-kinds.ps _<_ μ-items t) items.Pre
 
-abbrev item-at : ℕ → In 4 item-kinds.ps
-item-at t = and 4 item-kinds.ps (is 4 item-kinds.ps μ-item t) item.Pre
+abbrev item-at : ℕ → In 5 item-kinds.ps
+item-at t = and 5 item-kinds.ps (is 5 item-kinds.ps μ-item t) item.Pre
 
-abbrev item-below : ℕ → In 4 item-kinds.ps
-item-below t = and 4 item-kinds.ps (falls 4 item-kinds.ps _<_ μ-item t) item.Pre
+abbrev item-below : ℕ → In 5 item-kinds.ps
+item-below t = and 5 item-kinds.ps (falls 5 item-kinds.ps _<_ μ-item t) item.Pre
 
 abbrev body-calls : ℕ → body-lts.Claims
 body-calls t = (new-reads.Asked, new-reads.Learnt, prefix-reads.Asked, prefix-reads.Learnt, items-below t, items.Post, join-reads.Asked, join-reads.Learnt)
@@ -79,19 +80,19 @@ abbrev item-calls : ℕ → item-lts.Claims
 item-calls t = (weight-at-reads.Asked, weight-at-reads.Learnt, spend-reads′.Asked, spend-reads′.Learnt, spend-reads.Asked, spend-reads.Learnt, join-reads.Asked, join-reads.Learnt, site-at-reads.Asked, site-at-reads.Learnt, credit-of-reads.Asked, credit-of-reads.Learnt, store-reads.Asked, store-reads.Learnt, body-below t, body.Post, load-reads.Asked, load-reads.Learnt, returned-reads.Asked, returned-reads.Learnt, called-reads.Asked, called-reads.Learnt, spawned-reads.Asked, spawned-reads.Learnt)
 
 abbrev Inv-loop : items-lts.InvT-loop
-Inv-loop trace deep t₀ marks₀ rows₀ z₀ kind₀ t marks rows z kind = Loop trace deep z₀ t₀ marks₀ rows₀ t marks rows z kind
+Inv-loop trace deep t₀ marks₀ rows₀ factors z₀ kind₀ t marks rows z kind = Loop (byFactors factors) trace deep z₀ t₀ marks₀ rows₀ t marks rows z kind
 
 abbrev μ-loop : items-lts.MeasureT-loop
-μ-loop trace deep t₀ marks₀ rows₀ z₀ kind₀ t marks rows z kind = 65536 - z .own .at
+μ-loop trace deep t₀ marks₀ rows₀ factors z₀ kind₀ t marks rows z kind = 65536 - z .own .at
 
 module _ (t : ℕ) where
   -- a place of `body`, or what is needed there
-  abbrev Body : (body-lts.Claims → In 4 body-kinds.ps → Out 4 body-kinds.ps body-kinds.r → Type 0) → Type 0
+  abbrev Body : (body-lts.Claims → In 5 body-kinds.ps → Out 5 body-kinds.ps body-kinds.r → Type 0) → Type 0
   Body P = P (body-calls t) (body-at t) body.Post
 
   -- from each place of `body` that has a name to the one before it
   abbrev body-start : Body body-lts.After-new → Body body-lts.Start
-  body-start c = c .before .before .before .before .before
+  body-start c = c .before .before .before .before .before .before
 
   abbrev body-first : Body body-lts.After-read-items-arg3 → Body body-lts.After-prefix
   body-first c = c .before .before .before
@@ -140,12 +141,12 @@ module _ (t : ℕ) where
 
 module _ (t : ℕ) where
   -- a place of `read_items`, or what is needed there
-  abbrev Items : (items-lts.Claims → In 4 items-kinds.ps → Out 4 items-kinds.ps items-kinds.r → items-lts.InvT-loop → items-lts.MeasureT-loop → Type 0) → Type 0
+  abbrev Items : (items-lts.Claims → In 5 items-kinds.ps → Out 5 items-kinds.ps items-kinds.r → items-lts.InvT-loop → items-lts.MeasureT-loop → Type 0) → Type 0
   Items P = P (items-calls t) (items-at t) items.Post Inv-loop μ-loop
 
   -- from each place of `read_items` that has a name to the one before it
   abbrev items-start : Items items-lts.After-kind-at → Items items-lts.Start
-  items-start c = c .before .before .before .before .before
+  items-start c = c .before .before .before .before .before .before
 
   abbrev turn : Items items-lts.After-item-arg3 → Items items-lts.In-loop
   turn c = c .before .before .before
@@ -182,7 +183,8 @@ module _ (t : ℕ) where
   items-item-requires : Items items-lts.Need-item-requires
   items-item-requires c κs =
       let i = turn c in
-      (omega (arith, items-start (i .before .before) .pre .0), loop-asks (i .before .loop .inv) (i .loop-test .taken))
+      let a = items-start (i .before .before) in
+      (omega (arith, a .pre .0), loop-asks (i .before .loop .inv) (i .loop-test .taken))
 
   items-kind-at-requires-2 : Items items-lts.Need-kind-at-requires-2
   items-kind-at-requires-2 c κs = search needs
@@ -207,14 +209,14 @@ module _ (t : ℕ) where
 
 module _ (t : ℕ) where
   -- a place of `item`, or what is needed there
-  abbrev Item : (item-lts.Claims → In 4 item-kinds.ps → Out 4 item-kinds.ps item-kinds.r → Type 0) → Type 0
+  abbrev Item : (item-lts.Claims → In 5 item-kinds.ps → Out 5 item-kinds.ps item-kinds.r → Type 0) → Type 0
   Item P = P (item-calls t) (item-at t) item.Post
 
   -- from each place of `item` that has a name to the one before it
-  abbrev item-start : Item item-lts.After-slice-known3 → Item item-lts.Start
-  item-start c = c .before .before .before .before
+  abbrev item-start : Item item-lts.After-shared-slice-known2 → Item item-lts.Start
+  item-start c = c .before .before .before .before .before
 
-  abbrev weight-test : Item item-lts.After-weight-at → Item item-lts.After-slice-known3
+  abbrev weight-test : Item item-lts.After-weight-at → Item item-lts.After-shared-slice-known2
   weight-test c = c .before .before
 
   abbrev rows-weight : Item item-lts.After-spend → Item item-lts.After-weight-at
@@ -289,12 +291,12 @@ module _ (t : ℕ) where
 
   -- what is known where a weight was read
   at-weight : (c : Item item-lts.After-weight-at) → (
-      let a = item-start (weight-test c) .args in Costs (a .trace .now) (a .deep) (a .z) (a .t .now) (a .marks .now) (a .rows .now) (a .kind) (c .weight-at .result))
+      let a = item-start (weight-test c) .args in Costs (byFactors (a .factors .now)) (a .trace .now) (a .deep) (a .z) (a .t .now) (a .marks .now) (a .rows .now) (a .kind) (c .weight-at .result))
   at-weight c = record { asks = item-start (weight-test c) .pre .1; weight-is = c .weight-at .ensures; cost = c .before .if1 .taken }
 
   -- where a site was read
   at-site : (c : Item item-lts.After-site-at) → (
-      let a = child-start c .args in Calls (a .trace .now) (a .deep) (a .z) (a .t .now) (a .marks .now) (a .rows .now) (a .kind) (c .site-at .result))
+      let a = child-start c .args in Calls (byFactors (a .factors .now)) (a .trace .now) (a .deep) (a .z) (a .t .now) (a .marks .now) (a .rows .now) (a .kind) (c .site-at .result))
   at-site c = record { asks = child-start c .pre .1; site-is = c .site-at .ensures; no-cost = c .before .before .if1 .left; no-sync = c .before .if2 .left }
 
   -- where the invocation is stored
@@ -379,7 +381,8 @@ module _ (t : ℕ) where
       let p = part-store (body-part c) in
       let h = at-site (store-site p) in
       let s = p .store .last .0 in
-      (omega (arith, child-start (store-site p) .pre .0, deeper h), body-asks h (take (length s - 8) (drop 8 s)) (part-zero (at-store p)) (part-length (at-store p)))
+      let a = child-start (store-site p) in
+      (omega (arith, a .pre .0, deeper h), body-asks h (take (length s - 8) (drop 8 s)) (part-zero (at-store p)) (part-length (at-store p)))
 
   item-load-requires : Item item-lts.Need-load-requires
   item-load-requires c κs = let b = load-body c in back-room (at-store (body-store b)) (body-scratch b) (b .body .ensures .1)

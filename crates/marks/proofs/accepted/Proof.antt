@@ -2,6 +2,9 @@
 use Prim.Native.Nat.{ℕ}
 use mathlib.Core.List.{List}
 use Rattle.marks.proofs.Whole.{bounds, rows-in, marks-in, Blank, credit-asks, body-asks, Read, count-asks, on-asks, promised}
+use Rattle.weigh.specs.Weighed.{Tabled}
+use Rattle.walk.specs.Weight.{byFactors}
+use Rattle.walk.proofs.Weight.{factors-tabled}
 use Rattle.walk.proofs.Zeros.{cleared-all}
 use lib.ListN.{length, length-replicate}
 use native.Mathlib.Omega.{arith}
@@ -12,7 +15,7 @@ use Rattle.marks.proofs.accepted.Tie as tie
 
 -- from each place that has a name to the one before it
 abbrev zero-start : tie.After-zero-arg → tie.Start
-zero-start c = c .before .before .before .before .before
+zero-start c = c .before .before .before .before .before .before
 
 abbrev zeros : tie.After-zero-arg2 → tie.After-zero
 zeros c = c .before .before .before
@@ -68,8 +71,12 @@ column-scratch c = c .column .last .1 .1 .1 .0
 abbrev column-rows : tie.After-column → List ℕ
 column-rows c = c .column .last .1 .1 .1 .1 .1 .0
 
+-- a cost stays in the table
+tabled : (c : tie.Start) → Tabled (byFactors (c .args .factors .now))
+tabled c = factors-tabled (c .args .factors .now) (c .pre .1)
+
 blank : (c : tie.After-wipe-lines) → (
-    let z = wipe-zeros (c .before) in Blank (wiped (c .before) .pre) (zeros (z .before) .zero .last .0) (c .wipe-lines .last .0) (z .zero2 .last .0))
+    let z = wipe-zeros (c .before) in Blank (wiped (c .before) .pre .0) (zeros (z .before) .zero .last .0) (c .wipe-lines .last .0) (z .zero2 .last .0))
 blank c =
     let z = wipe-zeros (c .before) in
     record {
@@ -79,7 +86,7 @@ blank c =
       rows-are = z .zero2 .ensures;
     }
 
-read : (c : tie.After-body) → Read (begun (body-credit (c .before)) .pre) (body-credit (c .before) .credit-of .result) (c .body .result) (root-scratch c) (root-marks c) (root-rows c)
+read : (c : tie.After-body) → Read (begun (body-credit (c .before)) .pre .0) (byFactors (begun (body-credit (c .before)) .args .factors .now)) (tabled (begun (body-credit (c .before)))) (body-credit (c .before) .credit-of .result) (c .body .result) (root-scratch c) (root-marks c) (root-rows c)
 read c =
     let w = body-wipe (body-credit (c .before)) in
     let z = wipe-zeros (w .before) in
@@ -105,33 +112,33 @@ zero-requires : tie.Need-zero-requires
 zero-requires c κs = search needs
 
 add-zero : tie.Need-add-zero
-add-zero c = let l = bounds (cleared c .pre) in omega (arith, l .2, l .3)
+add-zero c = let l = bounds (cleared c .pre .0) in omega (arith, l .2, l .3)
 
 mul-zero : tie.Need-mul-zero
-mul-zero c = let l = bounds (cleared c .pre) in omega (arith, l .2, l .3)
+mul-zero c = let l = bounds (cleared c .pre .0) in omega (arith, l .2, l .3)
 
 zero-requires-2 : tie.Need-zero-requires-2
-zero-requires-2 c κs = rows-in (cleared c .pre)
+zero-requires-2 c κs = rows-in (cleared c .pre .0)
 
 wipe-lines-requires : tie.Need-wipe-lines-requires
-wipe-lines-requires c κs = (omega arith, marks-in (wiped c .pre))
+wipe-lines-requires c κs = (omega arith, marks-in (wiped c .pre .0) _ (tabled (wiped c)))
 
 credit-of-requires : tie.Need-credit-of-requires
 credit-of-requires c κs = credit-asks _ (blank (credit-wipe c))
 
 sub-body : tie.Need-sub-body
-sub-body c = bounds (begun c .pre) .0
+sub-body c = bounds (begun c .pre .0) .0
 
 body-requires : tie.Need-body-requires
-body-requires c κs = body-asks _ (blank (body-wipe (body-credit c)))
+body-requires c κs = let a = begun (body-credit c) in body-asks (a .pre .0) (byFactors (a .args .factors .now)) (tabled a) (blank (body-wipe (body-credit c)))
 
 returned-requires : tie.Need-returned-requires
-returned-requires c κs = count-asks _ (read (returned-body c))
+returned-requires c κs = count-asks _ _ _ (read (returned-body c))
 
 column-requires : tie.Need-column-requires
 column-requires c κs =
     let k = column-returned c in
-    on-asks _ (read (returned-body (k .before))) (k .returned .last .0) (k .returned .ensures) (counts-long k)
+    on-asks _ _ _ (read (returned-body (k .before))) (k .returned .last .0) (k .returned .ensures) (counts-long k)
 
 same-length : tie.Need-same-length
 same-length c =
@@ -149,7 +156,7 @@ returns : tie.Need-returns
 returns c =
     let o = end-column c in
     let k = column-returned (o .before) in
-    promised _ (read (returned-body (k .before))) (k .returned .last .0) (k .returned .ensures) (counts-long k) (column-scratch o) (column-rows o) (o .column .ensures .0) (o .column .ensures .1) (rows-long o)
+    promised _ _ _ (read (returned-body (k .before))) (k .returned .last .0) (k .returned .ensures) (counts-long k) (column-scratch o) (column-rows o) (o .column .ensures .0) (o .column .ensures .1) (rows-long o)
 
 pub accepted-spec : {M : Type 1} → statement M
 accepted-spec =

@@ -13,8 +13,8 @@ use Rattle.marks.proofs.add_marked.Statement.{statement}
 use Rattle.marks.proofs.add_marked.Tie as tie
 
 -- from each place that has a name to the one before it
-abbrev start : tie.After-shared-slice-known3 → tie.Start
-start c = c .before .before .before .before
+abbrev start : tie.After-shared-slice-known4 → tie.Start
+start c = c .before .before .before .before .before
 
 abbrev weighed-start : tie.After-weight-at → tie.Start
 weighed-start c = start (c .before .before .before)
@@ -38,7 +38,7 @@ add-requires : tie.Need-add-requires
 add-requires c κs =
     let a = weighed-start c in
     let x = a .args in
-    (a .pre .1 .0, omega (arith, a .pre .1 .1, marked-on (getD (x .marks .now) (x .at) 0) (weightAt (x .trace .now) (x .at)) (c .before .before .if1 .taken), c .weight-at .ensures))
+    (a .pre .1 .0, omega (arith, a .pre .1 .1, marked-on (getD (x .marks .now) (x .at) 0) (weightAt (x .factors .now) (x .trace .now) (x .at) (x .row)) (c .before .before .if1 .taken), c .weight-at .ensures))
 
 same-length : tie.Need-same-length
 same-length c = search needs
@@ -55,7 +55,7 @@ returns c =
 returns-2 : tie.Need-returns-2
 returns-2 c =
     let x = start (c .before) .args in
-    grown-off (x .rows .now) (slot (x .row) Column.onSpan) (getD (x .marks .now) (x .at) 0) (weightAt (x .trace .now) (x .at)) (c .if1 .left)
+    grown-off (x .rows .now) (slot (x .row) Column.onSpan) (getD (x .marks .now) (x .at) 0) (weightAt (x .factors .now) (x .trace .now) (x .at) (x .row)) (c .if1 .left)
 
 pub add-marked-spec : {M : Type 1} → statement M
 add-marked-spec =

@@ -3,19 +3,20 @@ use Prim.Native.Nat.{_-_}
 use mathlib.Core.Path.{_≡_, ap}
 use lib.ListN.{length}
 use borrow.Author.Needs.{needs}
+use Rattle.walk.specs.Weight.{byFactors}
 use Rattle.marks.proofs.Columns.{Loop, turn-start, turn-asks, turn-again, turn-zero, turn-done}
 use Rattle.marks.proofs.column.Statement.{statement}
 use Rattle.marks.proofs.column.Tie as tie
 
 abbrev Inv-loop : tie.InvT-loop
-Inv-loop trace from lines t₀ marks rows₀ a₀ at₀ t rows a at = Loop trace from lines t₀ marks rows₀ at a t rows
+Inv-loop trace from lines t₀ marks rows₀ factors a₀ at₀ t rows a at = Loop (byFactors factors) trace from lines t₀ marks rows₀ at a t rows
 
 abbrev μ-loop : tie.MeasureT-loop
-μ-loop trace from lines t₀ marks rows₀ a₀ at₀ t rows a at = lines - at
+μ-loop trace from lines t₀ marks rows₀ factors a₀ at₀ t rows a at = lines - at
 
 -- from each place that has a name to the one before it
-abbrev start : tie.After-slice-known2 Inv-loop μ-loop → tie.Start Inv-loop μ-loop
-start c = c .before .before .before .before
+abbrev start : tie.After-shared-slice-known3 Inv-loop μ-loop → tie.Start Inv-loop μ-loop
+start c = c .before .before .before .before .before
 
 abbrev turn : tie.After-on-line-arg2 Inv-loop μ-loop → tie.In-loop Inv-loop μ-loop
 turn c = c .before .before
@@ -26,12 +27,13 @@ line-read c = c .before .before .before .before
 loop-holds : tie.Need-loop-holds Inv-loop μ-loop
 loop-holds c =
     let a = start c .args in
-    turn-start (a .trace .now) (a .from) (a .lines) (a .t .now) (a .marks .now) (a .rows .now)
+    turn-start (byFactors (a .factors .now)) (a .trace .now) (a .from) (a .lines) (a .t .now) (a .marks .now) (a .rows .now)
 
 on-line-requires : tie.Need-on-line-requires Inv-loop μ-loop
 on-line-requires c κs =
     let i = turn c in
-    turn-asks (i .before .loop .inv) (i .loop-test .taken) (start (i .before .before) .pre)
+    let a = start (i .before .before) in
+    turn-asks (i .before .loop .inv) (i .loop-test .taken) (a .pre)
 
 add-at : tie.Need-add-at Inv-loop μ-loop
 add-at c = search needs

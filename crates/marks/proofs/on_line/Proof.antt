@@ -6,7 +6,7 @@ use Rattle.marks.proofs.on_line.Tie as tie
 
 -- from each place that has a name to the one before it
 abbrev start : tie.After-kind-at → tie.Start
-start c = c .before .before .before .before .before
+start c = c .before .before .before .before .before .before
 
 abbrev cost-kind : tie.After-add-marked → tie.After-kind-at
 cost-kind c = c .before .before .before

@@ -28,7 +28,7 @@ slice-aggregate-print-report c = search needs
 
 print-report-requires : tie.Need-print-report-requires
 print-report-requires c κs =
-    let a = report-asks (c .before .before .before .before .before .before .before .profile .ensures) (c .before .before .before .before .before .before .before .before .before .before .if1 .left) (search needs) (search needs) (c .before .before .before .count .given .1) in
+    let a = report-asks (c .before .before .before .before .before .before .before .before .before .before .before .before .args .input .now) (c .before .before .before .before .before .before .before .profile .ensures) (c .before .before .before .before .before .before .before .before .before .before .if1 .left) (search needs) (search needs) (c .before .before .before .count .given .1) in
     (a .0, (a .1, search needs))
 
 enum-known-number : tie.Need-enum-known-number
@@ -36,15 +36,15 @@ enum-known-number c = search needs
 
 print-refusal-requires-2 : tie.Need-print-refusal-requires-2
 print-refusal-requires-2 c κs =
-    (refusal-asks (c .before .before .before .before .before .before .profile .ensures) (c .before .before .before .before .before .before .before .before .before .if1 .left) (search needs) (search needs) (c .before .before .number .given .1), search needs)
+    (refusal-asks (c .before .before .before .before .before .before .before .before .before .before .before .args .input .now) (c .before .before .before .before .before .before .profile .ensures) (c .before .before .before .before .before .before .before .before .before .if1 .left) (search needs) (search needs) (c .before .before .number .given .1), search needs)
 
 returns-2 : tie.Need-returns-2
 returns-2 c =
-    report-prints (c .before .before .before .before .before .before .before .before .profile .ensures) (c .before .before .before .before .before .before .before .before .before .before .before .if1 .left) (search needs) (search needs) (c .before .before .before .before .count .given .1) (c .print-report .ensures)
+    report-prints (c .before .before .before .before .before .before .before .before .before .before .before .before .before .args .input .now) (c .before .before .before .before .before .before .before .before .profile .ensures) (c .before .before .before .before .before .before .before .before .before .before .before .if1 .left) (search needs) (search needs) (c .before .before .before .before .count .given .1) (c .print-report .ensures)
 
 returns-3 : tie.Need-returns-3
 returns-3 c =
-    refusal-prints (c .before .before .before .before .before .before .before .profile .ensures) (c .before .before .before .before .before .before .before .before .before .before .if1 .left) (search needs) (search needs) (c .before .before .before .number .given .1) (c .print-refusal2 .ensures)
+    refusal-prints (c .before .before .before .before .before .before .before .before .before .before .before .before .args .input .now) (c .before .before .before .before .before .before .before .profile .ensures) (c .before .before .before .before .before .before .before .before .before .before .if1 .left) (search needs) (search needs) (c .before .before .before .number .given .1) (c .print-refusal2 .ensures)
 
 pub print-spec : {M : Type 1} → statement M
 print-spec =

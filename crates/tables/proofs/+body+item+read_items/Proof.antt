@@ -5,6 +5,7 @@ use lib.ListN.{length}
 use mathlib.Core.Path.{_∙_}
 use native.Mathlib.Omega.{arith}
 use borrow.Author.Needs.{needs}
+use Rattle.walk.specs.Weight.{byFactors}
 use Rattle.tables.proofs.Bodies.{begins, Loop, loop-start, loop-asks, Next, loop-less, loop-again, loop-done, body-leaves}
 use Rattle.tables.proofs.Items.{line-fits, own-room, join-asks, sync-leaves, Costs, rows-asks, spend-asks, cost-leaves, Calls, deeper, room, credit-asks, body-asks, Back, back-long, count-asks, child-asks, call-leaves, spawn-leaves}
 use borrow.Fn.Kinds.{In, Out}
@@ -34,32 +35,32 @@ use Rattle.tables.proofs.+body+item+read_items.{statement}
 use Rattle.tables.proofs.+body+item+read_items.Tie.{close}
 
 -- the depth left falls from item to body, a body is above its items, and they above each of them
-abbrev μ-body : Measures 3 body-kinds.ps ℕ
+abbrev μ-body : Measures 4 body-kinds.ps ℕ
 μ-body κs a = 3 * (a .1 .1 .1 .0) + 2
 
-abbrev μ-items : Measures 3 items-kinds.ps ℕ
+abbrev μ-items : Measures 4 items-kinds.ps ℕ
 μ-items κs a = 3 * (a .1 .1 .1 .0) + 1
 
-abbrev μ-item : Measures 3 item-kinds.ps ℕ
+abbrev μ-item : Measures 4 item-kinds.ps ℕ
 μ-item κs a = 3 * (a .1 .1 .1 .1 .0)
 
-abbrev body-at : ℕ → In 3 body-kinds.ps
-body-at t = and 3 body-kinds.ps (is 3 body-kinds.ps μ-body t) body.Pre
+abbrev body-at : ℕ → In 4 body-kinds.ps
+body-at t = and 4 body-kinds.ps (is 4 body-kinds.ps μ-body t) body.Pre
 
-abbrev body-below : ℕ → In 3 body-kinds.ps
-body-below t = and 3 body-kinds.ps (falls 3 body-kinds.ps _<_ μ-body t) body.Pre
+abbrev body-below : ℕ → In 4 body-kinds.ps
+body-below t = and 4 body-kinds.ps (falls 4 body-kinds.ps _<_ μ-body t) body.Pre
 
-abbrev items-at : ℕ → In 3 items-kinds.ps
-items-at t = and 3 items-kinds.ps (is 3 items-kinds.ps μ-items t) items.Pre
+abbrev items-at : ℕ → In 4 items-kinds.ps
+items-at t = and 4 items-kinds.ps (is 4 items-kinds.ps μ-items t) items.Pre
 
-abbrev items-below : ℕ → In 3 items-kinds.ps
-items-below t = and 3 items-kinds.ps (falls 3 items-kinds.ps _<_ μ-items t) items.Pre
+abbrev items-below : ℕ → In 4 items-kinds.ps
+items-below t = and 4 items-kinds.ps (falls 4 items-kinds.ps _<_ μ-items t) items.Pre
 
-abbrev item-at : ℕ → In 3 item-kinds.ps
-item-at t = and 3 item-kinds.ps (is 3 item-kinds.ps μ-item t) item.Pre
+abbrev item-at : ℕ → In 4 item-kinds.ps
+item-at t = and 4 item-kinds.ps (is 4 item-kinds.ps μ-item t) item.Pre
 
-abbrev item-below : ℕ → In 3 item-kinds.ps
-item-below t = and 3 item-kinds.ps (falls 3 item-kinds.ps _<_ μ-item t) item.Pre
+abbrev item-below : ℕ → In 4 item-kinds.ps
+item-below t = and 4 item-kinds.ps (falls 4 item-kinds.ps _<_ μ-item t) item.Pre
 
 abbrev body-calls : ℕ → body-lts.Claims
 body-calls t = (new-reads.Asked, new-reads.Learnt, items-below t, items.Post, join-reads.Asked, join-reads.Learnt)
@@ -71,19 +72,19 @@ abbrev item-calls : ℕ → item-lts.Claims
 item-calls t = (weight-at-reads.Asked, weight-at-reads.Learnt, spend-reads′.Asked, spend-reads′.Learnt, spend-reads.Asked, spend-reads.Learnt, join-reads.Asked, join-reads.Learnt, site-at-reads.Asked, site-at-reads.Learnt, part-reads.Asked, part-reads.Learnt, credit-of-reads.Asked, credit-of-reads.Learnt, body-below t, body.Post, returned-reads.Asked, returned-reads.Learnt, called-reads.Asked, called-reads.Learnt, spawned-reads.Asked, spawned-reads.Learnt)
 
 abbrev Inv-loop : items-lts.InvT-loop
-Inv-loop trace row deep t₀ rows₀ n w f₀ kind₀ t rows f kind = Loop trace row deep f₀ t₀ rows₀ t rows n w f kind
+Inv-loop trace row deep t₀ rows₀ w factors f₀ kind₀ t rows f kind = Loop (byFactors factors) trace row deep f₀ t₀ rows₀ t rows w w f kind
 
 abbrev μ-loop : items-lts.MeasureT-loop
-μ-loop trace row deep t₀ rows₀ n w f₀ kind₀ t rows f kind = 65536 - f .at
+μ-loop trace row deep t₀ rows₀ w factors f₀ kind₀ t rows f kind = 65536 - f .at
 
 module _ (t : ℕ) where
   -- a place of `body`, or what is needed there
-  abbrev Body : (body-lts.Claims → In 3 body-kinds.ps → Out 3 body-kinds.ps body-kinds.r → Type 0) → Type 0
+  abbrev Body : (body-lts.Claims → In 4 body-kinds.ps → Out 4 body-kinds.ps body-kinds.r → Type 0) → Type 0
   Body P = P (body-calls t) (body-at t) body.Post
 
   -- from each place of `body` that has a name to the one before it
   abbrev body-start : Body body-lts.After-new → Body body-lts.Start
-  body-start c = c .before .before .before .before
+  body-start c = c .before .before .before .before .before
 
   abbrev body-first : Body body-lts.After-read-items-arg2 → Body body-lts.After-new
   body-first c = c .before .before
@@ -121,12 +122,12 @@ module _ (t : ℕ) where
 
 module _ (t : ℕ) where
   -- a place of `read_items`, or what is needed there
-  abbrev Items : (items-lts.Claims → In 3 items-kinds.ps → Out 3 items-kinds.ps items-kinds.r → items-lts.InvT-loop → items-lts.MeasureT-loop → Type 0) → Type 0
+  abbrev Items : (items-lts.Claims → In 4 items-kinds.ps → Out 4 items-kinds.ps items-kinds.r → items-lts.InvT-loop → items-lts.MeasureT-loop → Type 0) → Type 0
   Items P = P (items-calls t) (items-at t) items.Post Inv-loop μ-loop
 
   -- from each place of `read_items` that has a name to the one before it
   abbrev items-start : Items items-lts.After-kind-at → Items items-lts.Start
-  items-start c = c .before .before .before .before
+  items-start c = c .before .before .before .before .before
 
   abbrev turn : Items items-lts.After-item-arg2 → Items items-lts.In-loop
   turn c = c .before .before
@@ -159,7 +160,8 @@ module _ (t : ℕ) where
   items-item-requires : Items items-lts.Need-item-requires
   items-item-requires c κs =
       let i = turn c in
-      (omega (arith, items-start (i .before .before) .pre .0), loop-asks (i .before .loop .inv) (i .loop-test .taken))
+      let a = items-start (i .before .before) in
+      (omega (arith, a .pre .0), loop-asks (i .before .loop .inv) (i .loop-test .taken))
 
   items-kind-at-requires-2 : Items items-lts.Need-kind-at-requires-2
   items-kind-at-requires-2 c κs = search needs
@@ -181,14 +183,14 @@ module _ (t : ℕ) where
 
 module _ (t : ℕ) where
   -- a place of `item`, or what is needed there
-  abbrev Item : (item-lts.Claims → In 3 item-kinds.ps → Out 3 item-kinds.ps item-kinds.r → Type 0) → Type 0
+  abbrev Item : (item-lts.Claims → In 4 item-kinds.ps → Out 4 item-kinds.ps item-kinds.r → Type 0) → Type 0
   Item P = P (item-calls t) (item-at t) item.Post
 
   -- from each place of `item` that has a name to the one before it
-  abbrev item-start : Item item-lts.After-slice-known2 → Item item-lts.Start
-  item-start c = c .before .before .before
+  abbrev item-start : Item item-lts.After-shared-slice-known2 → Item item-lts.Start
+  item-start c = c .before .before .before .before
 
-  abbrev weight-test : Item item-lts.After-weight-at → Item item-lts.After-slice-known2
+  abbrev weight-test : Item item-lts.After-weight-at → Item item-lts.After-shared-slice-known2
   weight-test c = c .before .before
 
   abbrev rows-weight : Item item-lts.After-spend → Item item-lts.After-weight-at
@@ -252,11 +254,11 @@ module _ (t : ℕ) where
 
   -- what is known where a weight was read, where the child's part is known, and where the child has returned
   at-weight : (c : Item item-lts.After-weight-at) → (
-      let a = item-start (weight-test c) .args in Costs (a .trace .now) (a .kind) (a .row) (a .deep) (a .f) (a .t .now) (a .rows .now) (a .n) (a .w) (c .weight-at .result))
+      let a = item-start (weight-test c) .args in Costs (byFactors (a .factors .now)) (a .trace .now) (a .kind) (a .row) (a .deep) (a .f) (a .t .now) (a .rows .now) (a .w) (a .w) (c .weight-at .result))
   at-weight c = record { asks = item-start (weight-test c) .pre .1; weight-is = c .weight-at .ensures; cost = c .before .if1 .taken }
 
   at-part : (c : Item item-lts.After-part) → (
-      let a = child-start (c .before) .args in Calls (a .trace .now) (a .kind) (a .row) (a .deep) (a .f) (a .t .now) (a .rows .now) (a .n) (a .w) (c .before .site-at .result) (c .part .result))
+      let a = child-start (c .before) .args in Calls (byFactors (a .factors .now)) (a .trace .now) (a .kind) (a .row) (a .deep) (a .f) (a .t .now) (a .rows .now) (a .w) (a .w) (c .before .site-at .result) (c .part .result))
   at-part c =
       let e = c .before .before in
       record { asks = child-start (c .before) .pre .1; site-is = c .before .site-at .ensures; no-cost = e .before .if1 .left; no-sync = e .if2 .left; begins = c .part .ensures }
@@ -333,7 +335,8 @@ module _ (t : ℕ) where
   item-body-requires : Item item-lts.Need-body-requires
   item-body-requires c κs =
       let h = at-part (body-part c) in
-      (omega (arith, child-start (body-part c .before) .pre .0, deeper h), body-asks h)
+      let a = child-start (body-part c .before) in
+      (omega (arith, a .pre .0, deeper h), body-asks h)
 
   item-returned-requires : Item item-lts.Need-returned-requires
   item-returned-requires c κs = count-asks _ (at-body (returned-body c))

@@ -5,6 +5,9 @@ use mathlib.Core.Path.{_≡_, _∙_}
 use lib.ListN.{length}
 use native.Mathlib.Omega.{arith}
 use borrow.Author.Needs.{needs}
+use Rattle.weigh.specs.Weighed.{Tabled}
+use Rattle.walk.specs.Weight.{byFactors}
+use Rattle.walk.proofs.Weight.{factors-tabled}
 use Rattle.walk.proofs.Zeros.{cleared-all}
 use Rattle.tables.proofs.Whole.{limits, rows-room, table-room, Blank, credit-asks, root-asks, Read, root-counts, promised}
 use Rattle.tables.proofs.accepted.Statement.{statement}
@@ -12,7 +15,7 @@ use Rattle.tables.proofs.accepted.Tie as tie
 
 -- from each place that has a name to the one before it
 abbrev zero-start : tie.After-zero-arg → tie.Start
-zero-start c = c .before .before .before .before
+zero-start c = c .before .before .before .before .before
 
 abbrev zeros : tie.After-zero-arg2 → tie.After-zero
 zeros c = c .before .before .before
@@ -52,10 +55,14 @@ root-scratch c = c .body .last .1 .1 .1 .1 .0
 abbrev root-rows : tie.After-body → List ℕ
 root-rows c = c .body .last .1 .1 .1 .1 .1 .0
 
-blank : (c : tie.After-zero2) → Blank (cleared (c .before) .pre) (zeros (c .before) .zero .last .0) (c .zero2 .last .0)
+-- a cost stays in the table
+tabled : (c : tie.Start) → Tabled (byFactors (c .args .factors .now))
+tabled c = factors-tabled (c .args .factors .now) (c .pre .1)
+
+blank : (c : tie.After-zero2) → Blank (cleared (c .before) .pre .0) (zeros (c .before) .zero .last .0) (c .zero2 .last .0)
 blank c = record { scratch-is = zeros (c .before) .zero .ensures ∙ cleared-all (cleared (c .before) .args .scratch .now); rows-are = c .zero2 .ensures }
 
-read : (c : tie.After-body) → Read (begun (c .before) .pre) (body-credit (c .before) .credit-of .result) (c .body .result) (root-scratch c) (root-rows c)
+read : (c : tie.After-body) → Read (begun (c .before) .pre .0) (byFactors (begun (c .before) .args .factors .now)) (tabled (begun (c .before))) (body-credit (c .before) .credit-of .result) (c .body .result) (root-scratch c) (root-rows c)
 read c =
     let z = body-zeros (body-credit (c .before)) in
     record {
@@ -81,40 +88,37 @@ zero-requires : tie.Need-zero-requires
 zero-requires c κs = search needs
 
 add-zero : tie.Need-add-zero
-add-zero c = let l = limits (cleared c .pre) in omega (arith, l .2, l .3)
+add-zero c = let l = limits (cleared c .pre .0) in omega (arith, l .2, l .3)
 
 mul-zero : tie.Need-mul-zero
-mul-zero c = let l = limits (cleared c .pre) in omega (arith, l .2, l .3)
+mul-zero c = let l = limits (cleared c .pre .0) in omega (arith, l .2, l .3)
 
 zero-requires-2 : tie.Need-zero-requires-2
-zero-requires-2 c κs = rows-room (cleared c .pre)
+zero-requires-2 c κs = rows-room (cleared c .pre .0)
 
 credit-of-requires : tie.Need-credit-of-requires
-credit-of-requires c κs = let z = credit-zeros c in credit-asks (cleared (z .before) .pre) (blank z)
+credit-of-requires c κs = let z = credit-zeros c in credit-asks (cleared (z .before) .pre .0) (blank z)
 
 sub-body : tie.Need-sub-body
-sub-body c = limits (cleared (body-zeros c .before) .pre) .0
+sub-body c = limits (cleared (body-zeros c .before) .pre .0) .0
 
 add-body : tie.Need-add-body
-add-body c = let l = limits (begun c .pre) in omega (arith, l .2, l .3)
-
-add-body-2 : tie.Need-add-body-2
-add-body-2 c = let l = limits (begun c .pre) in omega (arith, l .2, l .3)
+add-body c = let l = limits (begun c .pre .0) in omega (arith, l .2, l .3)
 
 body-requires : tie.Need-body-requires
-body-requires c κs = root-asks (begun c .pre) (blank (body-zeros (body-credit c)))
+body-requires c κs = root-asks (begun c .pre .0) (byFactors (begun c .args .factors .now)) (tabled (begun c)) (blank (body-zeros (body-credit c)))
 
 returned-requires : tie.Need-returned-requires
-returned-requires c κs = root-counts _ (read (returned-body c))
+returned-requires c κs = root-counts _ _ _ (read (returned-body c))
 
 add-settle : tie.Need-add-settle
-add-settle c = let l = limits (root-start (settle-returned c) .pre) in omega (arith, l .2, l .3)
+add-settle c = let l = limits (root-start (settle-returned c) .pre .0) in omega (arith, l .2, l .3)
 
 settle-requires : tie.Need-settle-requires
 settle-requires c κs =
     let k = settle-returned c in
-    let h = root-start k .pre in
-    (omega (arith, read (returned-body (k .before)) .scratch-same, table-room h, limits h .3), omega (arith, counts-long k, rows-room h))
+    let h = root-start k .pre .0 in
+    (omega (arith, read (returned-body (k .before)) .scratch-same, table-room h), omega (arith, counts-long k, rows-room h))
 
 same-length : tie.Need-same-length
 same-length c = scratch-long (end-settle c)
@@ -126,7 +130,7 @@ returns : tie.Need-returns
 returns c =
     let e = end-settle c in
     let k = settle-returned (e .before) in
-    promised _ (read (returned-body (k .before))) (k .returned .ensures) (e .settle .ensures) (scratch-long e) (rows-long e)
+    promised _ _ _ (read (returned-body (k .before))) (k .returned .ensures) (e .settle .ensures) (scratch-long e) (rows-long e)
 
 pub accepted-spec : {M : Type 1} → statement M
 accepted-spec =
@@ -139,7 +143,6 @@ accepted-spec =
     credit-of-requires
     sub-body
     add-body
-    add-body-2
     body-requires
     returned-requires
     add-settle

@@ -1,0 +1,13 @@
+pub mod ByRow
+pub mod Divided
+pub mod Asked
+pub mod Outcome
+pub mod Gain
+pub mod Table
+pub mod Loops
+pub mod Checked
+pub mod Entries
+pub mod Taking
+pub mod Written
+pub mod OfList
+pub mod Examples

@@ -1,0 +1,126 @@
+-- A trace that differs only in what its cost lines weigh, none of them more: the same invocations in every row, and no
+-- number above that of the other.
+use mathlib.Core.Path.{_≡_, refl, sym, _∙_, ap, subst}
+use mathlib.Core.Bool.{Bool, true, false, cond, _||_}
+use mathlib.Core.List.{List, [], _∷_}
+use Prim.Native.Nat.{ℕ, zero, suc, _+_, _-_, _≤_}
+use native.Mathlib.Omega.{arith}
+use lib.ListN.{length}
+use Rattle.line.specs.declared.Frame.{Frame}
+use Rattle.line.specs.declared.Frame.the-variants.{Site, Call, Spawn, Sync, Return, Cost}
+use Rattle.chain.specs.Over as Over
+use Rattle.trace.specs.Shape.{root, step, openAt, has}
+use Rattle.trace.specs.Series.{value, valueAt, Chain, weight, Span}
+use Rattle.trace.specs.Rows.{makes, made, ofRow, hasOf, enclosed, unenclosed, counted, sumOf, total, inside, sum, Sum, calls, work, Spans}
+use Rattle.weigh.proofs.Alike.{bare, ButCosts, alike-sym, step-alike, open-alike, chain-alike}
+
+-- ── the same invocations ──
+
+makes-bare : (s : ℕ) (f : Frame) → makes s f ≡ makes s (bare f)
+makes-bare s (Site i p) = refl
+makes-bare s (Call i) = refl
+makes-bare s (Spawn i) = refl
+makes-bare s Sync = refl
+makes-bare s Return = refl
+makes-bare s (Cost v) = refl
+
+made-alike : (n : ℕ) (t u : List Frame) (s : ℕ) → ButCosts t u → made n t s ≡ made n u s
+made-alike n [] [] s h = refl
+made-alike n [] (f ∷ u) s h = absurd h
+made-alike n (e ∷ t) [] s h = absurd h
+made-alike n (e ∷ t) (f ∷ u) s h =
+    ap (λ (b : Bool). cond b (suc n ∷ made (suc n) t s) (made (suc n) t s)) (makes-bare s e ∙ ap (makes s) (h .0) ∙ sym (makes-bare s f))
+    ∙ ap (λ (l : List ℕ). cond (makes s f) (suc n ∷ l) l) (made-alike (suc n) t u s (h .1))
+
+module _ (t u : List Frame) (h : ButCosts t u) where
+  pub of-row-alike : (s : ℕ) → ofRow t s ≡ ofRow u s
+  of-row-alike zero = refl
+  of-row-alike (suc s) = made-alike 0 t u (suc s) h
+
+  -- LAW: calls do not change
+  pub calls-alike : (s : ℕ) → calls t s ≡ calls u s
+  calls-alike s = ap length (of-row-alike s)
+
+  has-of-alike : (s : ℕ) (o : List ℕ) → hasOf t s o ≡ hasOf u s o
+  has-of-alike s [] = refl
+  has-of-alike s (G ∷ o) = ap (λ (l : List ℕ). has G l || hasOf t s o) (of-row-alike s) ∙ ap (λ (b : Bool). has G (ofRow u s) || b) (has-of-alike s o)
+
+  enclosed-alike : (s F : ℕ) → enclosed t s F ≡ enclosed u s F
+  enclosed-alike s zero = refl
+  enclosed-alike s (suc g) = has-of-alike s (openAt t g) ∙ ap (hasOf u s) (open-alike t u h g)
+
+  unenclosed-alike : (s : ℕ) (l : List ℕ) → unenclosed t s l ≡ unenclosed u s l
+  unenclosed-alike s [] = refl
+  unenclosed-alike s (F ∷ l) =
+      ap (λ (b : Bool). cond b (unenclosed t s l) (F ∷ unenclosed t s l)) (enclosed-alike s F)
+      ∙ ap (λ (k : List ℕ). cond (enclosed u s F) k (F ∷ k)) (unenclosed-alike s l)
+
+  pub counted-alike : (s : ℕ) → counted t s ≡ counted u s
+  counted-alike s = unenclosed-alike s (ofRow t s) ∙ ap (unenclosed u s) (of-row-alike s)
+
+-- ── no number is above ──
+
+-- each line of the second weighs at most what it weighs in the first
+abbrev pub AtMost : List Frame → List Frame → Type 0
+AtMost [] [] = Unit {0}
+AtMost [] (f ∷ u) = ⊥
+AtMost (e ∷ t) [] = ⊥
+AtMost (e ∷ t) (f ∷ u) = (value f ≤ value e) × AtMost t u
+
+pub value-most : (t u : List Frame) → AtMost t u → (k : ℕ) → valueAt u k ≤ valueAt t k
+value-most [] [] m k = omega arith
+value-most [] (f ∷ u) m k = absurd m
+value-most (e ∷ t) [] m k = absurd m
+value-most (e ∷ t) (f ∷ u) m zero = m .0
+value-most (e ∷ t) (f ∷ u) m (suc k) = value-most t u (m .1) k
+
+picked : (b : Bool) (x y : ℕ) → x ≤ y → cond b x 0 ≤ cond b y 0
+picked true x y l = l
+picked false x y l = omega arith
+
+sum-most : (p : ℕ → List ℕ → Bool) (n : ℕ) (o : List ℕ) (t u : List Frame) → ButCosts t u → AtMost t u → sumOf p n o u ≤ sumOf p n o t
+sum-most p n o [] [] h m = omega arith
+sum-most p n o [] (f ∷ u) h m = absurd h
+sum-most p n o (e ∷ t) [] h m = absurd h
+sum-most p n o (e ∷ t) (f ∷ u) h m =
+    let same = ap (λ (k : List ℕ). sumOf p (suc n) k u) (step-alike n e f o (h .0)) in
+    omega (arith, picked (p n o) (value f) (value e) (m .0), sum-most p (suc n) (step n e o) t u (h .1) (m .1), same)
+
+sums-most : (f g : ℕ → ℕ) → ((F : ℕ) → f F ≤ g F) → (l : List ℕ) → sum f l ≤ sum g l
+sums-most f g h [] = omega arith
+sums-most f g h (F ∷ l) = omega (arith, h F, sums-most f g h l)
+
+weight-most : (f g : ℕ → ℕ) → ((k : ℕ) → f k ≤ g k) → (c : List ℕ) → Over.weight f c ≤ Over.weight g c
+weight-most f g h [] = omega arith
+weight-most f g h (k ∷ c) = omega (arith, h k, weight-most f g h c)
+
+module _ (t u : List Frame) (h : ButCosts t u) (m : AtMost t u) where
+  -- LAW: no more total work
+  pub total-most : total u ≤ total t
+  total-most = sum-most (λ k o. true) 0 (root ∷ []) t u h m
+
+  -- LAW: no more work in any row
+  pub work-most : (s : ℕ) → work u s ≤ work t s
+  work-most s =
+      let same = ap (sum (inside u)) (counted-alike t u h s) in
+      omega (arith, sums-most (inside u) (inside t) (λ F. sum-most (λ k o. has F o) 0 (root ∷ []) t u h m) (counted t s), same)
+
+  pub chain-most : (c : List ℕ) → weight u c ≤ weight t c
+  chain-most c = weight-most (valueAt u) (valueAt t) (value-most t u m) c
+
+  -- LAW: no more span of any invocation, the root's among them
+  pub span-most : (F a b : ℕ) → Span t F a → Span u F b → b ≤ a
+  span-most F a b x y = omega (arith, y .weighs, chain-most (y .chain), x .greatest (y .chain) (chain-alike u t (alike-sym t u h) F (y .chain) (y .is-chain)))
+
+  spans-of : (l : List ℕ) (a b : ℕ) → Sum (Span t) l a → Sum (Span u) l b → b ≤ a
+  spans-of [] a b x y = omega (arith, x, y)
+  spans-of (F ∷ l) a b x y =
+      omega (arith, span-most F (x .0) (y .0) (x .2) (y .2), spans-of l (x .1) (y .1) (x .3) (y .3), x .4, y .4)
+
+  -- LAW: no more span in any row
+  pub spans-most : (s a b : ℕ) → Spans t s a → Spans u s b → b ≤ a
+  spans-most s a b x y = spans-of (counted t s) a b x (subst (λ (l : List ℕ). Sum (Span u) l b) (sym (counted-alike t u h s)) y)
+
+  -- LAW: the span loses at most what a heaviest chain loses
+  pub span-loses : (c : List ℕ) (a b : ℕ) → Chain t root c → weight t c ≡ a → Span u root b → a ≤ b + (weight t c - weight u c)
+  span-loses c a b x e y = omega (arith, y .greatest c (chain-alike t u h root c x), chain-most c)

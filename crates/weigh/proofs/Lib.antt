@@ -1,0 +1,4 @@
+pub mod Weighed
+pub mod Alike
+pub mod Accepted
+pub mod Less

@@ -1,0 +1,127 @@
+-- A weighed body: its size and its lines, which are the lines of the weighed trace.
+use mathlib.Core.Path.{_≡_, refl, sym, _∙_, ap}
+use mathlib.Core.List.{List, [], _∷_, _++_, append-assoc, append-nil}
+use Prim.Native.Nat.{ℕ, suc, _+_}
+use native.Mathlib.Omega.{arith}
+use lib.ListN.{length}
+use Rattle.line.specs.declared.Frame.{Frame}
+use Rattle.line.specs.declared.Frame.the-variants.{Site, Call, Spawn, Sync, Return, Cost}
+use Rattle.trace.specs.Tree.{Way, call, spawn, opening, Leaf, spend, sync, lineOf, LeafWithin, Body, done, leaf, child, linesOf, size, Within, AllSites}
+use Rattle.trace.proofs.Cases.{IsSite, at-site}
+use Rattle.weigh.specs.Cost.{costing}
+use Rattle.weigh.specs.Weighed.{Weigh, plainly, Tabled, weighedLeaf, weighed, innermost, rowStep, reweighed}
+
+pub weighed-size : (w : Weigh) (b : Body) (n s : ℕ) → size (weighed w n s b) ≡ size b
+weighed-size w done n s = refl
+weighed-size w (leaf l r) n s = ap suc (weighed-size w r (suc n) s)
+weighed-size w (child y i g r) n s = omega (arith, weighed-size w g (suc n) i, weighed-size w r (suc n + size g) s)
+
+plain-leaf : (l : Leaf) (n s : ℕ) → weighedLeaf plainly n s l ≡ l
+plain-leaf (spend v) n s = refl
+plain-leaf sync n s = refl
+
+-- LAW: weighed as it stands, a body is as it was
+pub weighed-plainly : (b : Body) (n s : ℕ) → weighed plainly n s b ≡ b
+weighed-plainly done n s = refl
+weighed-plainly (leaf l r) n s = rw (plain-leaf l n s, weighed-plainly r (suc n) s)
+weighed-plainly (child y i g r) n s = rw (weighed-plainly g (suc n) i, weighed-plainly r (suc n + size g) s)
+
+within-leaf : (w : Weigh) → Tabled w → (l : Leaf) (n s : ℕ) → LeafWithin l → LeafWithin (weighedLeaf w n s l)
+within-leaf w h (spend v) n s k = h n s v (k .0) (k .1)
+within-leaf w h sync n s k = tt
+
+-- LAW: it keeps its sites and its depth, and its costs stay in the table
+pub weighed-within : (w : Weigh) → Tabled w → (m D d : ℕ) (b : Body) (n s : ℕ) → Within m D d b → Within m D d (weighed w n s b)
+weighed-within w h m D d done n s k = tt
+weighed-within w h m D d (leaf l r) n s k = (within-leaf w h l n s (k .0), weighed-within w h m D d r (suc n) s (k .1))
+weighed-within w h m D d (child y i g r) n s k =
+    (k .0, k .1, k .2, weighed-within w h m D (suc d) g (suc n) i (k .3), weighed-within w h m D d r (suc n + size g) s (k .4))
+
+-- ── its lines ──
+
+pub leaf-costing : (w : Weigh) (l : Leaf) (n s : ℕ) → costing (w n s) (lineOf l) ≡ lineOf (weighedLeaf w n s l)
+leaf-costing w (spend v) n s = refl
+leaf-costing w sync n s = refl
+
+leaf-rows : (l : Leaf) (o : List ℕ) → rowStep (lineOf l) o ≡ o
+leaf-rows (spend v) o = refl
+leaf-rows sync o = refl
+
+pub opening-costing : (g : ℕ → ℕ) (y : Way) (i : ℕ) → costing g (opening y i) ≡ opening y i
+opening-costing g call i = refl
+opening-costing g spawn i = refl
+
+opening-rows : (y : Way) (i : ℕ) (o : List ℕ) → rowStep (opening y i) o ≡ i ∷ o
+opening-rows call i o = refl
+opening-rows spawn i o = refl
+
+module _ (w : Weigh) where
+  -- LAW: the lines of a weighed body are the lines weighed
+  pub reweighed-lines : (b : Body) (n s : ℕ) (o : List ℕ) (u : List Frame) → reweighed w n (s ∷ o) (linesOf b ++ u) ≡ linesOf (weighed w n s b) ++ reweighed w (n + size b) o u
+  reweighed-lines done n s o u = let e : suc n ≡ n + 1 = omega arith in ap (λ (k : ℕ). Return ∷ reweighed w k o u) e
+  reweighed-lines (leaf l r) n s o u =
+      let e : suc n + size r ≡ n + suc (size r) = omega arith in
+      ap (λ (f : Frame). f ∷ reweighed w (suc n) (rowStep (lineOf l) (s ∷ o)) (linesOf r ++ u)) (leaf-costing w l n s)
+      ∙ ap (λ (p : List ℕ). lineOf (weighedLeaf w n s l) ∷ reweighed w (suc n) p (linesOf r ++ u)) (leaf-rows l (s ∷ o))
+      ∙ ap (λ (k : List Frame). lineOf (weighedLeaf w n s l) ∷ k) (reweighed-lines r (suc n) s o u)
+      ∙ ap (λ (k : ℕ). lineOf (weighedLeaf w n s l) ∷ (linesOf (weighed w (suc n) s r) ++ reweighed w k o u)) e
+  reweighed-lines (child y i g r) n s o u =
+      let e : suc n + size g + size r ≡ n + suc (size g + size r) = omega arith in
+      ap (λ (f : Frame). f ∷ reweighed w (suc n) (rowStep (opening y i) (s ∷ o)) ((linesOf g ++ linesOf r) ++ u)) (opening-costing (w n s) y i)
+      ∙ ap (λ (p : List ℕ). opening y i ∷ reweighed w (suc n) p ((linesOf g ++ linesOf r) ++ u)) (opening-rows y i (s ∷ o))
+      ∙ ap (λ (k : List Frame). opening y i ∷ reweighed w (suc n) (i ∷ s ∷ o) k) (append-assoc (linesOf g) (linesOf r) u)
+      ∙ ap (λ (k : List Frame). opening y i ∷ k) (reweighed-lines g (suc n) i (s ∷ o) (linesOf r ++ u))
+      ∙ ap (λ (k : List Frame). opening y i ∷ (linesOf (weighed w (suc n) i g) ++ k)) (reweighed-lines r (suc n + size g) s o u)
+      ∙ ap (λ (k : ℕ). opening y i ∷ (linesOf (weighed w (suc n) i g) ++ (linesOf (weighed w (suc n + size g) s r) ++ reweighed w k o u))) e
+      ∙ ap (λ (k : List Frame). opening y i ∷ k)
+      (sym (append-assoc (linesOf (weighed w (suc n) i g)) (linesOf (weighed w (suc n + size g) s r)) (reweighed w (n + suc (size g + size r)) o u)))
+
+  site-line : (f : Frame) → IsSite f → (n : ℕ) (o : List ℕ) (t : List Frame) → reweighed w n o (f ∷ t) ≡ f ∷ reweighed w (suc n) o t
+  site-line f h n o t = at-site (λ (g : Frame). reweighed w n o (g ∷ t) ≡ g ∷ reweighed w (suc n) o t) (λ s p. refl) f h
+
+  reweighed-heads : (h : List Frame) (n : ℕ) (o : List ℕ) (u : List Frame) → AllSites h → reweighed w n o (h ++ u) ≡ h ++ reweighed w (n + length h) o u
+  reweighed-heads [] n o u s = let e : n ≡ n + 0 = omega arith in ap (λ (k : ℕ). reweighed w k o u) e
+  reweighed-heads (f ∷ h) n o u s =
+      let e : suc n + length h ≡ n + suc (length h) = omega arith in
+      site-line f (s .0) n o (h ++ u)
+      ∙ ap (λ (l : List Frame). f ∷ l) (reweighed-heads h (suc n) o u (s .1) ∙ ap (λ (k : ℕ). h ++ reweighed w k o u) e)
+
+  -- LAW: so of a whole trace
+  pub reweighed-trace : (h : List Frame) (b : Body) → AllSites h → reweighed w 0 (0 ∷ []) (h ++ linesOf b) ≡ h ++ linesOf (weighed w (length h) 0 b)
+  reweighed-trace h b s =
+      let e : 0 + length h ≡ length h = omega arith in
+      reweighed-heads h 0 (0 ∷ []) (linesOf b) s
+      ∙ ap (λ (k : ℕ). h ++ reweighed w k (0 ∷ []) (linesOf b)) e
+      ∙ ap (λ (l : List Frame). h ++ reweighed w (length h) (0 ∷ []) l) (sym (append-nil (linesOf b)))
+      ∙ ap (λ (l : List Frame). h ++ l) (reweighed-lines b (length h) 0 [] [] ∙ append-nil (linesOf (weighed w (length h) 0 b)))
+
+-- ── by what else the lines are weighed ──
+
+same-costing : (g h : ℕ → ℕ) → ((v : ℕ) → g v ≡ h v) → (f : Frame) → costing g f ≡ costing h f
+same-costing g h k (Site s p) = refl
+same-costing g h k (Call s) = refl
+same-costing g h k (Spawn s) = refl
+same-costing g h k Sync = refl
+same-costing g h k Return = refl
+same-costing g h k (Cost v) = ap Cost (k v)
+
+-- LAW: the weighed trace is one where each line weighs the same
+pub reweighed-same : (w x : Weigh) → ((n s v : ℕ) → w n s v ≡ x n s v) → (t : List Frame) (n : ℕ) (o : List ℕ) → reweighed w n o t ≡ reweighed x n o t
+reweighed-same w x k [] n o = refl
+reweighed-same w x k (f ∷ t) n o =
+    ap (λ (e : Frame). e ∷ reweighed w (suc n) (rowStep f o) t) (same-costing (w n (innermost o)) (x n (innermost o)) (k n (innermost o)) f)
+    ∙ ap (λ (l : List Frame). costing (x n (innermost o)) f ∷ l) (reweighed-same w x k t (suc n) (rowStep f o))
+
+plain-costing : (f : Frame) → costing (λ v. v) f ≡ f
+plain-costing (Site s p) = refl
+plain-costing (Call s) = refl
+plain-costing (Spawn s) = refl
+plain-costing Sync = refl
+plain-costing Return = refl
+plain-costing (Cost v) = refl
+
+-- LAW: weighed as it stands, a trace is as it was
+pub reweighed-plainly : (t : List Frame) (n : ℕ) (o : List ℕ) → reweighed plainly n o t ≡ t
+reweighed-plainly [] n o = refl
+reweighed-plainly (f ∷ t) n o =
+    ap (λ (e : Frame). e ∷ reweighed plainly (suc n) (rowStep f o) t) (plain-costing f) ∙ ap (λ (l : List Frame). f ∷ l) (reweighed-plainly t (suc n) (rowStep f o))
