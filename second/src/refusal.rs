@@ -38,6 +38,8 @@ pub enum Ground {
     Name = 17,
     /// "output shorter than the text"
     FoldedRoom = 18,
+    /// "output shorter than the result"
+    CompactRoom = 21,
 }
 
 /// "Refused: a number and a line."

@@ -54,12 +54,26 @@ fn every_verdict_on_folded_stacks_is_reached() {
 }
 
 #[test]
+fn every_verdict_on_a_compaction_is_reached() {
+    let cases = (0..20_000).map(|number| generate::case(1, number));
+    let verdicts = verdicts(cases.filter(|case| matches!(case.question, Question::Compact { .. })));
+    println!("{verdicts:?}");
+    for verdict in [0, 1, 2, 4, 5, 6, 7, 8, 9, 10, 11, 12, 14, 21] {
+        assert!(verdicts.get(&verdict).is_some_and(|&times| times >= 5), "{verdict}: {verdicts:?}");
+    }
+    assert!([0, 21].iter().all(|verdict| verdicts[verdict] >= 100), "{verdicts:?}");
+}
+
+#[test]
 fn good_traces_reach_the_limits() {
     let wide = Limits { depth: 64, sites: 255 };
     let room: Lent = wide.for_tables();
     let mut reached = [false; 3];
-    for number in 0..20_000 {
-        let Question::Engines { trace, .. } = generate::case(2, number).question else { continue };
+    for number in 0..40_000 {
+        let (Question::Engines { trace, .. } | Question::Compact { trace, .. }) = generate::case(2, number).question
+        else {
+            continue;
+        };
         let Ok(profile) = Second::by_paths().profile(&trace, wide, &room) else { continue };
         let shallow = Limits { depth: 63, ..wide };
         reached[0] |= Second::by_paths().profile(&trace, shallow, &room).is_err();

@@ -1,6 +1,6 @@
 //! From a case in which two programs differ to the smallest such case that can be found by leaving parts out.
 
-use super::case::{Case, FoldedSpare, Question, Spare};
+use super::case::{Case, CompactSpare, FoldedSpare, Question, Spare};
 use crate::check::Limits;
 use crate::line::{chars, read, Fields, Kind, CHARS};
 use std::ops::Range;
@@ -50,7 +50,9 @@ impl<D: Fn(&Case) -> bool> Shrinker<D> {
     /// The trace, if the case has one.
     fn trace(&self) -> Option<&[u8]> {
         match &self.case.question {
-            Question::Engines { trace, .. } | Question::Folded { trace, .. } => Some(trace),
+            Question::Engines { trace, .. } | Question::Folded { trace, .. } | Question::Compact { trace, .. } => {
+                Some(trace)
+            }
             _ => None,
         }
     }
@@ -59,7 +61,9 @@ impl<D: Fn(&Case) -> bool> Shrinker<D> {
     fn keep_trace(&mut self, changed: Vec<u8>) -> bool {
         let mut question = self.case.question.clone();
         match &mut question {
-            Question::Engines { trace, .. } | Question::Folded { trace, .. } => *trace = changed,
+            Question::Engines { trace, .. } | Question::Folded { trace, .. } | Question::Compact { trace, .. } => {
+                *trace = changed;
+            }
             _ => return false,
         }
         self.keep(question)
@@ -208,6 +212,12 @@ fn lower_questions(question: &Question) -> Vec<Question> {
             let stocks = shorter_texts(stock).map(|stock| of(*limits, project, &stock, *spare));
             let rooms = lower_folded_spares(*spare).map(|spare| of(*limits, project, stock, spare));
             lower.chain(projects).chain(stocks).chain(rooms).collect()
+        }
+        Question::Compact { trace, limits, spare } => {
+            let of = |limits, spare| Question::Compact { trace: trace.clone(), limits, spare };
+            let lower = lower_limits(*limits).map(|limits| of(limits, *spare));
+            let rooms = [CompactSpare { out: 0, ..*spare }, CompactSpare { written: 0, ..*spare }];
+            lower.chain(rooms.into_iter().filter(|new| new != spare).map(|spare| of(*limits, spare))).collect()
         }
     }
 }
