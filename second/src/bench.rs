@@ -1,7 +1,8 @@
 //! Timings: the proved engines, the plain one, the script and a pass that only sums the bytes, on the same traces in one run;
-//! and the proved writer of folded stacks beside the plain one.
+//! and the proved writer of folded stacks and the proved compactor beside plain ones.
 
 pub mod clock;
+pub mod compacting;
 pub mod folding;
 pub mod table;
 pub mod timing;

@@ -1,15 +1,15 @@
 //! `bench DIR [SAMPLES]`: times the proved engines against the plain one, the script and a pass that only sums the bytes; and
-//! the proved writer of folded stacks against a plain one.
+//! the proved writer of folded stacks and the proved compactor against plain ones.
 //!
 //! Writes the traces and `bench.csv` to DIR, tells its progress, and prints the table and the goals. The numbers are
 //! medians of SAMPLES samples (101 if not said; the script's, of 3) of processor time. Each sample goes over all traces and
 //! all engines, so that a machine that is slow for a while is slow for all of them. Every engine's answer is held against
 //! the plain one's.
 
-use second::bench::folding;
 use second::bench::table::{csv, goals, head, Measured};
 use second::bench::timing::{medians, Run};
 use second::bench::traces::{Shape, DEPTH, SHAPES};
+use second::bench::{compacting, folding};
 use second::check::{Lent, Limits};
 use second::library::{proved, Library};
 use second::plain;
@@ -66,6 +66,10 @@ fn measure(folder: &Path, samples: usize) -> Result<(), Box<dyn Error>> {
     println!("{}", folding::head());
     folded.iter().for_each(|measured| println!("{}", measured.line()));
     println!("{}", folding::goal(&folded));
+    let compacted = compacting::measure(library, samples);
+    println!("{}", compacting::head());
+    compacted.iter().for_each(|measured| println!("{}", measured.line()));
+    println!("{}", compacting::goal(&compacted));
     Ok(())
 }
 
