@@ -1,7 +1,7 @@
-/* compact CHARACTERS [TRACE]: writes a trace without the lines that say nothing into room for so many characters; as many as
- * the trace has are always enough. Without TRACE it reads standard input. A refusal is printed as the report program prints it,
- * and told on standard error. Ends with status 0 for a trace, 1 for a refusal, 2 for wrong usage, 3 where input or output
- * failed. */
+/* compact CHARACTERS [TRACE]: writes a trace without the lines that say nothing into room for so many characters; as
+ * many as the trace has are always enough. Without TRACE it reads standard input. A refusal is printed as the report
+ * program prints it, and told on standard error. Ends with status 0 for a trace, 1 for a refusal, 2 for wrong usage, 3
+ * where input or output failed. */
 #include <errno.h>
 #include <stdio.h>
 #include <stdlib.h>

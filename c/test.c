@@ -348,8 +348,8 @@ static uint64_t compact(const char *trace, size_t len, uint64_t depth, uint64_t 
     return nyo_compact((const uint8_t *)trace, len, depth, sites, text, room, to, count_room);
 }
 
-/* What is left of a trace, in room just enough and in more; in room for one character less it is refused; and what is left of
- * it is itself. */
+/* What is left of a trace, in room just enough and in more; in room for one character less it is refused; and what is
+ * left of that is itself. */
 static int leaves(const char *trace, const char *left) {
     size_t len = strlen(trace), n = strlen(left);
     const uint64_t count[] = {n};

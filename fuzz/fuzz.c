@@ -446,8 +446,8 @@ static void fold(const Room *trace, uint64_t depth, uint64_t sites, uint64_t fir
     MUST(len <= NYO_FOLDED_CHARS(trace->bytes / NYO_LINE_CHARS, depth, longest));
 }
 
-/* What is left of an accepted trace, line by line, and its length. A sync waits until a line that is no sync stands behind it;
- * of a run of them only the first can be left. */
+/* What is left of an accepted trace, line by line, and its length. A sync waits until a line that is no sync stands
+ * behind it; of a run of them only the first can be left. */
 static size_t expected_left(uint8_t *left, const Room *trace) {
     static const uint64_t sync[NYO_FRAME] = {4, 0, 0, 0, 0};
     static Trace t;
@@ -456,7 +456,8 @@ static size_t expected_left(uint8_t *left, const Room *trace) {
     size_t depth = 1;
     t.len = 0;
     for (const uint8_t *line = trace->at; line < trace->at + trace->bytes; line += NYO_LINE_CHARS) {
-        uint64_t f[NYO_FRAME] = {field(line, 0, 2), field(line, 2, 4), field(line, 6, 8), field(line, 14, 4), field(line, 18, 4)};
+        uint64_t f[NYO_FRAME] = {field(line, 0, 2), field(line, 2, 4), field(line, 6, 8), field(line, 14, 4),
+                                 field(line, 18, 4)};
         if (f[0] == 4) {
             waits |= spawned[depth - 1], spawned[depth - 1] = 0;
             continue;
@@ -476,17 +477,19 @@ static size_t expected_left(uint8_t *left, const Room *trace) {
     return t.len;
 }
 
-/* Of what is left of a trace with this answer and these rows the table engine says the same, but for the lines; and what is
- * left of it is itself. */
+/* Of what is left of a trace with this answer and these rows the table engine says the same, but for the lines; and what
+ * is left of that is itself. */
 static void says_as_much(const uint8_t *left, size_t len, uint64_t depth, uint64_t sites, const uint64_t *answer,
                          const uint64_t *rows) {
     static uint64_t scratch[NYO_TABLES_SCRATCH(NYO_MOST_DEPTH, NYO_MOST_SITES)], own_rows[NYO_ROWS(NYO_MOST_SITES)];
     static uint8_t again[MOST_CHARS];
     uint64_t own[NYO_ANSWER], count;
-    MUST(!nyo_tables(left, len, depth, sites, scratch, sizeof scratch / 8, own_rows, sizeof own_rows / 8, own, NYO_ANSWER));
+    MUST(!nyo_tables(left, len, depth, sites, scratch, sizeof scratch / 8, own_rows, sizeof own_rows / 8, own,
+                     NYO_ANSWER));
     MUST(!memcmp(own, answer, 3 * sizeof *own) && own[3] == len / NYO_LINE_CHARS);
     MUST(!memcmp(own_rows, rows, 8 * NYO_ROWS(answer[2])));
-    MUST(!nyo_compact(left, len, depth, sites, again, sizeof again, &count, 1) && count == len && !memcmp(again, left, len));
+    MUST(!nyo_compact(left, len, depth, sites, again, sizeof again, &count, 1));
+    MUST(count == len && !memcmp(again, left, len));
 }
 
 /* The trace, which the table engine has answered so, without the lines that say nothing. */
@@ -495,7 +498,8 @@ static void compact(const Room *trace, uint64_t depth, uint64_t sites, uint64_t 
     static uint8_t expected[MOST_CHARS];
     size_t len = first ? 0 : expected_left(expected, trace);
     Room written = lend(&of_written, enough(1, 8, in), in), out = lend(&of_compact, enough(len, 1, in), in);
-    uint64_t given = nyo_compact(trace->at, trace->bytes, depth, sites, out.at, out.bytes, numbers(&written), written.bytes / 8);
+    uint64_t given = nyo_compact(trace->at, trace->bytes, depth, sites, out.at, out.bytes, numbers(&written),
+                                 written.bytes / 8);
     count(35, given);
     if (NYO_NUMBER(first) >= 1 && NYO_NUMBER(first) <= 3) MUST(given == first);
     else if (written.bytes < 8) MUST(given == 4);
@@ -504,7 +508,8 @@ static void compact(const Room *trace, uint64_t depth, uint64_t sites, uint64_t 
     else MUST(given == (out.bytes < len ? 21 : 0));
     if (given) MUST(kept_from(&out, 0) && kept_from(&written, 0));
     if (given || first) return;
-    MUST(numbers(&written)[0] == len && kept_from(&written, 8) && !memcmp(out.at, expected, len) && kept_from(&out, len));
+    MUST(numbers(&written)[0] == len && kept_from(&written, 8));
+    MUST(!memcmp(out.at, expected, len) && kept_from(&out, len));
     MUST(len <= NYO_COMPACT_CHARS(trace->bytes));
     says_as_much(out.at, len, depth, sites, answer, rows);
 }

@@ -1,7 +1,7 @@
 //! A trace without the lines that say nothing: request g's sentences one by one, over line numbers.
 
 use crate::check::{self, Limits};
-use crate::line::{chars, Kind, Line};
+use crate::line::{self, Kind, Line};
 use crate::refusal::{Ground, Refusal};
 use crate::shape::Shape;
 
@@ -20,21 +20,21 @@ impl Lent {
     pub const ALL: Lent = Lent { out: usize::MAX, written: usize::MAX };
 }
 
-/// The compacted trace: "those of 01, then 21 output shorter than the result, line 0". "lent only the output beside the trace",
-/// and no room for the count of characters is too little.
+/// The compacted trace: "those of 01, then 21 output shorter than the result, line 0". "lent only the output beside
+/// the trace", and no room for the count of characters is too little.
 pub fn write(trace: &[u8], limits: Limits, lent: Lent) -> Result<Vec<u8>, Refusal> {
     let shape = check::read(trace, limits, |_| lent.written < 1)?;
     let lines = merged(kept(&shape));
     // "Its lines are as the line writer gives them."
-    let text: Vec<u8> = lines.iter().flat_map(|line| chars(&line.fields())).collect();
+    let text: Vec<u8> = lines.iter().flat_map(|line| line::write(&line.fields()).expect("by the table")).collect();
     if lent.out < text.len() {
         return Err(Ground::CompactRoom.at(0));
     }
     Ok(text)
 }
 
-/// "first drops each sync with no spawn directly in its invocation since that invocation's start or last sync, and each with only
-/// syncs between it and its return"
+/// "first drops each sync with no spawn directly in its invocation since that invocation's start or last sync, and
+/// each with only syncs between it and its return"
 fn kept(shape: &Shape) -> Vec<Line> {
     let dropped = |line: usize| {
         shape.lines[line].kind == Kind::Sync && (!spawned_since(shape, line) || only_syncs_behind(shape, line))
@@ -42,8 +42,8 @@ fn kept(shape: &Shape) -> Vec<Line> {
     (0..shape.lines.len()).filter(|&line| !dropped(line)).map(|line| shape.lines[line]).collect()
 }
 
-/// Whether a spawn stands directly in a sync's invocation since "that invocation's start or last sync". The last sync is the last
-/// one of the trace, dropped or not.
+/// Whether a spawn stands directly in a sync's invocation since "that invocation's start or last sync". The last sync
+/// is the last one of the trace, dropped or not.
 fn spawned_since(shape: &Shape, sync: usize) -> bool {
     let own = shape.directly_in[sync];
     let before = shape.invocation_of(sync).first..sync;
@@ -57,7 +57,8 @@ fn only_syncs_behind(shape: &Shape, sync: usize) -> bool {
     shape.lines[between].iter().all(|line| line.kind == Kind::Sync)
 }
 
-/// "Then adjacent cost lines merge from the left while the sum fits a value, and a sum that would not fit starts a new line."
+/// "Then adjacent cost lines merge from the left while the sum fits a value, and a sum that would not fit starts a
+/// new line."
 fn merged(lines: Vec<Line>) -> Vec<Line> {
     let mut merged: Vec<Line> = vec![];
     for line in lines {

@@ -417,7 +417,8 @@ fn compactor(
     Some(text).filter(|text| text.len() <= lent.out).ok_or(Ground::CompactRoom.at(0))
 }
 
-/// Whether a spawn stands before a sync, since the start of its invocation or the last sync, among the lines that count.
+/// Whether a spawn stands before a sync, since the start of its invocation or the last sync, among the lines that
+/// count.
 fn spawned_since(shape: &Shape, sync: usize, counts: fn(&Shape, usize, usize) -> bool) -> bool {
     let first = shape.invocation_of(sync).first;
     let kinds = (first..sync).rev().filter(|&line| counts(shape, line, sync)).map(|line| shape.lines[line].kind);

@@ -63,8 +63,8 @@ fn on_generated_lists() {
     assert!(folded_alike((0..40_000).map(|number| generate::case(3, number))) > 5_000);
 }
 
-/// Holds the plain compactor against the second program on the traces among some cases, with just enough room and one character
-/// less, and counts them.
+/// Holds the plain compactor against the second program on the traces among some cases, with just enough room and one
+/// character less, and counts them.
 fn compacts_alike(cases: impl IntoIterator<Item = Case>) -> usize {
     let mut count = 0;
     for case in cases {

@@ -55,8 +55,8 @@ pub fn goal(all: &[Compacted]) -> String {
     format!("plain/compact: {least:.2} to {most:.2} (goal: at least 1.0)")
 }
 
-/// Times both compactors on the four shapes, on a trace that says little and on the proxy, and holds one result against the
-/// other.
+/// Times both compactors on the four shapes, on a trace that says little and on the proxy, and holds one result
+/// against the other.
 pub fn measure(library: &dyn Library, samples: usize) -> Vec<Compacted> {
     let shapes = SHAPES[..4].iter().map(|shape| (shape.name, shape.trace(LINES, LIMITS.sites)));
     let others = [("wordy", wordy(LINES, LIMITS.sites)), ("proxy", PROXY.to_vec())];
@@ -89,7 +89,8 @@ mod tests {
     fn of_the_proxy_every_line_is_left_and_of_a_wordy_trace_six_of_ten() {
         let proxy = time(&Second::by_paths(), "proxy", PROXY, 1);
         assert_eq!((proxy.lines, proxy.left), (85, 85));
-        // Of each ten lines are left: the spawn, its cost and return, one sum of the three costs, the first sync, the last cost.
+        // Of each ten lines are left: the spawn, its cost and return, one sum of the three costs, the first sync, the
+        // last cost.
         let wordy = time(&Second::by_paths(), "wordy", &wordy(31 + 10 * 6 + 1, 31), 1);
         assert_eq!((wordy.lines, wordy.left), (31 + 10 * 6 + 1, 31 + 6 * 6 + 1));
     }

@@ -49,8 +49,8 @@ pub fn deepest(lines: usize, sites: u64) -> Vec<u8> {
     trace.chars
 }
 
-/// A trace that says little, in tens of lines: a spawned child with one cost, three costs, three syncs and a cost. Costs fill it
-/// up to the root's return.
+/// A trace that says little, in tens of lines: a spawned child with one cost, three costs, three syncs and a cost.
+/// Costs fill it up to the root's return.
 pub fn wordy(lines: usize, sites: u64) -> Vec<u8> {
     let mut trace = Trace::with_sites(sites);
     while trace.lines() + 10 < lines {

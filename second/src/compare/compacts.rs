@@ -1,5 +1,5 @@
-//! Cases for the compactor: traces with what is left of them worked out by hand, and generated ones; and the laws to which
-//! every compacted trace is held.
+//! Cases for the compactor: traces with what is left of them worked out by hand, and generated ones; and the laws to
+//! which every compacted trace is held.
 
 use super::case::{Case, CompactSpare, Question, Room, STRIP};
 use super::rng::Rng;
@@ -143,8 +143,8 @@ pub fn write(rng: &mut Rng) -> Question {
     Question::Compact { trace, limits, spare }
 }
 
-/// Which laws hold of a trace that a program has accepted and of what it has made of it, by its own engines, line reader and
-/// line writer: each as a number, 1 where it holds.
+/// Which laws hold of a trace that a program has accepted and of what it has made of it, by its own engines, line
+/// reader and line writer: each as a number, 1 where it holds.
 pub fn laws(library: &dyn Library, trace: &[u8], limits: Limits, text: &[u8]) -> Vec<Room<u64>> {
     let (before, after) = (Engines::ask(library, trace, limits), Engines::ask(library, text, limits));
     let [tables, marks] = &after.said;

@@ -5,8 +5,8 @@ use crate::check::{before_lines, Limits};
 use crate::line::CHARS;
 use crate::refusal::{Ground, Refusal};
 
-/// Hands each line of a trace to `take`, and gives how many sites there are, or the refusal. Whether too little is lent, `short`
-/// says.
+/// Hands each line of a trace to `take`, and gives how many sites there are, or the refusal. Whether too little is
+/// lent, `short` says.
 pub fn each_line(
     trace: &[u8],
     limits: Limits,

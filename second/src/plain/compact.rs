@@ -1,8 +1,8 @@
-//! A compactor, written to be fast: what the proved one is timed against. It makes every check and writes every character of the
-//! slow way, with which the tests hold it equal.
+//! A compactor, written to be fast: what the proved one is timed against. It makes every check and writes every
+//! character of the slow way, with which the tests hold it equal.
 //!
-//! One pass checks the lines and keeps those that are left; then they are written. A sync waits until a line that is no sync
-//! stands behind it, and a sum until a line that is no cost does.
+//! One pass checks the lines and keeps those that are left; then they are written. A sync waits until a line that is
+//! no sync stands behind it, and a sum until a line that is no cost does.
 
 use super::{checks, Fields, CALL, COST, RETURN, SPAWN, SYNC};
 use crate::check::Limits;
