@@ -8,6 +8,7 @@ ghost use Rattle.forecast.specs.Asked.{ascending, allDeclared, badFactor
 ghost use Rattle.forecast.specs.Listed.{none, listed, askedOf, factorTable};
 
 // "each a row number and a factor"
+#[repr(C)]
 pub struct Entry {
     pub row: u64,
     pub factor: u64,

@@ -8,8 +8,10 @@ use lib.ListN.{length}
 use Rattle.line.specs.declared.Frame.{Frame}
 use Rattle.trace.specs.declared.Answer.{Answer}
 use Rattle.trace.specs.declared.Answer.the-variants.{Accepted, Refused}
-use Rattle.trace.specs.Refusals.{accepted, refused, verdict}
+use Rattle.trace.specs.Refusals.{Verdict, accepted, refused, verdict}
 use Rattle.trace.specs.Promise.{Engine, Lent, enough, Profile}
+use Rattle.forecast.specs.declared.Entry.{Entry}
+use Rattle.forecast.specs.Asked.{asking}
 use Rattle.report.specs.Room.{Decision, write, refuse}
 use Rattle.nyolifuwe.specs.Code.{coded, Gives}
 
@@ -22,8 +24,16 @@ abbrev pub numbered : Answer → Decision
 numbered (Accepted work span sites lines) = write (work ∷ span ∷ sites ∷ lines ∷ [])
 numbered (Refused number line) = refuse number line
 
--- The engine e, lent the text s with limits D and M, the room before and the room for the answer, gives this code and
--- leaves after and answer′.
-pub record Profiles (e : Engine) (s : List ℕ) (D M : ℕ) (before : Lent) (answer : List ℕ) (given : ℕ) (after : Lent) (answer′ : List ℕ) : Type 0 where
-  pub when-accepted : (t : List Frame) → verdict s D M (roomy e s D M before answer) ≡ accepted t → (r : Answer) × Profile e t before r after × Gives (numbered r) given answer answer′
-  pub when-refused : (number line : ℕ) → verdict s D M (roomy e s D M before answer) ≡ refused number line → (given ≡ coded number line) × (after ≡ before) × (answer′ ≡ answer)
+-- The engine e, lent the room before and the room for the answer, gives this code and leaves after and answer′, where
+-- this is the verdict.
+pub record Answers (e : Engine) (v : Verdict) (before : Lent) (answer : List ℕ) (given : ℕ) (after : Lent) (answer′ : List ℕ) : Type 0 where
+  pub when-accepted : (t : List Frame) → v ≡ accepted t → (r : Answer) × Profile e t before r after × Gives (numbered r) given answer answer′
+  pub when-refused : (number line : ℕ) → v ≡ refused number line → (given ≡ coded number line) × (after ≡ before) × (answer′ ≡ answer)
+
+-- the same of the text s with limits D and M
+abbrev pub Profiles : Engine → List ℕ → ℕ → ℕ → Lent → List ℕ → ℕ → Lent → List ℕ → Type 0
+Profiles e s D M before answer given after answer′ = Answers e (verdict s D M (roomy e s D M before answer)) before answer given after answer′
+
+-- and of a forecast by these entries
+abbrev pub Forecasts : Engine → List Entry → List ℕ → ℕ → ℕ → Lent → List ℕ → ℕ → Lent → List ℕ → Type 0
+Forecasts e es s D M before answer given after answer′ = Answers e (asking es (verdict s D M (roomy e s D M before answer))) before answer given after answer′

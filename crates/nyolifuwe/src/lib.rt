@@ -1,6 +1,7 @@
 // The C interface: the proved functions on numbers and lent slices. Each answers 0 where it accepts and otherwise a
 // refusal's number + 256 · its line; a refusal changes nothing that was lent.
 
+use forecast::Listed;
 use line::Frame;
 use line::Read;
 use line::Wrote;
@@ -18,6 +19,7 @@ ghost use Rattle.nyolifuwe.specs.Lines.{numbers, readFrame, writeFrame};
 ghost use Rattle.nyolifuwe.specs.Texts.{counted, Tells};
 ghost use Rattle.trace.specs.Promise.{Engine};
 ghost use Rattle.nyolifuwe.specs.Engines.{numbered, Profiles};
+ghost use Rattle.nyolifuwe.specs.InsideForecasts.{ForecastsOf};
 ghost use Rattle.nyolifuwe.specs.Sheets.{csvWrite, csvRead, Takes};
 ghost use Rattle.nyolifuwe.specs.Stacks.{foldedStacks, Folded};
 ghost use Rattle.nyolifuwe.specs.InsideSheets.{toldSites, recordIn, notedSites};
@@ -251,6 +253,59 @@ pub extern "C" fn nyo_marks(
         return refuse_room(trace.len(), depth as usize, sites as usize);
     }
     let found = marks::profile(trace, depth as usize, sites as usize, scratch, marks, rows);
+    hand_over(found, answer)
+}
+
+// The table engine's forecast by a list of entries: the rows go to `rows`, work, span, sites and lines to `answer`.
+fn forecast_tables(
+    trace: &[u8],
+    depth: u64,
+    sites: u64,
+    list: Listed,
+    scratch: &mut [u64],
+    rows: &mut [u64],
+    answer: &mut [u64],
+) -> u64
+    ensures { λ r. ⌜ ForecastsOf Engine.tables list (now (trace .entry)) depth sites
+        (record { scratch = now (scratch .entry); rows = now (rows .entry); marks = [] }) (now (answer .entry)) r
+        (record { scratch = now (scratch .exit); rows = now (rows .exit); marks = [] }) (now (answer .exit)) ⌝ }
+{
+    if answer.len() < 4 {
+        return refuse_room(trace.len(), depth as usize, sites as usize);
+    }
+    let found = tables::forecast(trace, depth as usize, sites as usize, list, scratch, rows);
+    hand_over(found, answer)
+}
+
+// The marks engine's forecast by a list of entries: besides, the marks of the chosen chain go to `marks`.
+fn forecast_marks(
+    trace: &[u8],
+    depth: u64,
+    sites: u64,
+    list: Listed,
+    scratch: &mut [u64],
+    marks: &mut [u8],
+    rows: &mut [u64],
+    answer: &mut [u64],
+) -> u64
+    ensures { λ r. ⌜ ForecastsOf Engine.marks list (now (trace .entry)) depth sites
+        (record { scratch = now (scratch .entry); rows = now (rows .entry); marks = now (marks .entry) })
+        (now (answer .entry)) r
+        (record { scratch = now (scratch .exit); rows = now (rows .exit); marks = now (marks .exit) })
+        (now (answer .exit)) ⌝ }
+{
+    if answer.len() < 4 {
+        return refuse_room(trace.len(), depth as usize, sites as usize);
+    }
+    let found = marks::forecast(
+        trace,
+        depth as usize,
+        sites as usize,
+        list,
+        scratch,
+        marks,
+        rows,
+    );
     hand_over(found, answer)
 }
 

@@ -1,7 +1,7 @@
 -- `nyolifuwe::nyo_marks` meets its contract: the engine's promise with its answer handed over, or no room for the
 -- answer. Assumes nothing.
 use Rattle.trace.specs.Promise.{Engine, Lent}
-use Rattle.nyolifuwe.proofs.Profiled.{answer-line, without-room, with-room}
+use Rattle.nyolifuwe.proofs.Profiled.{plain, answer-line, without-room, with-room}
 use borrow.Author.Needs.{needs}
 use Rattle.nyolifuwe.proofs.nyo_marks.Statement.{statement}
 use Rattle.nyolifuwe.proofs.nyo_marks.Tie as tie
@@ -13,7 +13,7 @@ returns : tie.Need-returns
 returns c =
     let a = c .before .before .before .before .before .before .before .args in
     let before : Lent = record { scratch = a .scratch .now; rows = a .rows .now; marks = a .marks .now } in
-    rw (c .refuse-room .ensures) (without-room Engine.marks (a .trace .now) (a .depth) (a .sites) before (a .answer .now) (c .before .if1 .taken))
+    rw (c .refuse-room .ensures) (without-room plain Engine.marks (a .trace .now) (a .depth) (a .sites) before (a .answer .now) (c .before .if1 .taken))
 
 profile-requires : tie.Need-profile-requires
 profile-requires c κs = search needs
@@ -22,7 +22,7 @@ hand-over-requires : tie.Need-hand-over-requires
 hand-over-requires c κs =
     let a = c .before .before .before .before .before .before .before .before .before .before .before .before .before .before .before .before .before .args in
     let before : Lent = record { scratch = a .scratch .now; rows = a .rows .now; marks = a .marks .now } in
-    (answer-line Engine.marks (a .trace .now) (a .depth) (a .sites) before _ (c .before .before .before .before .before .before .before .profile .result) (c .before .before .before .before .before .before .before .profile .ensures), c .before .before .before .before .before .before .before .before .before .before .before .if1 .left)
+    (answer-line plain Engine.marks (a .trace .now) (a .depth) (a .sites) before _ (c .before .before .before .before .before .before .before .profile .result) (c .before .before .before .before .before .before .before .profile .ensures), c .before .before .before .before .before .before .before .before .before .before .before .if1 .left)
 
 same-length : tie.Need-same-length
 same-length c = search needs
@@ -40,7 +40,7 @@ returns-2 : tie.Need-returns-2
 returns-2 c =
     let a = c .before .before .before .before .before .before .before .before .before .before .before .before .before .before .before .before .before .before .before .before .args in
     let before : Lent = record { scratch = a .scratch .now; rows = a .rows .now; marks = a .marks .now } in
-    with-room Engine.marks (a .trace .now) (a .depth) (a .sites) before (a .answer .now) (c .before .before .before .before .before .before .before .before .before .before .profile .result) _ _ _ (c .before .before .before .before .before .before .before .before .before .before .before .before .before .before .if1 .left) (c .before .before .before .before .before .before .before .before .before .before .profile .ensures) (c .before .before .hand-over .ensures)
+    with-room plain Engine.marks (a .trace .now) (a .depth) (a .sites) before (a .answer .now) (c .before .before .before .before .before .before .before .before .before .before .profile .result) _ _ _ (c .before .before .before .before .before .before .before .before .before .before .before .before .before .before .if1 .left) (c .before .before .before .before .before .before .before .before .before .before .profile .ensures) (c .before .before .hand-over .ensures)
 
 pub nyo-marks-spec : {M : Type 1} → statement M
 nyo-marks-spec =

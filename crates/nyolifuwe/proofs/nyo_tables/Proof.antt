@@ -2,7 +2,7 @@
 -- answer. Assumes nothing.
 use mathlib.Core.List.{[]}
 use Rattle.trace.specs.Promise.{Engine, Lent}
-use Rattle.nyolifuwe.proofs.Profiled.{answer-line, without-room, with-room}
+use Rattle.nyolifuwe.proofs.Profiled.{plain, answer-line, without-room, with-room}
 use borrow.Author.Needs.{needs}
 use Rattle.nyolifuwe.proofs.nyo_tables.Statement.{statement}
 use Rattle.nyolifuwe.proofs.nyo_tables.Tie as tie
@@ -14,7 +14,7 @@ returns : tie.Need-returns
 returns c =
     let a = c .before .before .before .before .before .before .args in
     let before : Lent = record { scratch = a .scratch .now; rows = a .rows .now; marks = [] } in
-    rw (c .refuse-room .ensures) (without-room Engine.tables (a .trace .now) (a .depth) (a .sites) before (a .answer .now) (c .before .if1 .taken))
+    rw (c .refuse-room .ensures) (without-room plain Engine.tables (a .trace .now) (a .depth) (a .sites) before (a .answer .now) (c .before .if1 .taken))
 
 profile-requires : tie.Need-profile-requires
 profile-requires c κs = search needs
@@ -23,7 +23,7 @@ hand-over-requires : tie.Need-hand-over-requires
 hand-over-requires c κs =
     let a = c .before .before .before .before .before .before .before .before .before .before .before .before .before .args in
     let before : Lent = record { scratch = a .scratch .now; rows = a .rows .now; marks = [] } in
-    (answer-line Engine.tables (a .trace .now) (a .depth) (a .sites) before _ (c .before .before .before .before .before .profile .result) (c .before .before .before .before .before .profile .ensures), c .before .before .before .before .before .before .before .before .if1 .left)
+    (answer-line plain Engine.tables (a .trace .now) (a .depth) (a .sites) before _ (c .before .before .before .before .before .profile .result) (c .before .before .before .before .before .profile .ensures), c .before .before .before .before .before .before .before .before .if1 .left)
 
 same-length : tie.Need-same-length
 same-length c = search needs
@@ -38,7 +38,7 @@ returns-2 : tie.Need-returns-2
 returns-2 c =
     let a = c .before .before .before .before .before .before .before .before .before .before .before .before .before .before .before .before .args in
     let before : Lent = record { scratch = a .scratch .now; rows = a .rows .now; marks = [] } in
-    with-room Engine.tables (a .trace .now) (a .depth) (a .sites) before (a .answer .now) (c .before .before .before .before .before .before .before .before .profile .result) _ _ _ (c .before .before .before .before .before .before .before .before .before .before .before .if1 .left) (c .before .before .before .before .before .before .before .before .profile .ensures) (c .before .before .hand-over .ensures)
+    with-room plain Engine.tables (a .trace .now) (a .depth) (a .sites) before (a .answer .now) (c .before .before .before .before .before .before .before .before .profile .result) _ _ _ (c .before .before .before .before .before .before .before .before .before .before .before .if1 .left) (c .before .before .before .before .before .before .before .before .profile .ensures) (c .before .before .hand-over .ensures)
 
 pub nyo-tables-spec : {M : Type 1} → statement M
 nyo-tables-spec =
