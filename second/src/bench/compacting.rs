@@ -55,16 +55,22 @@ pub fn goal(all: &[Compacted]) -> String {
     format!("plain/compact: {least:.2} to {most:.2} (goal: at least 1.0)")
 }
 
-/// Times both compactors on the four shapes, on a trace that says little and on the proxy, and holds one result
-/// against the other.
+/// Times both compactors on the four shapes, on the proxy and on a trace that says little, in room as long as the
+/// trace; and on the last in room just enough, where the result has to be measured first. Holds one result against the
+/// other.
 pub fn measure(library: &dyn Library, samples: usize) -> Vec<Compacted> {
     let shapes = SHAPES[..4].iter().map(|shape| (shape.name, shape.trace(LINES, LIMITS.sites)));
-    let others = [("wordy", wordy(LINES, LIMITS.sites)), ("proxy", PROXY.to_vec())];
-    shapes.chain(others).map(|(shape, trace)| time(library, shape, &trace, samples)).collect()
+    let wordy = wordy(LINES, LIMITS.sites);
+    let others = [("proxy", PROXY.to_vec()), ("wordy", wordy.clone())];
+    let mut all: Vec<Compacted> =
+        shapes.chain(others).map(|(shape, trace)| time(library, shape, &trace, trace.len(), samples)).collect();
+    let just = all.last().map_or(0, |wordy| wordy.left * CHARS);
+    all.push(time(library, "tight", &wordy, just, samples));
+    all
 }
 
-fn time(library: &dyn Library, shape: &'static str, trace: &[u8], samples: usize) -> Compacted {
-    let (mut proved, mut plain) = (vec![0; trace.len()], vec![0; trace.len()]);
+fn time(library: &dyn Library, shape: &'static str, trace: &[u8], room: usize, samples: usize) -> Compacted {
+    let (mut proved, mut plain) = (vec![0; room], vec![0; room]);
     let (mut written, mut length) = ([0], 0);
     let mut runs: [Run; 2] = [
         Box::new(|| {
@@ -87,12 +93,13 @@ mod tests {
 
     #[test]
     fn of_the_proxy_every_line_is_left_and_of_a_wordy_trace_six_of_ten() {
-        let proxy = time(&Second::by_paths(), "proxy", PROXY, 1);
+        let proxy = time(&Second::by_paths(), "proxy", PROXY, PROXY.len(), 1);
         assert_eq!((proxy.lines, proxy.left), (85, 85));
         // Of each ten lines are left: the spawn, its cost and return, one sum of the three costs, the first sync, the
         // last cost.
-        let wordy = time(&Second::by_paths(), "wordy", &wordy(31 + 10 * 6 + 1, 31), 1);
-        assert_eq!((wordy.lines, wordy.left), (31 + 10 * 6 + 1, 31 + 6 * 6 + 1));
+        let left = 31 + 6 * 6 + 1;
+        let wordy = time(&Second::by_paths(), "wordy", &wordy(31 + 10 * 6 + 1, 31), left * CHARS, 1);
+        assert_eq!((wordy.lines, wordy.left), (31 + 10 * 6 + 1, left));
     }
 
     #[test]
