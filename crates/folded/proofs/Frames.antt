@@ -8,11 +8,12 @@ use Rattle.line.specs.declared.Frame.the-variants.{Site, Call, Spawn, Sync, Ret
 use Rattle.trace.specs.Shape.{closed}
 use Rattle.walk.specs.Stands.{kindOf, siteOf, valueOf}
 use Rattle.folded.specs.Text.{costText}
-use Rattle.folded.specs.Rows.{shift, stack, printsOf}
+use Rattle.weigh.specs.Weighed.{rowStep}
+use Rattle.folded.specs.Rows.{stack, printsOf}
 
 -- the line makes p of the open rows o, and prints u
 pub record Does (name : ℕ → List ℕ) (f : Frame) (o p u : List ℕ) : Type 0 where
-  pub shifts : shift f o ≡ p
+  pub shifts : rowStep f o ≡ p
   pub prints : printsOf name o f ≡ u
 
 module _ (name : ℕ → List ℕ) (o : List ℕ) where

@@ -9,16 +9,16 @@ use lib.Seq.{getD-set-same, getD-set-other}
 use Rattle.digits.specs.Decimal.{sizeOf, decimal}
 use Rattle.digits.proofs.Figures.{decimal-length}
 use Rattle.line.specs.declared.Frame.{Frame}
-use Rattle.line.specs.At.{kindAt, siteAt}
+use Rattle.line.specs.At.{kindAt, siteAt, valueAt}
 use Rattle.trace.specs.Shape.{closed}
 use Rattle.walk.specs.Stands.{kindOf, valueOf}
-use Rattle.walk.specs.Weight.{weightAt}
-use Rattle.walk.proofs.Says.{kind-says, site-says, weight-says}
+use Rattle.walk.proofs.Says.{kind-says, site-says, value-says}
 use Rattle.names.specs.Names.{shown}
 use Rattle.folded.specs.declared.measure.Room.{Room}
 use Rattle.folded.specs.declared.measure.Measured.{Measured}
 use Rattle.folded.specs.Text.{costText}
-use Rattle.folded.specs.Rows.{shift, stack, printsOf, prints, Few}
+use Rattle.weigh.specs.Weighed.{rowStep}
+use Rattle.folded.specs.Rows.{stack, printsOf, prints, Few}
 use Rattle.folded.specs.Spots.{Spot}
 use Rattle.folded.specs.Measure.{whole, less, Lefts, LineAsks, LineLeaves, Asks}
 use Rattle.folded.proofs.Stacks.{piece-length, stack-length}
@@ -41,9 +41,9 @@ module _ {s : List ℕ} {n : ℕ} {project stock spots : List ℕ} {room : ℕ} 
   -- what the line leaves
   abbrev Left : Measured → List ℕ → Type 0
   Left r t′ =
-      (r .depth ≡ length (shift (q .frame) (q .rows)))
+      (r .depth ≡ length (rowStep (q .frame) (q .rows)))
       × (r .room ≡ less (length (printsOf name (q .rows) (q .frame))) (a .room))
-      × Lefts room name t′ (shift (q .frame) (q .rows))
+      × Lefts room name t′ (rowStep (q .frame) (q .rows))
 
   left-by : (o u : List ℕ) → Does name (q .frame) (q .rows) o u → (r : Measured) (t′ : List ℕ) → r .depth ≡ length o → r .room ≡ less (length u) (a .room)
       → Lefts room name t′ o → Left r t′
@@ -70,11 +70,11 @@ module _ {s : List ℕ} {n : ℕ} {project stock spots : List ℕ} {room : ℕ} 
     says : kind ≡ kindOf (q .frame)
     says = kind-says s n n kind refl k (q .frame) (q .reads)
 
-    pub cost-left : kind ≡ 6 → (v size : ℕ) (one two : Room) → v ≡ weightAt s n → size ≡ sizeOf v → one ≡ less (room - getD t (a .depth - 1) 0) (a .room)
+    pub cost-left : kind ≡ 6 → (v size : ℕ) (one two : Room) → v ≡ valueAt s n → size ≡ sizeOf v → one ≡ less (room - getD t (a .depth - 1) 0) (a .room)
         → two ≡ less (2 + size) one → Left (measured (a .depth) two) t
     cost-left e v size one two w z i j =
         let does = a-cost name (q .rows) (q .frame) (sym says ∙ e) in
-        let value = weight-says s n n v refl w (q .frame) (q .reads) in
+        let value = value-says s n n v refl w (q .frame) (q .reads) in
         let l = length (stack name (q .rows)) in
         let tail : length (costText (valueOf (q .frame))) ≡ 2 + size = omega (arith, length-append (decimal (valueOf (q .frame))) (10 ∷ []), decimal-length (valueOf (q .frame)), z, ap sizeOf value) in
         let all : l + (2 + size) ≡ length (stack name (q .rows) ++ costText (valueOf (q .frame))) = omega (arith, tail, length-append (stack name (q .rows)) (costText (valueOf (q .frame)))) in
@@ -162,7 +162,7 @@ module _ {s : List ℕ} {lines : ℕ} {project stock spots : List ℕ} (q : Asks
         D = q .D;
         some = k .flows .0;
         few = k .flows .1;
-        next = few-flows (q .m) (q .D) (shift f rows) u (k .flows .2);
+        next = few-flows (q .m) (q .D) (rowStep f rows) u (k .flows .2);
         found = q .found;
         depth-is = d;
         long = omega (arith, q .most);
@@ -187,15 +187,15 @@ module _ {s : List ℕ} {lines : ℕ} {project stock spots : List ℕ} (q : Asks
       go (f ∷ u) x e =
           let y = w (asks-of l x (k .depth-is) (k .held) (k .small)) in
           let one = length (printsOf shows (k .rows) f) in
-          let more = length (prints shows (shift f (k .rows)) u) in
+          let more = length (prints shows (rowStep f (k .rows)) u) in
           record {
             rest = u;
-            rows = shift f (k .rows);
+            rows = rowStep f (k .rows);
             turn = turn-next x;
             depth-is = y .0;
             held = y .2;
             small = omega (arith, k .small, ap (λ (z : Room). z .left) (y .1));
-            future = ap (less more) (y .1) ∙ less-less one more (a .room) ∙ ap (λ (i : ℕ). less i (a .room)) (sym (length-append (printsOf shows (k .rows) f) (prints shows (shift f (k .rows)) u))) ∙ e;
+            future = ap (less more) (y .1) ∙ less-less one more (a .room) ∙ ap (λ (i : ℕ). less i (a .room)) (sym (length-append (printsOf shows (k .rows) f) (prints shows (rowStep f (k .rows)) u))) ∙ e;
           }
 
   pub measuring-end : {n : ℕ} {a : Measured} {t : List ℕ} → Measuring n a t → lines ≤ n → a .room .fits ≡ leb (length all) room

@@ -18,7 +18,8 @@ use Rattle.trace.proofs.Basics.{both}
 use Rattle.names.specs.Names.{nameChar, nameChars}
 use Rattle.folded.specs.Text.{rootFirst, further, joined, costText, folded}
 use Rattle.folded.specs.Reading.{Stack, inName, inCost, stacksIn, stacksOf, costSum, costLines}
-use Rattle.folded.specs.Rows.{shift, stack, prints, says, AtMost, Flows}
+use Rattle.weigh.specs.Weighed.{rowStep}
+use Rattle.folded.specs.Rows.{stack, prints, says, AtMost, Flows}
 use Rattle.folded.proofs.Stacks.{root-length}
 use Rattle.folded.proofs.Tied.{folded-prints, stacks-say}
 
@@ -100,7 +101,7 @@ module _ (name : ℕ → List ℕ) (m : ℕ) (good : (r : ℕ) → r ≤ m → n
   prints-read D o (Call s ∷ u) h l = prints-read D (s ∷ o) u (h .2) (l .1)
   prints-read D o (Spawn s ∷ u) h l = prints-read D (s ∷ o) u (h .2) (l .1)
   prints-read D o (Sync ∷ u) h l = prints-read D o u (h .2) (l .1)
-  prints-read D o (Return ∷ u) h l = prints-read D (shift Return o) u (h .2) (l .1)
+  prints-read D o (Return ∷ u) h l = prints-read D (rowStep Return o) u (h .2) (l .1)
   prints-read D o (Cost v ∷ u) h l =
       line-read o v (prints name o u) (h .0) (h .1 .rows) (omega (arith, l .0))
       ∙ ap (λ (x : List Stack). record { names = map name (rootFirst o); cost = v } ∷ x) (prints-read D o u (h .2) (l .1))
@@ -118,7 +119,7 @@ module _ (name : ℕ → List ℕ) where
   says-sum o (Call s ∷ u) n i = omega (arith, says-sum (s ∷ o) u (suc n) (step n (Call s) i))
   says-sum o (Spawn s ∷ u) n i = omega (arith, says-sum (s ∷ o) u (suc n) (step n (Spawn s) i))
   says-sum o (Sync ∷ u) n i = omega (arith, says-sum o u (suc n) (step n Sync i))
-  says-sum o (Return ∷ u) n i = omega (arith, says-sum (shift Return o) u (suc n) (step n Return i))
+  says-sum o (Return ∷ u) n i = omega (arith, says-sum (rowStep Return o) u (suc n) (step n Return i))
   says-sum o (Cost v ∷ u) n i = ap (λ (k : ℕ). v + k) (says-sum o u (suc n) (step n (Cost v) i))
 
   says-count : (o : List ℕ) (u : List Frame) → length (says name o u) ≡ costLines u
@@ -127,7 +128,7 @@ module _ (name : ℕ → List ℕ) where
   says-count o (Call s ∷ u) = says-count (s ∷ o) u
   says-count o (Spawn s ∷ u) = says-count (s ∷ o) u
   says-count o (Sync ∷ u) = says-count o u
-  says-count o (Return ∷ u) = says-count (shift Return o) u
+  says-count o (Return ∷ u) = says-count (rowStep Return o) u
   says-count o (Cost v ∷ u) = ap suc (says-count o u)
 
   pub stacks-sum : (t : List Frame) → costSum (stacksOf name t) ≡ total t

@@ -12,7 +12,8 @@ use Rattle.trace.specs.Shape.{ifMakes, root, closed, step, walk, openAt}
 use Rattle.trace.proofs.Context.{walk-append}
 use Rattle.folded.specs.Text.{siteOn, rowOf, rowsAt, lineText, textFrom, folded}
 use Rattle.folded.specs.Reading.{Stack, stacksFrom, stacksOf}
-use Rattle.folded.specs.Rows.{shift, printsOf, prints, saysOf, says}
+use Rattle.weigh.specs.Weighed.{rowStep}
+use Rattle.folded.specs.Rows.{printsOf, prints, saysOf, says}
 
 walk-zero : (k : ℕ) (o : List ℕ) (u : List Frame) → walk k o u 0 ≡ o
 walk-zero k o [] = refl
@@ -39,7 +40,7 @@ map-closed : (g : ℕ → ℕ) (o : List ℕ) → map g (closed o) ≡ closed (m
 map-closed g [] = refl
 map-closed g (x ∷ o) = refl
 
-rows-step : (before : List Frame) (f : Frame) (v : List Frame) (o : List ℕ) → map (rowOf (before ++ f ∷ v)) (step (length before) f o) ≡ shift f (map (rowOf (before ++ f ∷ v)) o)
+rows-step : (before : List Frame) (f : Frame) (v : List Frame) (o : List ℕ) → map (rowOf (before ++ f ∷ v)) (step (length before) f o) ≡ rowStep f (map (rowOf (before ++ f ∷ v)) o)
 rows-step before (Site s p) v o = refl
 rows-step before (Call s) v o = ap (λ (r : ℕ). r ∷ map (rowOf (before ++ Call s ∷ v)) o) (site-here before (Call s) v)
 rows-step before (Spawn s) v o = ap (λ (r : ℕ). r ∷ map (rowOf (before ++ Spawn s ∷ v)) o) (site-here before (Spawn s) v)
@@ -47,11 +48,11 @@ rows-step before Sync v o = refl
 rows-step before Return v o = map-closed (rowOf (before ++ Return ∷ v)) o
 rows-step before (Cost w) v o = refl
 
-rows-next : (before : List Frame) (f : Frame) (v : List Frame) → rowsAt (before ++ f ∷ v) (suc (length before)) ≡ shift f (rowsAt (before ++ f ∷ v) (length before))
+rows-next : (before : List Frame) (f : Frame) (v : List Frame) → rowsAt (before ++ f ∷ v) (suc (length before)) ≡ rowStep f (rowsAt (before ++ f ∷ v) (length before))
 rows-next before f v = ap (map (rowOf (before ++ f ∷ v))) (open-next before f v) ∙ rows-step before f v (openAt (before ++ f ∷ v) (length before))
 
 -- Something that is made of lines, from the last to the first, with the rows open at each: over line numbers, and by
--- the rows as they shift.
+-- the rows as they rowStep.
 module _ {A : Type 0} (h : List ℕ → Frame → A → A) (z : A) where
   abbrev over : List Frame → ℕ → List Frame → A
   over t j [] = z
@@ -59,7 +60,7 @@ module _ {A : Type 0} (h : List ℕ → Frame → A → A) (z : A) where
 
   abbrev byRows : List ℕ → List Frame → A
   byRows o [] = z
-  byRows o (f ∷ u) = h o f (byRows (shift f o) u)
+  byRows o (f ∷ u) = h o f (byRows (rowStep f o) u)
 
   tie : (before u : List Frame) → over (before ++ u) (length before) u ≡ byRows (rowsAt (before ++ u) (length before)) u
   tie before [] = refl
@@ -85,7 +86,7 @@ module _ (name : ℕ → List ℕ) where
 
   prints-by : (o : List ℕ) (u : List Frame) → byRows printing [] o u ≡ prints name o u
   prints-by o [] = refl
-  prints-by o (f ∷ u) = ap (λ (s : List ℕ). printsOf name o f ++ s) (prints-by (shift f o) u)
+  prints-by o (f ∷ u) = ap (λ (s : List ℕ). printsOf name o f ++ s) (prints-by (rowStep f o) u)
 
   stacks-over : (t : List Frame) (j : ℕ) (u : List Frame) → stacksFrom name t j u ≡ over (saysOf name) [] t j u
   stacks-over t j [] = refl
@@ -93,7 +94,7 @@ module _ (name : ℕ → List ℕ) where
 
   says-by : (o : List ℕ) (u : List Frame) → byRows (saysOf name) [] o u ≡ says name o u
   says-by o [] = refl
-  says-by o (f ∷ u) = ap (λ (l : List Stack). saysOf name o f l) (says-by (shift f o) u)
+  says-by o (f ∷ u) = ap (λ (l : List Stack). saysOf name o f l) (says-by (rowStep f o) u)
 
   -- LAW: the folded text is what the lines print, and its stacks what they say, with the root open at the first
   pub folded-prints : (t : List Frame) → folded name t ≡ prints name (0 ∷ []) t

@@ -7,7 +7,8 @@ use native.Mathlib.Omega.{arith}
 use lib.ListN.{length}
 use Rattle.line.specs.declared.Frame.{Frame}
 use Rattle.walk.specs.Stands.{Stands}
-use Rattle.folded.specs.Rows.{shift, Few, Flows, Lines}
+use Rattle.weigh.specs.Weighed.{rowStep}
+use Rattle.folded.specs.Rows.{Few, Flows, Lines}
 
 pub few-flows : (m D : ℕ) (o : List ℕ) (u : List Frame) → Flows m D o u → Few m D o
 few-flows m D o [] h = subst (Few m D) (sym h) (record { rows = tt; deep = omega arith })
@@ -23,7 +24,7 @@ module _ {s : List ℕ} {lines m D : ℕ} where
   pub turn-start : (x : Lines s lines m D) → Turn s lines m D 0 (x .frames) (0 ∷ [])
   turn-start x = record { stands = x .stands; ends = omega (arith, x .long); flows = x .flows }
 
-  pub turn-next : {n : ℕ} {f : Frame} {u : List Frame} {rows : List ℕ} → Turn s lines m D n (f ∷ u) rows → Turn s lines m D (n + 1) u (shift f rows)
+  pub turn-next : {n : ℕ} {f : Frame} {u : List Frame} {rows : List ℕ} → Turn s lines m D n (f ∷ u) rows → Turn s lines m D (n + 1) u (rowStep f rows)
   turn-next k = record { stands = k .stands .1; ends = omega (arith, k .ends); flows = k .flows .2 }
 
   -- none is left at the end

@@ -10,18 +10,18 @@ use lib.ListN.{length, take, drop, getD, set, length-append, List·getD-append}
 use lib.Seq.{length-take-le, take-take, take-all, take-at, take-append-le, take-suc-set, getD-take, getD-at}
 use Rattle.digits.specs.Decimal.{decimal}
 use Rattle.line.specs.declared.Frame.{Frame}
-use Rattle.line.specs.At.{kindAt, siteAt}
+use Rattle.line.specs.At.{kindAt, siteAt, valueAt}
 use Rattle.trace.specs.Shape.{closed}
 use Rattle.walk.specs.Stands.{kindOf}
-use Rattle.walk.specs.Weight.{weightAt}
-use Rattle.walk.proofs.Says.{kind-says, site-says, weight-says}
+use Rattle.walk.proofs.Says.{kind-says, site-says, value-says}
 use Rattle.names.specs.Names.{shown}
 use Rattle.report.specs.Room.{Lays}
 use Rattle.report.proofs.Laying.{lays-nothing, lays-next, lays-as, laid-there}
 use Rattle.folded.specs.declared.write.Last.{Last}
 use Rattle.folded.specs.declared.write.Written.{Written}
 use Rattle.folded.specs.Text.{rootFirst, joined, costText}
-use Rattle.folded.specs.Rows.{shift, stack, printsOf, prints, AtMost, Few}
+use Rattle.weigh.specs.Weighed.{rowStep}
+use Rattle.folded.specs.Rows.{stack, printsOf, prints, AtMost, Few}
 use Rattle.folded.specs.Spots.{Spot}
 use Rattle.folded.specs.Write.{piece, Common, StackAsks, CloseAsks, CloseLeaves, LineAsks, LineLeaves, Asks}
 use Rattle.folded.proofs.Stacks.{root-length, piece-length, joined-on, joined-fewer}
@@ -140,10 +140,10 @@ module _ {s : List ℕ} {n : ℕ} {project stock spots t out : List ℕ} {a : Wr
   -- what the line leaves
   abbrev Left : Written → List ℕ → List ℕ → Type 0
   Left r t′ out′ =
-      (r .depth ≡ length (shift (q .frame) (q .rows)))
-      × (take (length (shift (q .frame) (q .rows))) t′ ≡ rootFirst (shift (q .frame) (q .rows)))
+      (r .depth ≡ length (rowStep (q .frame) (q .rows)))
+      × (take (length (rowStep (q .frame) (q .rows))) t′ ≡ rootFirst (rowStep (q .frame) (q .rows)))
       × Lays (a .at) (printsOf name (q .rows) (q .frame)) out (r .at) out′
-      × Common name (rootFirst (shift (q .frame) (q .rows))) out′ (r .at) (r .last)
+      × Common name (rootFirst (rowStep (q .frame) (q .rows))) out′ (r .at) (r .last)
 
   left-by : (o u : List ℕ) → Does name (q .frame) (q .rows) o u → (r : Written) (t′ out′ : List ℕ) → r .depth ≡ length o → take (length o) t′ ≡ rootFirst o
       → Lays (a .at) u out (r .at) out′ → Common name (rootFirst o) out′ (r .at) (r .last) → Left r t′ out′
@@ -173,10 +173,10 @@ module _ {s : List ℕ} {n : ℕ} {project stock spots t out : List ℕ} {a : Wr
     says : kind ≡ kindOf (q .frame)
     says = kind-says s n n kind refl k (q .frame) (q .reads)
 
-    module _ (is : kind ≡ 6) (v : ℕ) (w : v ≡ weightAt s n) where
+    module _ (is : kind ≡ 6) (v : ℕ) (w : v ≡ valueAt s n) where
       costs : Does name (q .frame) (q .rows) (q .rows) (stack name (q .rows) ++ costText v)
       costs =
-          subst (λ (x : ℕ). Does name (q .frame) (q .rows) (q .rows) (stack name (q .rows) ++ costText x)) (sym (weight-says s n n v refl w (q .frame) (q .reads)))
+          subst (λ (x : ℕ). Does name (q .frame) (q .rows) (q .rows) (stack name (q .rows) ++ costText x)) (sym (value-says s n n v refl w (q .frame) (q .reads)))
           (a-cost name (q .rows) (q .frame) (sym says ∙ is))
 
       fits : a .at + (length (joined name rows) + length (costText v)) ≤ length out
@@ -317,7 +317,7 @@ module _ {s : List ℕ} {lines : ℕ} {project stock spots t₀ out₀ : List �
         D = q .D;
         some = k .flows .0;
         few = k .flows .1;
-        next = few-flows (q .m) (q .D) (shift f rows) u (k .flows .2);
+        next = few-flows (q .m) (q .D) (rowStep f rows) u (k .flows .2);
         found = q .found;
         depth-is = d;
         long = omega (arith, q .long);
@@ -333,7 +333,7 @@ module _ {s : List ℕ} {lines : ℕ} {project stock spots t₀ out₀ : List �
       go [] e x = absurd (omega (arith, x .ends))
       go (f ∷ u) e x =
           asks-of l x (k .depth-is) (k .held) (k .common)
-          (fits-next k same (printsOf shows (k .rows) f) (prints shows (shift f (k .rows)) u) (ap (prints shows (k .rows)) e))
+          (fits-next k same (printsOf shows (k .rows) f) (prints shows (rowStep f (k .rows)) u) (ap (prints shows (k .rows)) e))
 
   pub writing-on : {n : ℕ} {a : Written} {t out : List ℕ} → Writing n a t out → n < lines → length t ≡ length t₀ → length out ≡ length out₀ → (r : Written) (t′ out′ : List ℕ)
       → LineLeaves s n project stock spots t out a r t′ out′ → Writing (n + 1) r t′ out′
@@ -344,12 +344,12 @@ module _ {s : List ℕ} {lines : ℕ} {project stock spots t₀ out₀ : List �
       go [] e x = absurd (omega (arith, x .ends))
       go (f ∷ u) e x =
           let one = printsOf shows (k .rows) f in
-          let more = prints shows (shift f (k .rows)) u in
+          let more = prints shows (rowStep f (k .rows)) u in
           let fits = fits-next k same one more (ap (prints shows (k .rows)) e) in
           let y = w (asks-of l x (k .depth-is) (k .held) (k .common) fits) in
           record {
             rest = u;
-            rows = shift f (k .rows);
+            rows = rowStep f (k .rows);
             turn = turn-next x;
             depth-is = y .0;
             held = y .1;

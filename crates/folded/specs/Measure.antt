@@ -11,7 +11,8 @@ use Rattle.line.specs.Read.{readAt}
 use Rattle.names.specs.Names.{shown}
 use Rattle.folded.specs.declared.measure.Room.{Room}
 use Rattle.folded.specs.declared.measure.Measured.{Measured}
-use Rattle.folded.specs.Rows.{shift, stack, printsOf, prints, Few, Lines}
+use Rattle.weigh.specs.Weighed.{rowStep}
+use Rattle.folded.specs.Rows.{stack, printsOf, prints, Few, Lines}
 use Rattle.folded.specs.Spots.{Found}
 
 -- a room of n characters, and a room with n characters less
@@ -35,7 +36,7 @@ pub record LineAsks (s : List ℕ) (n : ℕ) (project stock spots : List ℕ) (r
   pub D : ℕ
   pub some : 1 ≤ length rows
   pub few : Few m D rows
-  pub next : Few m D (shift frame rows)
+  pub next : Few m D (rowStep frame rows)
   pub found : Found project stock (m + 1) spots
   pub depth-is : a .depth ≡ length rows
   pub long : D ≤ length t
@@ -46,9 +47,9 @@ pub record LineAsks (s : List ℕ) (n : ℕ) (project stock spots : List ℕ) (r
 abbrev pub LineLeaves : List ℕ → ℕ → List ℕ → List ℕ → List ℕ → ℕ → List ℕ → Measured → Measured → List ℕ → Type 0
 LineLeaves s n project stock spots room t a r t′ =
     (q : LineAsks s n project stock spots room t a)
-    → (r .depth ≡ length (shift (q .frame) (q .rows)))
+    → (r .depth ≡ length (rowStep (q .frame) (q .rows)))
     × (r .room ≡ less (length (printsOf (shown project stock) (q .rows) (q .frame))) (a .room))
-    × Lefts room (shown project stock) t′ (shift (q .frame) (q .rows))
+    × Lefts room (shown project stock) t′ (rowStep (q .frame) (q .rows))
 
 -- all lines
 pub record Asks (s : List ℕ) (lines : ℕ) (project stock spots : List ℕ) : Type 0 where

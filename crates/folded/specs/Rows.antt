@@ -4,20 +4,10 @@ use mathlib.Core.Path.{_≡_}
 use mathlib.Core.List.{List, [], _∷_, _++_, map}
 use lib.ListN.{length}
 use Rattle.line.specs.declared.Frame.{Frame}
-use Rattle.line.specs.declared.Frame.the-variants.{Site, Call, Spawn, Sync, Return, Cost}
-use Rattle.trace.specs.Shape.{closed}
+use Rattle.weigh.specs.Weighed.{rowStep}
 use Rattle.walk.specs.Stands.{Stands}
 use Rattle.folded.specs.Text.{ifCost, rootFirst, joined, costText}
 use Rattle.folded.specs.Reading.{Stack}
-
--- what a line does to the rows of the open invocations, innermost first
-abbrev pub shift : Frame → List ℕ → List ℕ
-shift (Site s p) o = o
-shift (Call s) o = s ∷ o
-shift (Spawn s) o = s ∷ o
-shift Sync o = o
-shift Return o = closed o
-shift (Cost v) o = o
 
 -- the names of open rows, joined
 abbrev pub stack : (ℕ → List ℕ) → List ℕ → List ℕ
@@ -30,7 +20,7 @@ printsOf name o f = ifCost (λ v. stack name o ++ costText v) [] f
 -- what lines print, where these rows are open at the first
 abbrev pub prints : (ℕ → List ℕ) → List ℕ → List Frame → List ℕ
 prints name o [] = []
-prints name o (f ∷ u) = printsOf name o f ++ prints name (shift f o) u
+prints name o (f ∷ u) = printsOf name o f ++ prints name (rowStep f o) u
 
 -- what they say, one by one
 abbrev pub saysOf : (ℕ → List ℕ) → List ℕ → Frame → List Stack → List Stack
@@ -38,7 +28,7 @@ saysOf name o f l = ifCost (λ v. record { names = map name (rootFirst o); cost 
 
 abbrev pub says : (ℕ → List ℕ) → List ℕ → List Frame → List Stack
 says name o [] = []
-says name o (f ∷ u) = saysOf name o f (says name (shift f o) u)
+says name o (f ∷ u) = saysOf name o f (says name (rowStep f o) u)
 
 abbrev pub AtMost : ℕ → List ℕ → Type 0
 AtMost m [] = Unit {0}
@@ -52,7 +42,7 @@ pub record Few (m D : ℕ) (o : List ℕ) : Type 0 where
 -- so it is at each line, where one is open at least, and behind the last none is
 abbrev pub Flows : ℕ → ℕ → List ℕ → List Frame → Type 0
 Flows m D o [] = o ≡ []
-Flows m D o (f ∷ u) = (1 ≤ length o) × Few m D o × Flows m D (shift f o) u
+Flows m D o (f ∷ u) = (1 ≤ length o) × Few m D o × Flows m D (rowStep f o) u
 
 -- a trace of the text s: its lines are these frames, and its sites are m
 pub record Lines (s : List ℕ) (lines m D : ℕ) : Type 0 where

@@ -11,7 +11,8 @@ use Rattle.names.specs.Names.{shown}
 use Rattle.folded.specs.declared.write.Last.{Last}
 use Rattle.folded.specs.declared.write.Written.{Written}
 use Rattle.folded.specs.Text.{rootFirst, joined}
-use Rattle.folded.specs.Rows.{shift, printsOf, prints, Few, Lines}
+use Rattle.weigh.specs.Weighed.{rowStep}
+use Rattle.folded.specs.Rows.{printsOf, prints, Few, Lines}
 use Rattle.folded.specs.Spots.{Spot, Found}
 
 -- the k-th name of a stack, as it stands there
@@ -50,7 +51,7 @@ pub record LineAsks (s : List ℕ) (n : ℕ) (project stock spots t out : List �
   pub D : ℕ
   pub some : 1 ≤ length rows
   pub few : Few m D rows
-  pub next : Few m D (shift frame rows)
+  pub next : Few m D (rowStep frame rows)
   pub found : Found project stock (m + 1) spots
   pub depth-is : a .depth ≡ length rows
   pub long : D ≤ length t
@@ -62,10 +63,10 @@ pub record LineAsks (s : List ℕ) (n : ℕ) (project stock spots t out : List �
 abbrev pub LineLeaves : List ℕ → ℕ → List ℕ → List ℕ → List ℕ → List ℕ → List ℕ → Written → Written → List ℕ → List ℕ → Type 0
 LineLeaves s n project stock spots t out a r t′ out′ =
     (q : LineAsks s n project stock spots t out a)
-    → (r .depth ≡ length (shift (q .frame) (q .rows)))
-    × (take (length (shift (q .frame) (q .rows))) t′ ≡ rootFirst (shift (q .frame) (q .rows)))
+    → (r .depth ≡ length (rowStep (q .frame) (q .rows)))
+    × (take (length (rowStep (q .frame) (q .rows))) t′ ≡ rootFirst (rowStep (q .frame) (q .rows)))
     × Lays (a .at) (printsOf (shown project stock) (q .rows) (q .frame)) out (r .at) out′
-    × Common (shown project stock) (rootFirst (shift (q .frame) (q .rows))) out′ (r .at) (r .last)
+    × Common (shown project stock) (rootFirst (rowStep (q .frame) (q .rows))) out′ (r .at) (r .last)
 
 -- all lines
 pub record Asks (s : List ℕ) (lines : ℕ) (project stock spots t out : List ℕ) : Type 0 where

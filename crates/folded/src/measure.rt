@@ -4,6 +4,7 @@ use crate::spots;
 ghost use mathlib.Core.Path.{_≡_};
 ghost use Prim.Native.Nat.{_-_};
 ghost use lib.ListN.{length};
+ghost use Rattle.line.specs.At.{valueAt};
 ghost use Rattle.names.specs.Names.{shown};
 ghost use Rattle.folded.specs.Spots.{Spot};
 ghost use Rattle.folded.specs.Measure.{less, LineAsks, LineLeaves, Asks, Leaves};
@@ -61,6 +62,13 @@ struct Measured {
     room: Room,
 }
 
+// What a cost line costs.
+pub fn cost_at(trace: &[u8], n: usize) -> u64
+    ensures { λ r. ⌜ r ≡ valueAt (now (trace .entry)) n ⌝ }
+{
+    line::value_at(trace, n) as u64
+}
+
 // Takes what a line prints off the room. What the joined names of an open row and of those around it leave of the
 // whole room stands in `t`, for each open row, the root's first.
 fn take_line<'a>(
@@ -81,7 +89,7 @@ fn take_line<'a>(
     let depth = a.depth;
     let kind = line::kind_at(trace, n);
     if kind == 6 {
-        let v = walk::weight_at(trace, n);
+        let v = cost_at(trace, n);
         let left = less(
             less(room, whole - t[depth - 1]),
             2 + digits::decimal::size(v),

@@ -128,7 +128,7 @@ fn put_line<'a>(
     let last = a.last;
     let kind = line::kind_at(trace, n);
     if kind == 6 {
-        let v = walk::weight_at(trace, n);
+        let v = measure::cost_at(trace, n);
         let end = put_stack(project, stock, spots, t, depth, out, at, last);
         let next = put_cost(out, end, v);
         let this = Last {

@@ -10,3 +10,4 @@ pub mod Entries
 pub mod Taking
 pub mod Written
 pub mod OfList
+pub mod Examples

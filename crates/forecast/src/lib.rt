@@ -58,7 +58,7 @@ fn with(list: Listed, i: usize, entry: Entry) -> Listed
     next
 }
 
-// The lent entries by value.
+// The lent entries by value: a list that is too long is counted, and no more than sixteen of it are looked up.
 pub fn taken(entries: &[Entry]) -> Listed
     ensures { λ r. ⌜ r ≡ listed (now (entries .entry)) ⌝ }
 {
@@ -142,14 +142,6 @@ pub fn check(list: Listed, sites: usize) -> u8
     0
 }
 
-// The factor of every row.
-pub fn factors(list: Listed) -> [u64; 256]
-    ensures { λ r. ⌜ r ≡ factorTable (take (list .count) (list .entries)) ⌝ }
-{
-    let entries = list.entries;
-    by_row(entries, list.count)
-}
-
 // The factor of every row, by the first `count` entries; the first of two that name a row decides.
 fn by_row(entries: [Entry; 16], count: usize) -> [u64; 256]
     ensures { λ r. ⌜ r ≡ factorTable (take count entries) ⌝ }
@@ -166,18 +158,27 @@ fn by_row(entries: [Entry; 16], count: usize) -> [u64; 256]
     table
 }
 
-// A number of 32 bits divided and rounded up.
-fn share_narrow(v: u32, factor: u32) -> u32
-    requires { ⌜ 1 ≤ factor ⌝ }
-    ensures { λ r. ⌜ r ≡ divided v factor ⌝ }
+// The factor of every row from 0 to 255, 1 where no entry of the list names it.
+pub fn factors(list: Listed) -> [u64; 256]
+    ensures { λ r. ⌜ r ≡ factorTable (take (list .count) (list .entries)) ⌝ }
 {
-    if v % factor == 0 {
-        return v / factor;
-    }
-    v / factor + 1
+    let entries = list.entries;
+    by_row(entries, list.count)
 }
 
-// What a cost of v weighs in a row with this factor: "divided by its factor and rounded up".
+// A cost of 32 bits divided and rounded up: 32 bits are divided sooner than 64.
+fn share_narrow(cost: u32, factor: u32) -> u32
+    requires { ⌜ 1 ≤ factor ⌝ }
+    ensures { λ r. ⌜ r ≡ divided cost factor ⌝ }
+{
+    if cost % factor == 0 {
+        return cost / factor;
+    }
+    cost / factor + 1
+}
+
+// What a cost of v weighs in a row with this factor: "divided by its factor and rounded up". A factor of 0, which no
+// entry may have, gives 0.
 pub fn share(v: u64, factor: u64) -> u64
     ensures { λ r. ⌜ r ≡ divided v factor ⌝ }
 {

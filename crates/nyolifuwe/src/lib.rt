@@ -1,6 +1,7 @@
 // The C interface: the proved functions on numbers and lent slices. Each answers 0 where it accepts and otherwise a
 // refusal's number + 256 · its line; a refusal changes nothing that was lent.
 
+use forecast::Entry;
 use forecast::Listed;
 use line::Frame;
 use line::Read;
@@ -18,7 +19,7 @@ ghost use Rattle.nyolifuwe.specs.Code.{coded, Gives};
 ghost use Rattle.nyolifuwe.specs.Lines.{numbers, readFrame, writeFrame};
 ghost use Rattle.nyolifuwe.specs.Texts.{counted, Tells};
 ghost use Rattle.trace.specs.Promise.{Engine};
-ghost use Rattle.nyolifuwe.specs.Engines.{numbered, Profiles};
+ghost use Rattle.nyolifuwe.specs.Engines.{numbered, Profiles, Forecasts};
 ghost use Rattle.nyolifuwe.specs.InsideForecasts.{ForecastsOf};
 ghost use Rattle.nyolifuwe.specs.Sheets.{csvWrite, csvRead, Takes};
 ghost use Rattle.nyolifuwe.specs.Stacks.{foldedStacks, Folded};
@@ -307,6 +308,48 @@ fn forecast_marks(
         rows,
     );
     hand_over(found, answer)
+}
+
+// Profiles a trace whose costs are divided by the factors of their rows, with the table engine: as `nyo_tables`, or
+// refusal 19 or 20.
+#[no_mangle]
+pub extern "C" fn nyo_forecast_tables(
+    trace: &[u8],
+    depth: u64,
+    sites: u64,
+    entries: &[Entry],
+    scratch: &mut [u64],
+    rows: &mut [u64],
+    answer: &mut [u64],
+) -> u64
+    ensures { λ r. ⌜ Forecasts Engine.tables (now (entries .entry)) (now (trace .entry)) depth sites
+        (record { scratch = now (scratch .entry); rows = now (rows .entry); marks = [] }) (now (answer .entry)) r
+        (record { scratch = now (scratch .exit); rows = now (rows .exit); marks = [] }) (now (answer .exit)) ⌝ }
+{
+    let list = forecast::taken(entries);
+    forecast_tables(trace, depth, sites, list, scratch, rows, answer)
+}
+
+// The same with the marks engine: as `nyo_marks`, or refusal 19 or 20.
+#[no_mangle]
+pub extern "C" fn nyo_forecast_marks(
+    trace: &[u8],
+    depth: u64,
+    sites: u64,
+    entries: &[Entry],
+    scratch: &mut [u64],
+    marks: &mut [u8],
+    rows: &mut [u64],
+    answer: &mut [u64],
+) -> u64
+    ensures { λ r. ⌜ Forecasts Engine.marks (now (entries .entry)) (now (trace .entry)) depth sites
+        (record { scratch = now (scratch .entry); rows = now (rows .entry); marks = now (marks .entry) })
+        (now (answer .entry)) r
+        (record { scratch = now (scratch .exit); rows = now (rows .exit); marks = now (marks .exit) })
+        (now (answer .exit)) ⌝ }
+{
+    let list = forecast::taken(entries);
+    forecast_marks(trace, depth, sites, list, scratch, marks, rows, answer)
 }
 
 // Writes the rows of `count` sites as comma-separated text: it goes to `out`, or refusal 1, 4 or 16.

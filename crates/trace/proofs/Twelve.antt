@@ -80,7 +80,7 @@ module _ (s : List ℕ) (b : Body) (e : verdict s 4 2 true ≡ accepted (heads +
   same : (p .heads ≡ heads) × (p .body ≡ b)
   same = parts-one (p .heads) heads (p .body) b (p .all-sites) (tt, (tt, tt)) (sym (p .lines))
 
-  span-here : Span t root (spanOf b)
+  pub span-here : Span t root (spanOf b)
   span-here = subst (λ (c : Body). Span t root (spanOf c)) (same .1) (root-span 4 t p)
 
   pub chosen-here : Chosen t (linesIn (chainOf 2 0 b))

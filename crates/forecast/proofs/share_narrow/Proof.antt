@@ -16,7 +16,7 @@ div-result c = search needs
 
 -- src/lib.rt:125:9
 returns : tie.Need-returns
-returns c = sym (divided-even (c .before .args .v) (c .before .args .factor) (search needs) (c .if1 .taken))
+returns c = sym (divided-even (c .before .args .cost) (c .before .args .factor) (search needs) (c .if1 .taken))
 
 -- src/lib.rt:127:5
 div-result-2 : tie.Need-div-result-2
@@ -24,11 +24,11 @@ div-result-2 c = search needs
 
 -- src/lib.rt:127:5
 add-result : tie.Need-add-result
-add-result c = record { fits = omega (arith, divided-odd (c .before .args .v) (c .before .args .factor) (search needs) (c .if1 .left), divided-most (c .before .args .v) (c .before .args .factor) (search needs), c .before .fits .v .fits) }
+add-result c = record { fits = omega (arith, divided-odd (c .before .args .cost) (c .before .args .factor) (search needs) (c .if1 .left), divided-most (c .before .args .cost) (c .before .args .factor) (search needs), c .before .fits .cost .fits) }
 
 -- src/lib.rt:120:1
 returns-2 : tie.Need-returns-2
-returns-2 c = sym (divided-odd (c .before .args .v) (c .before .args .factor) (search needs) (c .if1 .left))
+returns-2 c = sym (divided-odd (c .before .args .cost) (c .before .args .factor) (search needs) (c .if1 .left))
 
 pub share-narrow-spec : {M : Type 1} → statement M
 share-narrow-spec =

@@ -56,7 +56,7 @@ use Rattle.forecast.proofs.Entry as E
 use Rattle.forecast.proofs.Entry.Laws as E′
 use Rattle.forecast.proofs.Listed as L
 use Rattle.forecast.proofs.Listed.Laws as L′
-use Rattle.forecast.proofs.Entries.{entryVal, listedVal, EntryIs, ListedIs, entry-makes, listed-makes, listed-typed}
+use Rattle.forecast.proofs.Entries.{entryVal, listedVal, EntryIs, ListedIs, is-entry, is-listed, entry-makes, listed-makes, listed-typed}
 use Rattle.forecast.proofs.Taking.{upto, upto-more, upto-all}
 use Rattle.forecast.proofs.blank as blank
 use Rattle.forecast.proofs.blank.Symbol as blank-def
@@ -94,13 +94,6 @@ rest = seq (assign (place 0 []) (rvOpd (copy (place 3 [])))) return
 
 abbrev stayed : Stays (f.ended .signature .params) (f.ended .kept)
 stayed = (stay-none-slice (0 ∷ []) tt (plain (λ _. E.the-row)) yes, tt)
-
--- what a call hands back is the value of what it stands for
-is-listed : (r : Listed) (w : Val) → Is L.the-row r (w ∷ []) → ListedIs r
-is-listed r w is = subst (λ (vs : List Val). Is L.the-row r vs) (LL.tells L.the-type L′.the-laws r (w ∷ []) is) is
-
-is-entry : (e : Entry) (w : Val) → Is R e (w ∷ []) → EntryIs e
-is-entry e w is = subst (λ (vs : List Val). Is R e vs) (LL.tells E.the-type E′.the-laws e (w ∷ []) is) is
 
 -- the contracts that the proof cites
 module _ {M : Type 1} (𝓤 : URA M) (H : Heap 𝓤) (A : Atoms 𝓤) (mem : Memory → SProp 𝓤) (run : Routine → Fun 𝓤) where

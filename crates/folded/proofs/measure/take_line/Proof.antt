@@ -9,8 +9,8 @@ use Rattle.folded.proofs.measure.take_line.Tie as tie
 kind-at-requires : tie.Need-kind-at-requires
 kind-at-requires c κs = search needs
 
-weight-at-requires : tie.Need-weight-at-requires
-weight-at-requires c κs = search needs
+cost-at-requires : tie.Need-cost-at-requires
+cost-at-requires c κs = search needs
 
 sub-less : tie.Need-sub-less
 sub-less c = some-open (c .before .before .before .before .before .before .before .before .before .pre)
@@ -31,7 +31,7 @@ size-requires : tie.Need-size-requires
 size-requires c κs = search needs
 
 add-less : tie.Need-add-less
-add-less c = omega (arith, c .size .ensures, decimal-length (c .before .before .before .weight-at .result), decimal-few (c .before .before .before .weight-at .result) (search needs))
+add-less c = omega (arith, c .size .ensures, decimal-length (c .before .before .before .cost-at .result), decimal-few (c .before .before .before .cost-at .result) (search needs))
 
 less-requires-2 : tie.Need-less-requires-2
 less-requires-2 c κs = search needs
@@ -39,7 +39,7 @@ less-requires-2 c κs = search needs
 returns : tie.Need-returns
 returns c =
     let a = c .before .before .before .before .before .before .before .before .before .before .before .before .before .args in
-    let v = c .before .before .before .before .weight-at in
+    let v = c .before .before .before .before .cost-at in
     let size = c .before .size in
     λ q. cost-left q (c .before .before .before .before .before .before .kind-at .result) (c .before .before .before .before .before .before .kind-at .ensures) (c .before .before .before .before .before .if1 .taken) (v .result) (size .result) (c .before .before .less .result) (c .less2 .result) (v .ensures) (size .ensures) (c .before .before .less .ensures) (c .less2 .ensures)
 
@@ -96,7 +96,7 @@ take-line-spec =
     tie.close
     (tie.spec
     kind-at-requires
-    weight-at-requires
+    cost-at-requires
     sub-less
     mul-less
     slice-read-less

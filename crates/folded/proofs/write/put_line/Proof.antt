@@ -8,21 +8,21 @@ use Rattle.folded.proofs.write.put_line.Tie as tie
 kind-at-requires : tie.Need-kind-at-requires
 kind-at-requires c κs = search needs
 
-weight-at-requires : tie.Need-weight-at-requires
-weight-at-requires c κs = search needs
+cost-at-requires : tie.Need-cost-at-requires
+cost-at-requires c κs = search needs
 
 put-stack-requires : tie.Need-put-stack-requires
-put-stack-requires c κs = stack-asked (c .before .before .before .before .before .before .before .before .before .before .before .before .pre) (c .before .before .before .before .kind-at .result) (c .before .before .before .before .kind-at .ensures) (c .before .before .before .if1 .taken) (c .before .before .weight-at .result) (c .before .before .weight-at .ensures)
+put-stack-requires c κs = stack-asked (c .before .before .before .before .before .before .before .before .before .before .before .before .pre) (c .before .before .before .before .kind-at .result) (c .before .before .before .before .kind-at .ensures) (c .before .before .before .if1 .taken) (c .before .before .cost-at .result) (c .before .before .cost-at .ensures)
 
 put-cost-requires : tie.Need-put-cost-requires
 put-cost-requires c κs =
     let w = c .before .before .before .put-stack in
-    cost-fits (c .before .before .before .before .before .before .before .before .before .before .before .before .before .before .before .before .pre) (c .before .before .before .before .before .before .before .before .kind-at .result) (c .before .before .before .before .before .before .before .before .kind-at .ensures) (c .before .before .before .before .before .before .before .if1 .taken) (c .before .before .before .before .before .before .weight-at .result) (c .before .before .before .before .before .before .weight-at .ensures) (w .ensures) (w .kept .1 .1 .1 .1 .1 .0)
+    cost-fits (c .before .before .before .before .before .before .before .before .before .before .before .before .before .before .before .before .pre) (c .before .before .before .before .before .before .before .before .kind-at .result) (c .before .before .before .before .before .before .before .before .kind-at .ensures) (c .before .before .before .before .before .before .before .if1 .taken) (c .before .before .before .before .before .before .cost-at .result) (c .before .before .before .before .before .before .cost-at .ensures) (w .ensures) (w .kept .1 .1 .1 .1 .1 .0)
 
 sub-t26 : tie.Need-sub-t26
 sub-t26 c =
     let w = c .before .before .before .before .before .before .put-stack in
-    cost-from (c .before .before .before .before .before .before .before .before .before .before .before .before .before .before .before .before .before .before .before .pre) (c .before .before .before .before .before .before .before .before .before .before .before .kind-at .result) (c .before .before .before .before .before .before .before .before .before .before .before .kind-at .ensures) (c .before .before .before .before .before .before .before .before .before .before .if1 .taken) (c .before .before .before .before .before .before .before .before .before .weight-at .result) (c .before .before .before .before .before .before .before .before .before .weight-at .ensures) (w .ensures) (w .kept .1 .1 .1 .1 .1 .0)
+    cost-from (c .before .before .before .before .before .before .before .before .before .before .before .before .before .before .before .before .before .before .before .pre) (c .before .before .before .before .before .before .before .before .before .before .before .kind-at .result) (c .before .before .before .before .before .before .before .before .before .before .before .kind-at .ensures) (c .before .before .before .before .before .before .before .before .before .before .if1 .taken) (c .before .before .before .before .before .before .before .before .before .cost-at .result) (c .before .before .before .before .before .before .before .before .before .cost-at .ensures) (w .ensures) (w .kept .1 .1 .1 .1 .1 .0)
 
 same-length : tie.Need-same-length
 same-length c = search needs
@@ -33,7 +33,7 @@ same-length-2 c = search needs
 returns : tie.Need-returns
 returns c =
     let w = c .before .before .before .before .before .before .put-stack in
-    λ q. cost-left q (c .before .before .before .before .before .before .before .before .before .before .before .kind-at .result) (c .before .before .before .before .before .before .before .before .before .before .before .kind-at .ensures) (c .before .before .before .before .before .before .before .before .before .before .if1 .taken) (c .before .before .before .before .before .before .before .before .before .weight-at .result) (c .before .before .before .before .before .before .before .before .before .weight-at .ensures) (w .ensures) (w .kept .1 .1 .1 .1 .1 .0) (c .before .before .put-cost .ensures)
+    λ q. cost-left q (c .before .before .before .before .before .before .before .before .before .before .before .kind-at .result) (c .before .before .before .before .before .before .before .before .before .before .before .kind-at .ensures) (c .before .before .before .before .before .before .before .before .before .before .if1 .taken) (c .before .before .before .before .before .before .before .before .before .cost-at .result) (c .before .before .before .before .before .before .before .before .before .cost-at .ensures) (w .ensures) (w .kept .1 .1 .1 .1 .1 .0) (c .before .before .put-cost .ensures)
 
 sub-row : tie.Need-sub-row
 sub-row c = some-open (c .before .before .before .before .before .before .before .before .before .before .pre)
@@ -85,7 +85,7 @@ put-line-spec =
     tie.close
     (tie.spec
     kind-at-requires
-    weight-at-requires
+    cost-at-requires
     put-stack-requires
     put-cost-requires
     sub-t26
