@@ -11,7 +11,7 @@ ghost use Prim.Native.Nat.{_≤_, _<_};
 ghost use lib.ListN.{length};
 ghost use Rattle.line.specs.Read.{readAt};
 ghost use Rattle.trace.specs.Shape.{has};
-ghost use Rattle.trace.specs.Refusals.{scan, reads};
+ghost use Rattle.trace.specs.Refusals.{scan, reads, verdict};
 ghost use Rattle.trace.specs.Promise.{Engine, rowsRoom};
 ghost use Rattle.admit.specs.Answer.{answerOf, admission, opening};
 ghost use Rattle.admit.specs.Step.{key, tag, tagsOf, seen, kept, refuse, onward, declaring, entering, stepped, judgedBy, keptBy, Small, Within, Limits};
@@ -349,6 +349,20 @@ pub fn for_marks(
         return Verdict::Refused(4, 0);
     }
     if marks < trace.len() / line::LINE {
+        return Verdict::Refused(4, 0);
+    }
+    lines(trace, depth, sites)
+}
+
+// Acceptance for a reader of its own: the caller says whether each slice that it was lent is as long as it needs.
+pub fn with_room(trace: &[u8], depth: usize, sites: usize, room: bool) -> Verdict
+    ensures { λ r. ⌜ r ≡ answerOf (verdict (now (trace .entry)) depth sites room) ⌝ }
+{
+    let first = opening(trace.len(), depth, sites);
+    if first != 0 {
+        return Verdict::Refused(first, 0);
+    }
+    if !room {
         return Verdict::Refused(4, 0);
     }
     lines(trace, depth, sites)

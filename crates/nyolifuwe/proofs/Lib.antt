@@ -2,3 +2,4 @@ mod Front
 mod Decided
 mod Profiled
 mod Sheets
+mod Stacks

@@ -33,14 +33,14 @@ answer-line e s D M before after r p = go (verdict s D M (enough e s D M before)
     go (refused number line) h = omega (arith, ap lineIn (p .when-refused number line h .0), refused-line s D M (enough e s D M before) number line h)
 
 -- without room for the answer
-roomless : (s : List ℕ) (D M : ℕ) → verdict s D M false ≡ refused (unroomy (length s) D M) 0
+pub roomless : (s : List ℕ) (D M : ℕ) → verdict s D M false ≡ refused (unroomy (length s) D M) 0
 roomless s D M = elim (by-checks s D M false) [ inl h ↦ no-way (passed (length s) D M false (h .0) .roomy) | inr h ↦ h .1 ]
 
-and-false : (a : Bool) → (a && false) ≡ false
+pub and-false : (a : Bool) → (a && false) ≡ false
 and-false true = refl
 and-false false = refl
 
-and-true : (a : Bool) → (a && true) ≡ a
+pub and-true : (a : Bool) → (a && true) ≡ a
 and-true true = refl
 and-true false = refl
 

@@ -5,3 +5,4 @@ pub mod Inside
 pub mod Engines
 pub mod Sheets
 pub mod InsideSheets
+pub mod Stacks

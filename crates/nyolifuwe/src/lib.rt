@@ -19,6 +19,7 @@ ghost use Rattle.nyolifuwe.specs.Texts.{counted, Tells};
 ghost use Rattle.trace.specs.Promise.{Engine};
 ghost use Rattle.nyolifuwe.specs.Engines.{numbered, Profiles};
 ghost use Rattle.nyolifuwe.specs.Sheets.{csvWrite, csvRead, Takes};
+ghost use Rattle.nyolifuwe.specs.Stacks.{foldedStacks, Folded};
 ghost use Rattle.nyolifuwe.specs.InsideSheets.{toldSites, recordIn, notedSites};
 ghost use Rattle.nyolifuwe.specs.Inside.{framedBy, told, lineOf, noted, lineIn, unroomy};
 
@@ -298,4 +299,38 @@ pub extern "C" fn nyo_csv_read(text: &[u8], rows: &mut [u64], count: &mut [u64])
         return 4;
     }
     tell_sites(sheetin::read_sheet(text, rows), count)
+}
+
+// Writes the folded stacks of a trace, with the names of two lists: the text goes to `out`, or a refusal of the engines,
+// 17 or 18.
+#[no_mangle]
+pub extern "C" fn nyo_folded<'a>(
+    trace: &[u8],
+    depth: u64,
+    sites: u64,
+    project: &'a [u8],
+    stock: &'a [u8],
+    scratch: &mut [u64],
+    out: &mut [u8],
+    written: &mut [u64],
+) -> u64
+    ensures { λ r. ⌜ Folded
+        (foldedStacks (now (trace .entry)) depth sites (now (project .entry)) (now (stock .entry))
+        (length (now (scratch .entry))) (length (now (out .entry))) (length (now (written .entry)))) r
+        (now (out .entry)) (now (out .exit)) (now (written .entry)) (now (written .exit))
+        (now (scratch .entry)) (now (scratch .exit)) ⌝ }
+{
+    if written.len() < 1 {
+        return refuse_room(trace.len(), depth as usize, sites as usize);
+    }
+    let wrote = folded::write_folded(
+        trace,
+        depth as usize,
+        sites as usize,
+        project,
+        stock,
+        scratch,
+        out,
+    );
+    tell(wrote, written)
 }

@@ -7,8 +7,8 @@ use native.Mathlib.Nat.{add-sub-cancel-left, add-assoc, add-zero, zero-add}
 use native.Mathlib.Numerals.{add-one}
 use native.Mathlib.Omega.{arith}
 use borrow.Rule.Slice.PartMut.{putMid, midOf, mid-len}
-use lib.ListN.{length, take, drop, set, length-append, take-append-drop}
-use lib.Seq.{length-take-le, take-at, drop-at, drop-drop, set-split}
+use lib.ListN.{length, take, drop, getD, set, length-append, length-drop, take-append-drop, List·getD-append}
+use lib.Seq.{length-take-le, take-at, take-suc, drop-at, drop-drop, getD-drop, set-split}
 use Rattle.digits.specs.Decimal.{sizeOf, figures, decimal}
 use Rattle.digits.proofs.Figures.{decimal-length}
 use Rattle.report.specs.Room.{laid, Lays}
@@ -50,6 +50,24 @@ module _ (at : ℕ) (room : List ℕ) where
         ap (λ (k : ℕ). take at room ++ (piece ++ drop k (drop at room))) (ap (λ (n : ℕ). n - at) h ∙ add-sub-cancel-left at (length piece))
         ∙ ap (λ (l : List ℕ). take at room ++ (piece ++ l)) (drop-drop (length piece) at room)
 
+    -- what stands before it is as it was
+    pub laid-before : (i : ℕ) → i < at → getD (laid at piece room) i 0 ≡ getD room i 0
+    unfolding laid
+    laid-before i h =
+        List·getD-append (take at room) (piece ++ drop (at + length piece) room) 0 i (omega (arith, length-take-le at room (omega arith)))
+        ∙ sym (List·getD-append (take at room) (drop at room) 0 i (omega (arith, length-take-le at room (omega arith))))
+        ∙ ap (λ (l : List ℕ). getD l i 0) (take-append-drop at room)
+
+  -- it stands there, whatever is laid behind it as one with it
+  pub laid-there : (piece more : List ℕ) → at ≤ length room → take (length piece) (drop at (laid at (piece ++ more) room)) ≡ piece
+  unfolding laid
+  laid-there piece more h =
+      ap (take (length piece)) (drop-at (take at room) ((piece ++ more) ++ rest) at (length-take-le at room h) ∙ append-assoc piece more rest)
+      ∙ take-at piece (more ++ rest) (length piece) refl
+    where
+      rest : List ℕ
+      rest = drop (at + length (piece ++ more)) room
+
   -- a stored character
   pub laid-one : (c : ℕ) → at < length room → set room at c ≡ laid at (c ∷ []) room
   unfolding laid
@@ -81,6 +99,24 @@ lays-one at c before h = record { ends = refl; left = laid-one at before c h }
 -- the same piece by another name
 pub lays-as : (at : ℕ) {a b before : List ℕ} {e : ℕ} {after : List ℕ} → a ≡ b → Lays at a before e after → Lays at b before e after
 lays-as at {before = before} {e = e} {after = after} h x = subst (λ (p : List ℕ). Lays at p before e after) h x
+
+-- one character more of what stands at an earlier place
+pub lays-again : (at from i : ℕ) (before : List ℕ) {middle : List ℕ} → from + i < at → at + i < length before → length middle ≡ length before
+    → Lays at (take i (drop from before)) before (at + i) middle
+    → Lays at (take (i + 1) (drop from before)) before (at + (i + 1)) (set middle (at + i) (getD middle (from + i) 0))
+lays-again at from i before {middle} h l same x =
+    let piece = take i (drop from before) in
+    let long : length piece ≡ i = length-take-le i (drop from before) (omega (arith, length-drop from before)) in
+    let seen : getD middle (from + i) 0 ≡ getD before (from + i) 0 = ap (λ (m : List ℕ). getD m (from + i) 0) (x .left) ∙ laid-before at before piece (omega arith) (from + i) h in
+    let more : piece ++ getD middle (from + i) 0 ∷ [] ≡ take (i + 1) (drop from before) =
+    ap (λ (y : ℕ). piece ++ y ∷ []) (seen ∙ sym (getD-drop from before i 0))
+    ∙ sym (take-suc (drop from before) i 0 (omega (arith, length-drop from before)))
+    ∙ ap (λ (n : ℕ). take n (drop from before)) (sym (add-one i)) in
+    let next = lays-next at piece (getD middle (from + i) 0 ∷ []) before (omega arith) x (lays-one (at + i) (getD middle (from + i) 0) middle (omega arith)) in
+    lays-ends (add-assoc at i 1) (lays-as at more next)
+  where
+    lays-ends : {piece after : List ℕ} {e f : ℕ} → e ≡ f → Lays at piece before e after → Lays at piece before f after
+    lays-ends {piece} {after} z y = subst (λ (k : ℕ). Lays at piece before k after) z y
 
 -- a part of as many characters as x has figures, filled with its last figures, is the number laid there
 pub decimal-laid : (x at n : ℕ) (out piece : List ℕ) → at + length (decimal x) ≤ length out → n ≡ sizeOf x → piece ≡ figures (length (midOf at (at + n - at) out)) x

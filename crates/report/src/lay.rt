@@ -2,7 +2,7 @@
 use crate::copy;
 ghost use mathlib.Core.List.{[], _∷_};
 ghost use Prim.Native.Nat.{_+_, _≤_, _<_};
-ghost use lib.ListN.{length};
+ghost use lib.ListN.{length, take, drop};
 ghost use Rattle.digits.specs.Decimal.{decimal};
 ghost use Rattle.report.specs.Room.{Lays};
 
@@ -23,6 +23,19 @@ pub fn text(out: &mut [u8], at: usize, piece: &[u8]) -> usize
     let end = at + piece.len();
     copy(&mut out[at..end], piece);
     end
+}
+
+// The n characters that stand in the room from an earlier place on, once more.
+pub fn again(out: &mut [u8], at: usize, from: usize, n: usize) -> usize
+    requires { ⌜ (from + n ≤ at) × (at + n ≤ length (now out)) ⌝ }
+    ensures { λ r. ⌜ Lays at (take n (drop from (now (out .entry)))) (now (out .entry)) r (now (out .exit)) ⌝ }
+{
+    let mut i = 0;
+    while i < n {
+        out[at + i] = out[from + i];
+        i += 1;
+    }
+    at + n
 }
 
 // A number in decimal.

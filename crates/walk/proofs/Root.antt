@@ -26,7 +26,8 @@ use Rattle.walk.specs.Reader.{Ready}
 use Rattle.walk.proofs.Items.{stands-right}
 use Rattle.walk.proofs.Columns.{root-cell, root-out}
 
-stands-all : (s : List ℕ) (u : List Frame) (n : ℕ) → ((i : ℕ) (f : Frame) → Is u i f → readAt s (n + i) ≡ Line (n + i) f) → Stands s n u
+-- lines that read as frames, one by one, stand in the text
+pub stands-all : (s : List ℕ) (u : List Frame) (n : ℕ) → ((i : ℕ) (f : Frame) → Is u i f → readAt s (n + i) ≡ Line (n + i) f) → Stands s n u
 stands-all s [] n h = tt
 stands-all s (f ∷ u) n h =
     let e : n + 0 ≡ n = omega arith in

@@ -1,0 +1,101 @@
+-- The text and its stacks over line numbers are what the lines print and say by the open rows. Assumes nothing.
+use Prim.Native.Nat.{ℕ, suc, _+_}
+use mathlib.Core.List.{List, [], _∷_, _++_, map}
+use mathlib.Core.Path.{_≡_, refl, ap, _∙_, sym, subst}
+use native.Mathlib.Numerals.{add-one}
+use native.Mathlib.Omega.{arith}
+use lib.ListN.{length, length-append}
+use lib.Seq.{append-snoc}
+use Rattle.line.specs.declared.Frame.{Frame}
+use Rattle.line.specs.declared.Frame.the-variants.{Site, Call, Spawn, Sync, Return, Cost}
+use Rattle.trace.specs.Shape.{ifMakes, root, closed, step, walk, openAt}
+use Rattle.folded.specs.Text.{siteOn, rowOf, rowsAt, lineText, textFrom, folded}
+use Rattle.folded.specs.Reading.{Stack, stacksFrom, stacksOf}
+use Rattle.folded.specs.Rows.{shift, printsOf, prints, saysOf, says}
+
+walk-zero : (k : ℕ) (o : List ℕ) (u : List Frame) → walk k o u 0 ≡ o
+walk-zero k o [] = refl
+walk-zero k o (f ∷ u) = refl
+
+walk-next : (k : ℕ) (o : List ℕ) (before : List Frame) (f : Frame) (v : List Frame)
+    → walk k o (before ++ f ∷ v) (suc (length before)) ≡ step (k + length before) f (walk k o (before ++ f ∷ v) (length before))
+walk-next k o [] f v = let e : k ≡ k + 0 = omega arith in walk-zero (suc k) (step k f o) v ∙ ap (λ (n : ℕ). step n f o) e
+walk-next k o (e ∷ b) f v =
+    let q : suc k + length b ≡ k + suc (length b) = omega arith in
+    walk-next (suc k) (step k e o) b f v ∙ ap (λ (n : ℕ). step n f (walk (suc k) (step k e o) (b ++ f ∷ v) (length b))) q
+
+open-next : (before : List Frame) (f : Frame) (v : List Frame) → openAt (before ++ f ∷ v) (suc (length before)) ≡ step (length before) f (openAt (before ++ f ∷ v) (length before))
+open-next before f v =
+    let e : 0 + length before ≡ length before = omega arith in
+    walk-next 0 (root ∷ []) before f v ∙ ap (λ (n : ℕ). step n f (openAt (before ++ f ∷ v) (length before))) e
+
+site-here : (before : List Frame) (f : Frame) (v : List Frame) → siteOn (before ++ f ∷ v) (length before) ≡ ifMakes (λ s. s) 0 f
+site-here [] f v = refl
+site-here (e ∷ b) f v = site-here b f v
+
+map-closed : (g : ℕ → ℕ) (o : List ℕ) → map g (closed o) ≡ closed (map g o)
+map-closed g [] = refl
+map-closed g (x ∷ o) = refl
+
+rows-step : (before : List Frame) (f : Frame) (v : List Frame) (o : List ℕ) → map (rowOf (before ++ f ∷ v)) (step (length before) f o) ≡ shift f (map (rowOf (before ++ f ∷ v)) o)
+rows-step before (Site s p) v o = refl
+rows-step before (Call s) v o = ap (λ (r : ℕ). r ∷ map (rowOf (before ++ Call s ∷ v)) o) (site-here before (Call s) v)
+rows-step before (Spawn s) v o = ap (λ (r : ℕ). r ∷ map (rowOf (before ++ Spawn s ∷ v)) o) (site-here before (Spawn s) v)
+rows-step before Sync v o = refl
+rows-step before Return v o = map-closed (rowOf (before ++ Return ∷ v)) o
+rows-step before (Cost w) v o = refl
+
+rows-next : (before : List Frame) (f : Frame) (v : List Frame) → rowsAt (before ++ f ∷ v) (suc (length before)) ≡ shift f (rowsAt (before ++ f ∷ v) (length before))
+rows-next before f v = ap (map (rowOf (before ++ f ∷ v))) (open-next before f v) ∙ rows-step before f v (openAt (before ++ f ∷ v) (length before))
+
+-- Something that is made of lines, from the last to the first, with the rows open at each: over line numbers, and by
+-- the rows as they shift.
+module _ {A : Type 0} (h : List ℕ → Frame → A → A) (z : A) where
+  abbrev over : List Frame → ℕ → List Frame → A
+  over t j [] = z
+  over t j (f ∷ u) = h (rowsAt t j) f (over t (suc j) u)
+
+  abbrev byRows : List ℕ → List Frame → A
+  byRows o [] = z
+  byRows o (f ∷ u) = h o f (byRows (shift f o) u)
+
+  tie : (before u : List Frame) → over (before ++ u) (length before) u ≡ byRows (rowsAt (before ++ u) (length before)) u
+  tie before [] = refl
+  tie before (f ∷ v) =
+      let t = before ++ f ∷ v in
+      let n = length before in
+      let e : (before ++ f ∷ []) ++ v ≡ t = append-snoc before f v in
+      let l : length (before ++ f ∷ []) ≡ suc n = length-append before (f ∷ []) ∙ add-one n in
+      let a = subst (λ (x : List Frame). over x (length (before ++ f ∷ [])) v ≡ byRows (rowsAt x (length (before ++ f ∷ []))) v) e (tie (before ++ f ∷ []) v) in
+      let b : over t (suc n) v ≡ byRows (rowsAt t (suc n)) v = subst (λ (k : ℕ). over t k v ≡ byRows (rowsAt t k) v) l a in
+      ap (h (rowsAt t n) f) (b ∙ ap (λ (o : List ℕ). byRows o v) (rows-next before f v))
+
+  tied : (t : List Frame) → over t 0 t ≡ byRows (0 ∷ []) t
+  tied t = tie [] t ∙ ap (λ (o : List ℕ). byRows o t) (ap (map (rowOf t)) (walk-zero 0 (root ∷ []) t))
+
+module _ (name : ℕ → List ℕ) where
+  abbrev printing : List ℕ → Frame → List ℕ → List ℕ
+  printing o f s = printsOf name o f ++ s
+
+  text-over : (t : List Frame) (j : ℕ) (u : List Frame) → textFrom name t j u ≡ over printing [] t j u
+  text-over t j [] = refl
+  text-over t j (f ∷ u) = ap (λ (s : List ℕ). lineText name t j f ++ s) (text-over t (suc j) u)
+
+  prints-by : (o : List ℕ) (u : List Frame) → byRows printing [] o u ≡ prints name o u
+  prints-by o [] = refl
+  prints-by o (f ∷ u) = ap (λ (s : List ℕ). printsOf name o f ++ s) (prints-by (shift f o) u)
+
+  stacks-over : (t : List Frame) (j : ℕ) (u : List Frame) → stacksFrom name t j u ≡ over (saysOf name) [] t j u
+  stacks-over t j [] = refl
+  stacks-over t j (f ∷ u) = ap (λ (l : List Stack). saysOf name (rowsAt t j) f l) (stacks-over t (suc j) u)
+
+  says-by : (o : List ℕ) (u : List Frame) → byRows (saysOf name) [] o u ≡ says name o u
+  says-by o [] = refl
+  says-by o (f ∷ u) = ap (λ (l : List Stack). saysOf name o f l) (says-by (shift f o) u)
+
+  -- LAW: the folded text is what the lines print, and its stacks what they say, with the root open at the first
+  pub folded-prints : (t : List Frame) → folded name t ≡ prints name (0 ∷ []) t
+  folded-prints t = text-over t 0 t ∙ tied printing [] t ∙ prints-by (0 ∷ []) t
+
+  pub stacks-say : (t : List Frame) → stacksOf name t ≡ says name (0 ∷ []) t
+  stacks-say t = stacks-over t 0 t ∙ tied (saysOf name) [] t ∙ says-by (0 ∷ []) t
