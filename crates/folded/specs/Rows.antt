@@ -5,9 +5,9 @@ use mathlib.Core.List.{List, [], _∷_, _++_, map}
 use lib.ListN.{length}
 use Rattle.line.specs.declared.Frame.{Frame}
 use Rattle.line.specs.declared.Frame.the-variants.{Site, Call, Spawn, Sync, Return, Cost}
-use Rattle.trace.specs.Shape.{closed}
+use Rattle.trace.specs.Shape.{ifCost, closed}
 use Rattle.walk.specs.Stands.{Stands}
-use Rattle.folded.specs.Text.{ifCost, rootFirst, joined, costText}
+use Rattle.folded.specs.Text.{rootFirst, joined, costText}
 use Rattle.folded.specs.Reading.{Stack}
 
 -- what a line does to the rows of the open invocations, innermost first

@@ -41,7 +41,7 @@ heads-pass D M before (f ∷ h) u s c =
     let w = faultless D M before f (c .0) in
     (s .0, w .not8, w .not9, w .not10, heads-pass D M (before ++ f ∷ []) h u (s .1) (c .2))
 
-heads-sites : (M : ℕ) (before h : List Frame) → HeadsOk M before h → AllSites h
+pub heads-sites : (M : ℕ) (before h : List Frame) → HeadsOk M before h → AllSites h
 heads-sites M before [] k = tt
 heads-sites M before (f ∷ h) k = (k .0, heads-sites M (before ++ f ∷ []) h (k .4))
 

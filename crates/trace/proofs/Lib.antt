@@ -33,3 +33,4 @@ pub mod Interval
 pub mod Twelve
 pub mod Further
 pub mod Enclosed
+pub mod Written

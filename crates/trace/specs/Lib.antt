@@ -10,3 +10,4 @@ pub mod Tree
 pub mod Fold
 pub mod ByTree
 pub mod Twelve
+pub mod Written

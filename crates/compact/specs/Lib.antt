@@ -1,0 +1,6 @@
+pub mod Compact
+pub mod Promise
+pub mod Unchanged
+pub mod Fold
+pub mod Tree
+pub mod Cases
