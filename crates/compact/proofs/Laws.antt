@@ -8,13 +8,13 @@ use lib.ListN.{length, length-append}
 use Rattle.line.specs.declared.Frame.{Frame}
 use Rattle.trace.specs.Shape.{root, sites}
 use Rattle.trace.specs.Series.{Span, Chosen}
-use Rattle.trace.specs.Rows.{total, calls, work, Spans, local, onSpan}
+use Rattle.trace.specs.Rows.{Spans, onSpan}
 use Rattle.trace.specs.Tree.{Body, linesOf, Within, AllSites, Parts, rootAt, workOf, localOf, spanOf, rowSum, outerRow, callsIn, workIn, spansIn, localIn}
 use Rattle.trace.proofs.Scan.{Fine}
 use Rattle.trace.proofs.Parse.{parts}
 use Rattle.trace.proofs.Tree.{size-is, no-sites-lines}
 use Rattle.trace.proofs.Sites.{sites-none, sites-append}
-use Rattle.trace.proofs.Accept.{IsTrace, heads-sites, fine-is-trace, trace-is-fine}
+use Rattle.trace.proofs.Accept.{heads-sites, fine-is-trace, trace-is-fine}
 use Rattle.trace.proofs.Invocations.{root-paid}
 use Rattle.trace.proofs.Recurrence.{Paid}
 use Rattle.trace.proofs.Root.{root-span, root-span-only, root-chosen-only}

@@ -7,3 +7,8 @@ pub mod Tied
 pub mod Laws
 pub mod Result
 pub mod Cases
+pub mod Machine
+pub mod Steps
+pub mod Letters
+pub mod Passes
+pub mod Whole

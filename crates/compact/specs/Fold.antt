@@ -1,5 +1,4 @@
 -- For proofs and code, not for the reader of document 02: the lines that are kept, and the compacted trace, by one walk.
-use Prim.Native.Nat.{ℕ}
 use mathlib.Core.Bool.{Bool, true, false, not, cond, _||_}
 use mathlib.Core.List.{List, [], _∷_}
 use Rattle.line.specs.declared.Frame.{Frame}

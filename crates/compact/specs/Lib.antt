@@ -4,3 +4,5 @@ pub mod Unchanged
 pub mod Fold
 pub mod Tree
 pub mod Cases
+pub mod Machine
+pub mod Pass

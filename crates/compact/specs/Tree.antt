@@ -2,7 +2,7 @@
 use Prim.Native.Nat.{ℕ, zero, suc, _+_}
 use mathlib.Core.Bool.{Bool, true, false, not, cond, _||_}
 use lib.Dec.{leb}
-use Rattle.trace.specs.Tree.{Way, call, spawn, Leaf, spend, sync, Body, done, leaf, child}
+use Rattle.trace.specs.Tree.{Way, call, spawn, spend, sync, Body, done, leaf, child}
 use Rattle.compact.specs.Compact.{mostValue}
 
 -- only syncs stand before the return

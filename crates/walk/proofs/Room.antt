@@ -13,7 +13,7 @@ use Rattle.walk.specs.Stands.{Stands, Whole}
 use Rattle.trace.proofs.Tree.{size-is}
 use Rattle.walk.proofs.Items.{size-some}
 
-line-whole : (s : List ℕ) (n : ℕ) (f : Frame) → readAt s n ≡ Line n f → Whole s n
+pub line-whole : (s : List ℕ) (n : ℕ) (f : Frame) → readAt s n ≡ Line n f → Whole s n
 line-whole s n f e = omega (arith, frames (lineAt s n) n n f e .1, length-take 23 (drop (23 * n) s), length-drop (23 * n) s)
 
 stands-in : (s : List ℕ) (u : List Frame) (n : ℕ) → Stands s n u → 1 ≤ length u → 23 * (n + length u) ≤ length s
