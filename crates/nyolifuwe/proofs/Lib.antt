@@ -3,3 +3,4 @@ mod Decided
 mod Profiled
 mod Sheets
 mod Stacks
+mod Shelf

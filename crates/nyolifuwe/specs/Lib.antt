@@ -6,3 +6,4 @@ pub mod Engines
 pub mod Sheets
 pub mod InsideSheets
 pub mod Stacks
+pub mod Shelf
