@@ -21,7 +21,7 @@ use Rattle.admit.specs.declared.Verdict.the-variants as Verdict
 use Rattle.admit.specs.Answer.{answerOf}
 use Rattle.admit.proofs.Admitted.{refused-only, accepted-only}
 use Rattle.walk.specs.Stands.{Stands}
-use Rattle.walk.proofs.Root.{stands-all}
+use Rattle.walk.proofs.Stands.{stands-all}
 use Rattle.report.specs.Room.{fitting, Writes, Lays}
 use Rattle.report.proofs.Decisions.{written, fitting-short, fitting-text}
 use Rattle.report.proofs.Decisions.{refused as refused-so}
