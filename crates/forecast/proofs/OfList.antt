@@ -1,11 +1,10 @@
 -- What a list by value asks for is what the lent list asks for; and the factor of a row that no entry names.
-use mathlib.Core.Path.{_≡_, refl, sym, _∙_, ap, subst}
-use mathlib.Core.Bool.{Bool, true, false, not, cond, _&&_, _||_}
+use mathlib.Core.Path.{_≡_, refl, _∙_, ap, subst}
+use mathlib.Core.Bool.{Bool, true, false, not, cond, _||_}
 use mathlib.Core.List.{List, [], _∷_}
 use Prim.Native.Nat.{ℕ, _<_}
 use native.Mathlib.Omega.{arith}
 use lib.Dec.{eqb, ltb, leb}
-use lib.ListN.{length}
 use borrow.Author.Tests.{eqb-true, eq-eqb, ne-eqb, leb-true}
 use Rattle.line.specs.declared.Frame.{Frame}
 use Rattle.trace.specs.declared.Answer.{Answer}
@@ -16,7 +15,7 @@ use Rattle.trace.proofs.Basics.{both, clash}
 use Rattle.forecast.specs.declared.Entry.{Entry}
 use Rattle.forecast.specs.declared.Listed.{Listed}
 use Rattle.forecast.specs.Rewritten.{rewritten}
-use Rattle.forecast.specs.Asked.{tooLong, ascending, allDeclared, badList, badFactor, asked, asking}
+use Rattle.forecast.specs.Asked.{tooLong, ascending, allDeclared, asked, asking}
 use Rattle.forecast.specs.Listed.{listed, askedOf}
 use Rattle.forecast.specs.OfList.{entriesOf, askingOf, ForecastOf}
 use Rattle.forecast.specs.Promise.{Forecast}

@@ -2,7 +2,7 @@
 use mathlib.Core.Path.{_≡_, refl, ap, _∙_, sym, subst}
 use mathlib.Core.List.{List, [], _∷_, _++_}
 use Prim.Native.Nat.{ℕ, suc, _+_, _*_, _-_, _≤_, _<_}
-use native.Mathlib.Nat.{suc-mul, mul-comm, mul-assoc}
+use native.Mathlib.Nat.{suc-mul, mul-comm, mul-assoc, mul-le-mul-left}
 use native.Mathlib.Decide.{decLt}
 use native.Mathlib.Omega.{arith}
 use lib.ListN.{length, getD, drop, replicate, length-replicate, List·getD-eq-default}
@@ -61,8 +61,14 @@ module _ {s : List ℕ} {D M : ℕ} {scratch rows : List ℕ} {count lines : ℕ
   scratch-long : 4 * D * (M + 3) ≤ length scratch
   scratch-long = root.rooms tables s D M (lent scratch rows) (a .t) (a .is) count (a .count-is) .0
 
-  pub table-room : 4 * (M + 3) ≤ length scratch
-  table-room = omega (arith, scratch-long, room-is D (M + 3) (limits .0))
+  -- four blocks of a number a row for each invocation that may be open
+  blocks-long : 4 * D * (count + 1) ≤ length scratch
+  blocks-long =
+      let few : count + 1 ≤ M + 3 = omega (arith, limits .3) in
+      omega (arith, scratch-long, mul-le-mul-left (4 * D) few)
+
+  pub table-room : count + 1 ≤ length scratch
+  table-room = omega (arith, blocks-long, room-is D (count + 1) (limits .0))
 
   -- the line at which the root's body begins
   abbrev first : ℕ
@@ -82,19 +88,19 @@ module _ {s : List ℕ} {D M : ℕ} {scratch rows : List ℕ} {count lines : ℕ
 
   -- its cost lines weigh so
   module _ (how : Weigh) (tabled : Tabled how) where
-    pub root-asks : {t₁ r₁ : List ℕ} → Blank t₁ r₁ → BodyAsks how s first 0 (D - 1) t₁ r₁ (M + 3) (count + 1)
+    pub root-asks : {t₁ r₁ : List ℕ} → Blank t₁ r₁ → BodyAsks how s first 0 (D - 1) t₁ r₁ (count + 1) (count + 1)
     root-asks {t₁} {r₁} z =
-        subst (λ (x : List ℕ). BodyAsks how s first 0 (D - 1) x r₁ (M + 3) (count + 1)) (sym (z .scratch-is))
-        (subst (λ (y : List ℕ). BodyAsks how s first 0 (D - 1) (replicate (length scratch) 0) y (M + 3) (count + 1)) (sym (z .rows-are))
+        subst (λ (x : List ℕ). BodyAsks how s first 0 (D - 1) x r₁ (count + 1) (count + 1)) (sym (z .scratch-is))
+        (subst (λ (y : List ℕ). BodyAsks how s first 0 (D - 1) (replicate (length scratch) 0) y (count + 1) (count + 1)) (sym (z .rows-are))
         (record {
           m = count;
           ready = root.ready tables s D M (lent scratch rows) (a .t) (a .is) count (a .count-is) how tabled;
-          blocks = omega (arith, limits .3);
+          blocks = omega arith;
           wide = omega arith;
-          room = omega (arith, scratch-long, room-is D (M + 3) (limits .0), length-replicate {A = ℕ} (length scratch) 0);
+          room = omega (arith, blocks-long, room-is D (count + 1) (limits .0), length-replicate {A = ℕ} (length scratch) 0);
           k = nothing;
           weighs = refl;
-          holds = holds-two (M + 3) (count + 1) (replicate (length scratch) 0) [] [] (zeros-show (M + 3) (count + 1) (length scratch));
+          holds = holds-two (count + 1) (count + 1) (replicate (length scratch) 0) [] [] (zeros-show (count + 1) (count + 1) (length scratch));
         }))
 
     -- The root was read: its numbers are c, and it left the scratch t₂ and the rows rows₂. Before it, columns 2 and 3 of its
@@ -106,7 +112,7 @@ module _ {s : List ℕ} {D M : ℕ} {scratch rows : List ℕ} {count lines : ℕ
       pub taken : before ≡ creditOf r₁ 0
       pub scratch-same : length t₂ ≡ length scratch
       pub rows-same : length rows₂ ≡ length rows
-      pub leaves : BodyLeaves how s first 0 t₁ r₁ (M + 3) (count + 1) c t₂ rows₂
+      pub leaves : BodyLeaves how s first 0 t₁ r₁ (count + 1) (count + 1) c t₂ rows₂
 
     -- what its reading comes to
     module _ {before : Credit} {c : Open} {t₂ rows₂ : List ℕ} (u : Read before c t₂ rows₂) where
@@ -116,9 +122,9 @@ module _ {s : List ℕ} {D M : ℕ} {scratch rows : List ℕ} {count lines : ℕ
       abbrev b : Body
       b = root.body tables s D M (lent scratch rows) (a .t) (a .is) count (a .count-is) how tabled
 
-      left : BodyDone first 0 rows₁ b c rows₂ × Shows (M + 3) (count + 1) t₂ (alone (chainOf first 0 b)) []
+      left : BodyDone first 0 rows₁ b c rows₂ × Shows (count + 1) (count + 1) t₂ (alone (chainOf first 0 b)) []
       left =
-          let h = u .leaves b (root.reads tables s D M (lent scratch rows) (a .t) (a .is) count (a .count-is) how tabled) (subst (λ (x : List ℕ). Shows (M + 3) (count + 1) x nothing []) (sym (u .blank .scratch-is)) (zeros-show (M + 3) (count + 1) (length scratch))) in
+          let h = u .leaves b (root.reads tables s D M (lent scratch rows) (a .t) (a .is) count (a .count-is) how tabled) (subst (λ (x : List ℕ). Shows (count + 1) (count + 1) x nothing []) (sym (u .blank .scratch-is)) (zeros-show (count + 1) (count + 1) (length scratch))) in
           (subst (λ (y : List ℕ). BodyDone first 0 y b c rows₂) (u .blank .rows-are) (h .0), h .1)
 
       pub root-counts : ReturnFits before rows₂ 0 (c .work) (c .prefix)
@@ -153,7 +159,7 @@ module _ {s : List ℕ} {D M : ℕ} {scratch rows : List ℕ} {count lines : ℕ
           where
             go : (i : ℕ) → Dec (i < count + 1) → getD t₃ i 0 ≡ 0
             go i (yes q) = settled .gone i q
-            go i (no q) = settled .rest i (omega arith) ∙ own-only (M + 3) (count + 1) t₂ (chainOf first 0 b) (left .1) i (λ x y. omega arith)
+            go i (no q) = settled .rest i (omega arith) ∙ own-only (count + 1) (count + 1) t₂ (chainOf first 0 b) (left .1) i (λ x y. omega arith)
 
         by-tree : ProfileBy tables count first b (lent scratch rows) answer (lent t₃ rows₄)
         by-tree =

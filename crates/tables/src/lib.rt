@@ -1,6 +1,7 @@
 // The table engine. The scratch is blocks of n numbers; the first w numbers of a block are a table: what of a chain
-// stands in each row. The root is lent the whole scratch. An open invocation lends a child all that lies behind the
-// blocks that it has in use itself, and has it back when the child returns. Its part is at each moment what it was
+// stands in each row. The readers take both alike, a number a row. The root is lent the whole scratch. An open
+// invocation lends a child all that lies behind the blocks that it has in use itself, and has it back when the child
+// returns. Its part is at each moment what it was
 // lent, without what it has lent on: so each open invocation works in its own part of the scratch, and no two parts
 // share a number. As long as no child is the longest, one block is in use: the table of the prefix and the
 // continuation together. The table that a child leaves at the front of its part is then in the next block, that of
@@ -172,18 +173,17 @@ fn read_items(
     deep: usize,
     t: &mut [u64],
     rows: &mut [u64],
-    n: usize,
     w: usize,
     factors: &[u64],
 ) -> walk::Open
-    requires { ⌜ Lent (byFactors (now factors)) (now trace) row deep f (now t) (now rows) n w ⌝ }
+    requires { ⌜ Lent (byFactors (now factors)) (now trace) row deep f (now t) (now rows) w w ⌝ }
     ensures { λ r. ⌜ ItemsLeave (byFactors (now (factors .entry))) (now (trace .entry)) row deep f (now (t .entry))
-        (now (rows .entry)) n w r (now (t .exit)) (now (rows .exit)) ⌝ }
+        (now (rows .entry)) w w r (now (t .exit)) (now (rows .exit)) ⌝ }
 {
     let mut g = f;
     let mut kind = line::kind_at(trace, f.at);
     while kind != 5 {
-        g = item(trace, kind, g, row, deep, t, rows, n, w, factors);
+        g = item(trace, kind, g, row, deep, t, rows, w, factors);
         kind = line::kind_at(trace, g.at);
     }
     g
@@ -197,26 +197,15 @@ fn body(
     deep: usize,
     t: &mut [u64],
     rows: &mut [u64],
-    n: usize,
     w: usize,
     factors: &[u64],
 ) -> walk::Open
-    requires { ⌜ BodyAsks (byFactors (now factors)) (now trace) from row deep (now t) (now rows) n w ⌝ }
+    requires { ⌜ BodyAsks (byFactors (now factors)) (now trace) from row deep (now t) (now rows) w w ⌝ }
     ensures { λ r. ⌜ BodyLeaves (byFactors (now (factors .entry))) (now (trace .entry)) from row (now (t .entry))
-        (now (rows .entry)) n w r (now (t .exit)) (now (rows .exit)) ⌝ }
+        (now (rows .entry)) w w r (now (t .exit)) (now (rows .exit)) ⌝ }
 {
-    let f = read_items(
-        trace,
-        walk::Open::new(from),
-        row,
-        deep,
-        t,
-        rows,
-        n,
-        w,
-        factors,
-    );
-    join(t, n, w, f)
+    let f = read_items(trace, walk::Open::new(from), row, deep, t, rows, w, factors);
+    join(t, w, w, f)
 }
 
 // Reads one item, whose first line is of this kind, with the whole body of a call or a spawn.
@@ -228,42 +217,31 @@ fn item(
     deep: usize,
     t: &mut [u64],
     rows: &mut [u64],
-    n: usize,
     w: usize,
     factors: &[u64],
 ) -> walk::Open
-    requires { ⌜ ItemAsks (byFactors (now factors)) (now trace) kind row deep f (now t) (now rows) n w ⌝ }
+    requires { ⌜ ItemAsks (byFactors (now factors)) (now trace) kind row deep f (now t) (now rows) w w ⌝ }
     ensures { λ r. ⌜ ItemLeaves (byFactors (now (factors .entry))) (now (trace .entry)) row f (now (t .entry))
-        (now (rows .entry)) n w r (now (t .exit)) (now (rows .exit)) ⌝ }
+        (now (rows .entry)) w w r (now (t .exit)) (now (rows .exit)) ⌝ }
 {
     let at = f.at;
     if kind == 6 {
         let v = walk::weight_at(trace, at, row, factors);
         walk::spend(rows, row, v);
-        return spend(t, n, w, f, row, v);
+        return spend(t, w, w, f, row, v);
     }
     if kind == 4 {
-        return join(t, n, w, f);
+        return join(t, w, w, f);
     }
     let site = line::site_at(trace, at) as usize;
-    let o = part(n, f);
+    let o = part(w, f);
     let before = walk::credit_of(rows, site);
-    let c = body(
-        trace,
-        at + 1,
-        site,
-        deep - 1,
-        &mut t[o..],
-        rows,
-        n,
-        w,
-        factors,
-    );
+    let c = body(trace, at + 1, site, deep - 1, &mut t[o..], rows, w, factors);
     walk::returned(rows, site, c.work, c.prefix, before);
     if kind == 2 {
-        return called(t, n, w, f, site, c);
+        return called(t, w, w, f, site, c);
     }
-    spawned(t, n, w, f, site, c)
+    spawned(t, w, w, f, site, c)
 }
 
 // Column 5: each row's number is moved out of the root's table.
@@ -301,17 +279,7 @@ fn accepted(
     // the line at which the root's body begins: behind the sites
     let first = count;
     let before = walk::credit_of(rows, 0);
-    let f = body(
-        text,
-        first,
-        0,
-        depth - 1,
-        scratch,
-        rows,
-        sites + 3,
-        count + 1,
-        factors,
-    );
+    let f = body(text, first, 0, depth - 1, scratch, rows, count + 1, factors);
     walk::returned(rows, 0, f.work, f.prefix, before);
     settle(scratch, rows, count + 1);
     trace::Answer::Accepted(f.work, f.prefix, count, lines)

@@ -1,5 +1,5 @@
 -- A body is its first item and the rest: size, work, rows, chains, lines.
-use mathlib.Core.Path.{_≡_, refl, ap, sym, subst}
+use mathlib.Core.Path.{_≡_, refl, ap, sym}
 use mathlib.Core.Logic.{_⊎_, inl, inr}
 use mathlib.Core.Bool.{Bool, true, false, cond}
 use mathlib.Core.List.{List, [], _∷_, _++_}
@@ -7,16 +7,13 @@ use Prim.Native.Nat.{ℕ, suc, _+_, _≤_, _<_}
 use native.Mathlib.Numerals.{add-one}
 use native.Mathlib.Omega.{arith}
 use lib.Dec.{eqb, ltb}
-use lib.ListN.{length}
-use Rattle.line.specs.declared.Frame.{Frame}
 use Rattle.chain.specs.Plan.{CostLine, weight, choose}
 use Rattle.chain.proofs.Lists.{weight-append}
 use Rattle.chain.proofs.Choose.{choose-cases}
 use Rattle.trace.specs.Column.{Column, slot}
-use Rattle.trace.specs.Tree.{Way, call, spawn, Leaf, spend, sync, leafWork, Body, done, leaf, child, linesOf, size, Within, workOf}
+use Rattle.trace.specs.Tree.{Way, call, spawn, Leaf, spend, sync, leafWork, Body, done, leaf, child, size, Within, workOf}
 use Rattle.trace.specs.Fold.{costAt, Chains, nothing, joined, spawned, leafChains, ended, childChains, run, chainOf}
 use Rattle.trace.proofs.Basics.{cond-le}
-use Rattle.trace.proofs.Tree.{size-is}
 use Rattle.weigh.specs.Weighed.{Weigh}
 use Rattle.walk.specs.Reads.{Reads}
 use Rattle.walk.specs.Numbers.{load}

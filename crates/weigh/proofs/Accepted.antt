@@ -1,15 +1,15 @@
 -- A trace whose cost lines weigh otherwise, within the table, keeps the rules; it is its sites and the weighed body.
 use mathlib.Core.Path.{_≡_, refl, sym, _∙_, ap, subst}
-use mathlib.Core.List.{List, [], _∷_, _++_}
+use mathlib.Core.List.{List, [], _∷_}
 use Prim.Native.Nat.{ℕ, suc}
 use native.Mathlib.Omega.{arith}
 use lib.ListN.{length}
 use Rattle.line.specs.declared.Frame.{Frame}
 use Rattle.line.specs.declared.Frame.the-variants.{Site, Call, Spawn, Sync, Return, Cost}
 use Rattle.trace.specs.Shape.{ifSite, sites}
-use Rattle.trace.specs.Tree.{linesOf, Within, Parts, rootAt}
+use Rattle.trace.specs.Tree.{Within, Parts, rootAt}
 use Rattle.trace.proofs.Scan.{Fine}
-use Rattle.trace.proofs.Accept.{IsTrace, heads-sites, fine-is-trace, trace-is-fine}
+use Rattle.trace.proofs.Accept.{heads-sites, fine-is-trace, trace-is-fine}
 use Rattle.weigh.specs.Cost.{costing}
 use Rattle.weigh.specs.Weighed.{Weigh, Tabled, weighed, innermost, rowStep, reweighed}
 use Rattle.weigh.proofs.Alike.{bare, ButCosts, alike-length}

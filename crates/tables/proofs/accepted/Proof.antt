@@ -105,9 +105,6 @@ sub-body c = limits (cleared (body-zeros c .before) .pre .0) .0
 add-body : tie.Need-add-body
 add-body c = let l = limits (begun c .pre .0) in omega (arith, l .2, l .3)
 
-add-body-2 : tie.Need-add-body-2
-add-body-2 c = let l = limits (begun c .pre .0) in omega (arith, l .2, l .3)
-
 body-requires : tie.Need-body-requires
 body-requires c κs = root-asks (begun c .pre .0) (byFactors (begun c .args .factors .now)) (tabled (begun c)) (blank (body-zeros (body-credit c)))
 
@@ -121,7 +118,7 @@ settle-requires : tie.Need-settle-requires
 settle-requires c κs =
     let k = settle-returned c in
     let h = root-start k .pre .0 in
-    (omega (arith, read (returned-body (k .before)) .scratch-same, table-room h, limits h .3), omega (arith, counts-long k, rows-room h))
+    (omega (arith, read (returned-body (k .before)) .scratch-same, table-room h), omega (arith, counts-long k, rows-room h))
 
 same-length : tie.Need-same-length
 same-length c = scratch-long (end-settle c)
@@ -146,7 +143,6 @@ accepted-spec =
     credit-of-requires
     sub-body
     add-body
-    add-body-2
     body-requires
     returned-requires
     add-settle
