@@ -12,7 +12,7 @@ use Rattle.line.specs.declared.Frame.{Frame}
 use Rattle.line.specs.declared.Read.{Read}
 use Rattle.line.specs.declared.Read.the-variants.{Line, Refused}
 use Rattle.line.specs.declared.Wrote.{Wrote}
-use Rattle.line.specs.Table.{Fields, Entry, frame, none, table, fieldsOf}
+use Rattle.line.specs.Table.{Fields, Entry, frame, none, table}
 use Rattle.line.specs.Read.{tabled, readLine}
 use Rattle.line.specs.Write.{chars, narrow, isFrame, writable, writeChars}
 use Rattle.line.proofs.Cases.{Case, long, wrongs, unlisted, listed, line-case}
