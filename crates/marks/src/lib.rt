@@ -504,7 +504,8 @@ pub fn forecast(
         (lent (now (scratch .entry)) (now (marks .entry)) (now (rows .entry))) r
         (lent (now (scratch .exit)) (now (marks .exit)) (now (rows .exit))) ⌝ }
 {
-    match admit::for_marks(text, depth, sites, scratch.len(), rows.len(), marks.len()) {
+    let verdict = admit::for_marks(text, depth, sites, scratch.len(), rows.len(), marks.len());
+    match verdict {
         admit::Verdict::Accepted(count, lines) => asked(
             text,
             depth,

@@ -347,7 +347,8 @@ pub fn forecast(
     ensures { λ r. ⌜ ForecastOf tables list (now (text .entry)) depth sites
         (lent (now (scratch .entry)) (now (rows .entry))) r (lent (now (scratch .exit)) (now (rows .exit))) ⌝ }
 {
-    match admit::for_tables(text, depth, sites, scratch.len(), rows.len()) {
+    let verdict = admit::for_tables(text, depth, sites, scratch.len(), rows.len());
+    match verdict {
         admit::Verdict::Accepted(count, lines) => asked(
             text,
             depth,
