@@ -9,7 +9,7 @@ numbers c/run.sh 0 "$@"
 cc=${CC:-cc} out=target/c lib=${NYO_LIB_DIR:-target/native}
 [ -n "${NYO_LIB_DIR:-}" ] || tools/native-lib.sh
 mkdir -p "$out"
-for program in test profile sheet folded forecast; do
+for program in test profile sheet folded forecast compact; do
     "$cc" -std=c99 -O2 -Wall -Wextra -Wpedantic -Werror -Iinclude "c/$program.c" "$lib/libnyolifuwe.a" -o "$out/$program"
 done
 echo '#include "nyolifuwe.h"' | "$cc" -std=c99 -Wall -Wextra -Wpedantic -Werror -Iinclude -fsyntax-only -x c -
@@ -146,5 +146,24 @@ tried 3 '^forecast: no-such-file: ' '$forecast each 2 no-such-file'
 tried 3 '^forecast: standard output: ' '$forecast each 2 examples/proxy.trace >/dev/full'
 tried 3 '^forecast: standard output: ' '$forecast with 6/2 examples/proxy.trace >/dev/full'
 tried 3 '^forecast: standard output: ' '$forecast with 9/2 examples/proxy.trace >/dev/full'
+
+# The wordy trace and the proxy compacted, in room just enough; again, and in too little room.
+compact=$out/compact
+export compact
+cp examples/wordy-compact.trace "$wanted"
+tried 0 '' '$compact 414 examples/wordy.trace'
+tried 0 '' '$compact 621 <examples/wordy.trace'
+tried 0 '' '$compact 414 examples/wordy-compact.trace'
+cp examples/proxy.trace "$wanted"
+tried 0 '' '$compact 9999 examples/proxy.trace'
+echo ff1500000000 >"$wanted"
+tried 1 '^compact: refusal 21, line 0$' '$compact 413 examples/wordy.trace'
+echo ff0e00000004 >"$wanted"
+tried 1 '^compact: refusal 14, line 4$' '$compact 9999 examples/refusal-14.trace'
+: >"$wanted"
+tried 2 '^usage: compact ' '$compact'
+tried 2 '^usage: compact ' '$compact many examples/wordy.trace'
+tried 3 '^compact: no-such-file: ' '$compact 414 no-such-file'
+tried 3 '^compact: standard output: ' '$compact 414 examples/wordy.trace >/dev/full'
 echo "the C examples: $passed passed, 0 failed"
 "$out/test"

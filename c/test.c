@@ -406,6 +406,69 @@ static void stacks_are_folded(void) {
     CHECK(folded(case_i, len, names, stock_names, 4, 34, 1) == 18 && nothing_folded());
 }
 
+/* Two sites; then events, of which a line is left out or merged wherever it says nothing. */
+#define SITES_1_2 "0100010000000a00010005\n0100020000001400010009\n"
+#define CALL_1 "0200010000000000000000\n"
+#define SPAWN_1 "0300010000000000000000\n"
+#define SYNC "0400000000000000000000\n"
+#define RETURN "0500000000000000000000\n"
+#define COST(digits) "060000" digits "00000000\n"
+#define MOST_COST COST("ffffffff")
+
+static uint64_t compact(const char *trace, size_t len, uint64_t depth, uint64_t sites, size_t room, size_t count_room) {
+    uint8_t *text = lend_chars(&out, room);
+    uint64_t *to = lend_numbers(&written, count_room);
+    return nyo_compact((const uint8_t *)trace, len, depth, sites, text, room, to, count_room);
+}
+
+/* What is left of a trace, in room just enough and in more; in room for one character less it is refused; and what is
+ * left of that is itself. */
+static int leaves(const char *trace, const char *left) {
+    size_t len = strlen(trace), n = strlen(left);
+    const uint64_t count[] = {n};
+    int just = compact(trace, len, 4, 3, n, 1) == 0 && chars_are(&out, left, n) && numbers_are(&written, count, 1);
+    int more = compact(trace, len, 4, 3, len, 3) == 0 && chars_are(&out, left, n) && numbers_are(&written, count, 1);
+    int again = compact(left, n, 4, 3, n, 1) == 0 && chars_are(&out, left, n) && numbers_are(&written, count, 1);
+    return just && more && again && compact(trace, len, 4, 3, n - 1, 1) == 21 && nothing_written();
+}
+
+#define LEAVES(trace, left) leaves(SITES_1_2 trace RETURN, SITES_1_2 left RETURN)
+#define SPAWNED SPAWN_1 COST("00000004") RETURN
+
+static void traces_are_compacted(void) {
+    CHECK(leaves(case_i, case_i) && leaves(case_k, case_k) && leaves(RETURN, RETURN));
+    CHECK(LEAVES(SYNC COST("00000005"), COST("00000005")));
+    CHECK(LEAVES(CALL_1 SYNC COST("00000005") RETURN, CALL_1 COST("00000005") RETURN));
+    CHECK(LEAVES(SPAWNED SYNC SYNC COST("00000004"), SPAWNED SYNC COST("00000004")));
+    CHECK(LEAVES(SPAWNED SYNC COST("00000004"), SPAWNED SYNC COST("00000004")));
+    CHECK(LEAVES(SPAWNED SYNC SYNC, SPAWNED));
+    CHECK(LEAVES(SPAWNED SYNC COST("00000004") SYNC, SPAWNED SYNC COST("00000004")));
+    CHECK(LEAVES(SPAWNED COST("00000002") SYNC SYNC COST("00000001"), SPAWNED COST("00000002") SYNC COST("00000001")));
+    CHECK(LEAVES(CALL_1 SPAWNED RETURN SYNC COST("00000001"), CALL_1 SPAWNED RETURN COST("00000001")));
+    CHECK(LEAVES(SPAWNED CALL_1 SYNC RETURN SYNC COST("00000001"), SPAWNED CALL_1 RETURN SYNC COST("00000001")));
+    CHECK(LEAVES(COST("00000007") COST("00000008"), COST("0000000f")));
+    CHECK(LEAVES(COST("0000000A") COST("000000aB"), COST("000000b5")));
+    CHECK(LEAVES(COST("00000001") SYNC COST("00000002"), COST("00000003")));
+    CHECK(LEAVES(COST("00000001") CALL_1 RETURN COST("00000002"), COST("00000001") CALL_1 RETURN COST("00000002")));
+    CHECK(LEAVES(COST("fffffffe") COST("00000001"), MOST_COST));
+    CHECK(LEAVES(MOST_COST COST("00000001"), MOST_COST COST("00000001")));
+    CHECK(LEAVES(MOST_COST COST("00000001") COST("00000002"), MOST_COST COST("00000003")));
+}
+
+static void compactions_are_refused(void) {
+    size_t len = sizeof case_i - 1;
+    CHECK(NYO_COMPACT_CHARS(len) == 230 && NYO_COMPACT_ROOM == 21);
+    CHECK(compact(case_i, len, 0, 3, len, 1) == 1 && nothing_written());
+    CHECK(compact(case_i, len, 4, 256, len, 1) == 1 && nothing_written());
+    CHECK(compact(case_i, len - 1, 4, 3, 0, 0) == 2 && nothing_written());
+    CHECK(compact(case_i, len, 4, 3, len, 0) == 4 && nothing_written());
+    CHECK(compact(case_i, len, 4, 3, 0, 0) == 4 && nothing_written());
+    CHECK(compact(case_i, len, 4, 1, 0, 1) == 9 + 256 * 1 && nothing_written());
+    CHECK(compact(case_i, len, 2, 3, 0, 1) == 12 + 256 * 3 && nothing_written());
+    CHECK(compact(case_i, len - 23, 4, 3, 0, 1) == 14 + 256 * 9 && nothing_written());
+    CHECK(compact(case_i, len, 4, 3, 0, 1) == 21 && nothing_written());
+}
+
 int main(void) {
     lines_are_read();
     lines_are_written();
@@ -418,6 +481,8 @@ int main(void) {
     traces_are_forecast();
     forecasts_are_refused();
     stacks_are_folded();
+    traces_are_compacted();
+    compactions_are_refused();
     printf("%u passed, %u failed\n", passed, failed);
     return failed != 0;
 }

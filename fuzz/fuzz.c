@@ -204,7 +204,7 @@ static void put_entries(Entries *list, Input *in, uint64_t declared) {
 /* ---- what holds ---- */
 
 static Pages of_trace, of_scratch, of_marks, of_rows, of_answer, of_frame, of_out, of_text, of_written;
-static Pages of_names[2], of_stacks, of_entries;
+static Pages of_names[2], of_stacks, of_entries, of_compact;
 
 static void reserve(void) {
     make_rubbish();
@@ -220,6 +220,7 @@ static void reserve(void) {
     of_names[0] = pages_of(sizeof(Names)), of_names[1] = pages_of(sizeof(Names));
     of_stacks = pages_of(MOST_RUBBISH);
     of_entries = pages_of(sizeof(Entries));
+    of_compact = pages_of(sizeof(Trace));
 }
 
 /* A number of bytes that is mostly enough, sometimes an element short, sometimes none. */
@@ -566,7 +567,75 @@ static void forecast(const Room *trace, int marked, uint64_t depth, uint64_t sit
     count(37, plain.answer[1] - asked.answer[1]);
 }
 
-/* Both engines on one trace, its forecasts and its folded stacks. */
+/* What is left of an accepted trace, line by line, and its length. A sync waits until a line that is no sync stands
+ * behind it; of a run of them only the first can be left. */
+static size_t expected_left(uint8_t *left, const Room *trace) {
+    static const uint64_t sync[NYO_FRAME] = {4, 0, 0, 0, 0};
+    static Trace t;
+    int spawned[NYO_MOST_DEPTH] = {0}, waits = 0;
+    unsigned long held = 0;
+    size_t depth = 1;
+    t.len = 0;
+    for (const uint8_t *line = trace->at; line < trace->at + trace->bytes; line += NYO_LINE_CHARS) {
+        uint64_t f[NYO_FRAME] = {field(line, 0, 2), field(line, 2, 4), field(line, 6, 8), field(line, 14, 4),
+                                 field(line, 18, 4)};
+        if (f[0] == 4) {
+            waits |= spawned[depth - 1], spawned[depth - 1] = 0;
+            continue;
+        }
+        int leave = waits && f[0] != 5;
+        if (held && (leave || f[0] != 6 || held + f[2] > 4294967295))
+            put_line(&t, (const uint64_t[]){6, 0, held, 0, 0}), held = 0;
+        if (leave) put_line(&t, sync);
+        waits = 0;
+        if (f[0] == 6) held += f[2];
+        else put_line(&t, f);
+        if (f[0] == 3) spawned[depth - 1] = 1;
+        if (f[0] == 2 || f[0] == 3) spawned[depth++] = 0;
+        if (f[0] == 5) depth--;
+    }
+    memcpy(left, t.chars, t.len);
+    return t.len;
+}
+
+/* Of what is left of a trace with this answer and these rows the table engine says the same, but for the lines; and what
+ * is left of that is itself. */
+static void says_as_much(const uint8_t *left, size_t len, uint64_t depth, uint64_t sites, const uint64_t *answer,
+                         const uint64_t *rows) {
+    static uint64_t scratch[NYO_TABLES_SCRATCH(NYO_MOST_DEPTH, NYO_MOST_SITES)], own_rows[NYO_ROWS(NYO_MOST_SITES)];
+    static uint8_t again[MOST_CHARS];
+    uint64_t own[NYO_ANSWER], count;
+    MUST(!nyo_tables(left, len, depth, sites, scratch, sizeof scratch / 8, own_rows, sizeof own_rows / 8, own,
+                     NYO_ANSWER));
+    MUST(!memcmp(own, answer, 3 * sizeof *own) && own[3] == len / NYO_LINE_CHARS);
+    MUST(!memcmp(own_rows, rows, 8 * NYO_ROWS(answer[2])));
+    MUST(!nyo_compact(left, len, depth, sites, again, sizeof again, &count, 1));
+    MUST(count == len && !memcmp(again, left, len));
+}
+
+/* The trace, which the table engine has answered so, without the lines that say nothing. */
+static void compact(const Room *trace, uint64_t depth, uint64_t sites, uint64_t first, const uint64_t *answer,
+                    const uint64_t *rows, Input *in) {
+    static uint8_t expected[MOST_CHARS];
+    size_t len = first ? 0 : expected_left(expected, trace);
+    Room written = lend(&of_written, enough(1, 8, in), in), out = lend(&of_compact, enough(len, 1, in), in);
+    uint64_t given = nyo_compact(trace->at, trace->bytes, depth, sites, out.at, out.bytes, numbers(&written),
+                                 written.bytes / 8);
+    count(38, given);
+    if (NYO_NUMBER(first) >= 1 && NYO_NUMBER(first) <= 3) MUST(given == first);
+    else if (written.bytes < 8) MUST(given == 4);
+    else if (first == 4) MUST(given != 4);
+    else if (first) MUST(given == first);
+    else MUST(given == (out.bytes < len ? 21 : 0));
+    if (given) MUST(kept_from(&out, 0) && kept_from(&written, 0));
+    if (given || first) return;
+    MUST(numbers(&written)[0] == len && kept_from(&written, 8));
+    MUST(!memcmp(out.at, expected, len) && kept_from(&out, len));
+    MUST(len <= NYO_COMPACT_CHARS(trace->bytes));
+    says_as_much(out.at, len, depth, sites, answer, rows);
+}
+
+/* Both engines on one trace, its folded stacks, its forecasts, and what is left of it. */
 static void profile(const Room *trace, Input *lists, Input *in) {
     static uint64_t first_rows[NYO_ROWS(NYO_MOST_SITES)];
     unsigned limits = next(in);
@@ -597,6 +666,7 @@ static void profile(const Room *trace, Input *lists, Input *in) {
 
     fold(trace, depth, sites, first, first_answer[2], lists, in);
     for (int marked = 0; marked < 2; marked++) forecast(trace, marked, depth, sites, lists, in);
+    compact(trace, depth, sites, first, first_answer, first_rows, in);
     scratch = lend(&of_scratch, enough(NYO_MARKS_SCRATCH(d), 8, in), in), rows = lend(&of_rows, enough(NYO_ROWS(m), 8, in), in);
     answer = lend(&of_answer, enough(NYO_ANSWER, 8, in), in);
     Room marks = lend(&of_marks, enough(lines, 1, in), in);

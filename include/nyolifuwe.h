@@ -76,27 +76,31 @@ enum { NYO_CALLS, NYO_WORK, NYO_SPAN, NYO_LOCAL, NYO_ON_SPAN };
  * longest and each with a semicolon or space behind it, a cost of 10 figures and a line feed. */
 #define NYO_FOLDED_CHARS(costs, depth, longest) ((size_t)(costs) * ((size_t)(depth) * ((size_t)(longest) + 1) + 11))
 
+/* Characters of the compacted trace of a trace at most: it is never longer. */
+#define NYO_COMPACT_CHARS(trace_len) ((size_t)(trace_len))
+
 /* The refusals. 13 is not in use. */
 enum {
-    NYO_LIMITS = 1,       /* depth, sites, count, number or line outside its range */
-    NYO_LENGTH = 2,       /* length not a multiple of 23; for one line, not 23 */
-    NYO_TOO_MANY = 3,     /* more than 65,536 lines */
-    NYO_ROOM = 4,         /* a lent slice is shorter than stated */
-    NYO_CHARACTER = 5,    /* a wrong character in the line */
-    NYO_TABLE = 6,        /* unknown kind, unused field not zero, or a value outside the table */
-    NYO_AFTER_END = 7,    /* a line after the root's return */
-    NYO_SITE_ORDER = 8,   /* a site line after another kind, or not numbered one above the last */
-    NYO_SITE_LIMIT = 9,   /* a site line whose number is above the site limit */
-    NYO_PLACE = 10,       /* a place already declared */
-    NYO_UNDECLARED = 11,  /* call or spawn of site 0 or of one not declared */
-    NYO_DEPTH = 12,       /* more invocations open than the depth limit */
-    NYO_UNFINISHED = 14,  /* lines end before the root's return; the line is the number of lines */
-    NYO_CSV_RECORD = 15,  /* a record of comma-separated text is not good or is missing; the line is its number, header 0 */
-    NYO_CSV_ROOM = 16,    /* output shorter than comma-separated text, or room for fewer rows than it has */
-    NYO_NAME = 17,        /* the name shown for a row is bad or missing from both lists; the line is the row */
-    NYO_FOLDED_ROOM = 18, /* output shorter than the folded stacks */
-    NYO_ENTRIES = 19,     /* a list of forecast entries too long, its rows not strictly ascending, or one not declared */
-    NYO_FACTOR = 20       /* a forecast entry's factor outside 2 to 1,000 */
+    NYO_LIMITS = 1,        /* depth, sites, count, number or line outside its range */
+    NYO_LENGTH = 2,        /* length not a multiple of 23; for one line, not 23 */
+    NYO_TOO_MANY = 3,      /* more than 65,536 lines */
+    NYO_ROOM = 4,          /* a lent slice is shorter than stated */
+    NYO_CHARACTER = 5,     /* a wrong character in the line */
+    NYO_TABLE = 6,         /* unknown kind, unused field not zero, or a value outside the table */
+    NYO_AFTER_END = 7,     /* a line after the root's return */
+    NYO_SITE_ORDER = 8,    /* a site line after another kind, or not numbered one above the last */
+    NYO_SITE_LIMIT = 9,    /* a site line whose number is above the site limit */
+    NYO_PLACE = 10,        /* a place already declared */
+    NYO_UNDECLARED = 11,   /* call or spawn of site 0 or of one not declared */
+    NYO_DEPTH = 12,        /* more invocations open than the depth limit */
+    NYO_UNFINISHED = 14,   /* lines end before the root's return; the line is the number of lines */
+    NYO_CSV_RECORD = 15,   /* a record of comma-separated text is not good or is missing; the line is its number, header 0 */
+    NYO_CSV_ROOM = 16,     /* output shorter than comma-separated text, or room for fewer rows than it has */
+    NYO_NAME = 17,         /* the name shown for a row is bad or missing from both lists; the line is the row */
+    NYO_FOLDED_ROOM = 18,  /* output shorter than the folded stacks */
+    NYO_ENTRIES = 19,      /* a list of forecast entries too long, its rows not strictly ascending, or one not declared */
+    NYO_FACTOR = 20,       /* a forecast entry's factor outside 2 to 1,000 */
+    NYO_COMPACT_ROOM = 21  /* output shorter than the compacted trace */
 };
 
 /* Profiles a trace with the table engine.
@@ -205,6 +209,17 @@ uint64_t nyo_csv_read(const uint8_t *text, size_t text_len, uint64_t *rows, size
 uint64_t nyo_folded(const uint8_t *trace, size_t trace_len, uint64_t depth, uint64_t sites, const uint8_t *project,
                     size_t project_len, const uint8_t *stock, size_t stock_len, uint64_t *scratch, size_t scratch_len,
                     uint8_t *out, size_t out_len, uint64_t *written, size_t written_len);
+
+/* Writes a trace without the lines that say nothing, and into written[0] how many characters are left. Dropped is each
+ * sync with no spawn directly in its invocation since that invocation's start or last sync, and each with only syncs
+ * between it and its return; then adjacent cost lines merge from the left while the sum is at most 4,294,967,295. What
+ * is left is a trace that is accepted with the same limits; its work, span, sites and rows are those of the trace, its
+ * lines and marks its own. Its digits have small letters, and compacting it again leaves it as it is.
+ *   out      the result's own length; NYO_COMPACT_CHARS(trace_len) is always enough
+ *   written  1
+ * Refusals: those of nyo_tables, with 4 for written too short, then 21 with line 0 for output too short. */
+uint64_t nyo_compact(const uint8_t *trace, size_t trace_len, uint64_t depth, uint64_t sites, uint8_t *out,
+                     size_t out_len, uint64_t *written, size_t written_len);
 
 #ifdef __cplusplus
 }

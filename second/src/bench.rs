@@ -1,7 +1,8 @@
 //! Timings: the proved engines, the plain one, the script and a pass that only sums the bytes, on the same traces in one run;
-//! and the proved writer of folded stacks and the proved forecasts beside plain ones.
+//! and the proved writer of folded stacks, the proved forecasts and the proved compactor beside plain ones.
 
 pub mod clock;
+pub mod compacting;
 pub mod folding;
 pub mod forecasting;
 pub mod table;

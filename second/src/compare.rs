@@ -1,6 +1,7 @@
 //! The comparison: cases, what each program makes of them, and the smallest case in which two programs differ.
 
 pub mod case;
+pub mod compacts;
 pub mod damage;
 pub mod fixed;
 pub mod forecasts;

@@ -37,7 +37,7 @@ pub fn write(trace: &[u8], limits: Limits, lists: [&[u8]; 2], lent: Lent) -> Res
 
 /// "for each cost line the names from root to innermost invocation joined by `;`, a space, the cost in decimal, a line feed"
 fn folded(shape: &Shape, names: &[&str], line: usize) -> String {
-    let innermost = &shape.invocations[shape.directly_in[line].expect("a cost line is in an invocation")];
+    let innermost = shape.invocation_of(line);
     let mut stack = vec![names[innermost.row]];
     stack.extend(shape.around(innermost).map(|around| names[around.row]));
     stack.reverse();

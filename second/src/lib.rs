@@ -12,6 +12,7 @@
 pub mod bench;
 pub mod chain;
 pub mod check;
+pub mod compact;
 pub mod compare;
 pub mod folded;
 pub mod forecast;

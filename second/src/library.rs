@@ -1,4 +1,4 @@
-//! The eleven functions of the C interface, and the second program behind them.
+//! The functions of the C interface, and the second program behind them.
 //!
 //! Each answers 0 for accepted and otherwise number + 256 · line, and a refusal leaves everything lent as it was. The
 //! interface lends some slices that the rules do not speak of: the answer, the frame, the count of characters written
@@ -6,6 +6,7 @@
 
 use crate::chain::{self, Chains};
 use crate::check::{self, Lent, Limits};
+use crate::compact;
 use crate::folded;
 use crate::forecast::{self, Entry};
 use crate::graph;
@@ -75,6 +76,8 @@ pub trait Library {
         out: &mut [u8],
         written: &mut [u64],
     ) -> u64;
+    /// The compactor.
+    fn compact(&self, trace: &[u8], limits: Limits, out: &mut [u8], written: &mut [u64]) -> u64;
 }
 
 /// The second program, with the way in which it looks for chains.
@@ -223,6 +226,14 @@ impl Library for Second {
         code(folded::write(trace, limits, lists, lent).map(|text| {
             scratch.fill(0);
             put(out, text.as_bytes());
+            written[0] = text.len() as u64;
+        }))
+    }
+
+    fn compact(&self, trace: &[u8], limits: Limits, out: &mut [u8], written: &mut [u64]) -> u64 {
+        let lent = compact::Lent { out: out.len(), written: written.len() };
+        code(compact::write(trace, limits, lent).map(|text| {
+            put(out, &text);
             written[0] = text.len() as u64;
         }))
     }

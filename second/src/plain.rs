@@ -6,6 +6,8 @@
 //! the lines that lead into the heaviest branch and out of it are told so; then a walk along those that are left is the
 //! chosen chain. What a cost line weighs is a parameter that the compiler fills in: its value, or by forecast entries.
 
+mod checks;
+pub mod compact;
 pub mod folded;
 
 use crate::check::{before_lines, Lent, Limits};
@@ -77,6 +79,7 @@ const WORTH: [u8; 256] = {
 };
 
 /// The fields of a line.
+#[derive(Clone, Copy)]
 struct Fields {
     kind: u8,
     site: u16,
@@ -86,6 +89,11 @@ struct Fields {
 }
 
 impl Fields {
+    /// A line of a kind with nothing in it.
+    fn of(kind: u8) -> Fields {
+        Fields { kind, site: 0, value: 0, file: 0, column: 0 }
+    }
+
     /// Refusals 5 and 6.
     fn read(chars: &[u8; CHARS]) -> Result<Fields, Ground> {
         let mut all = 0;

@@ -42,6 +42,8 @@ pub enum Ground {
     Entries = 19,
     /// "factor outside its range"
     Factor = 20,
+    /// "output shorter than the result"
+    CompactRoom = 21,
 }
 
 /// "Refused: a number and a line."

@@ -60,6 +60,14 @@ impl Shape {
         self.lines[lines].iter().map(Line::cost).sum()
     }
 
+    /// The invocation that a line is directly in; a site line is in none.
+    ///
+    /// # Panics
+    /// On a site line.
+    pub fn invocation_of(&self, line: usize) -> &Invocation {
+        &self.invocations[self.directly_in[line].expect("a line behind the sites")]
+    }
+
     /// The invocations that enclose one, from the one that made it out to the root.
     pub fn around<'a>(&'a self, own: &Invocation) -> impl Iterator<Item = &'a Invocation> {
         successors(self.maker(own), |around| self.maker(around))

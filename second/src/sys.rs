@@ -115,6 +115,16 @@ extern "C" {
         written: *mut u64,
         written_len: usize,
     ) -> u64;
+    fn nyo_compact(
+        trace: *const u8,
+        trace_len: usize,
+        depth: u64,
+        sites: u64,
+        out: *mut u8,
+        out_len: usize,
+        written: *mut u64,
+        written_len: usize,
+    ) -> u64;
 }
 
 /// The proved library.
@@ -284,5 +294,12 @@ impl Library for Proved {
                 written.len(),
             )
         }
+    }
+
+    fn compact(&self, trace: &[u8], limits: Limits, out: &mut [u8], written: &mut [u64]) -> u64 {
+        let (out_len, written_len) = (out.len(), written.len());
+        let (out, written) = (out.as_mut_ptr(), written.as_mut_ptr());
+        let (depth, sites) = (limits.depth, limits.sites);
+        unsafe { nyo_compact(trace.as_ptr(), trace.len(), depth, sites, out, out_len, written, written_len) }
     }
 }

@@ -2,6 +2,7 @@
 
 use second::chain::Chains;
 use second::check::{self, Limits};
+use second::compact;
 use second::compare::case::{Case, Question};
 use second::compare::fixed::{self, TWELVE, TWELVE_LIMITS};
 use second::compare::{compare, gain, generate, Difference};
@@ -9,6 +10,7 @@ use second::forecast::Entry;
 use second::graph;
 use second::library::{Library, Second};
 use second::line::{chars, Kind, Line, CHARS};
+use second::refusal::{Ground, Refusal};
 use second::rows::{COLUMNS, WORK};
 use second::shape::{Invocation, Shape, Start};
 use second::trace::events;
@@ -16,15 +18,22 @@ use std::cmp::Ordering;
 
 /// The first difference among generated cases.
 fn first_difference(wrong: &dyn Library) -> Difference {
-    let cases = (0..20_000).map(|number| generate::case(1, number));
-    let found = cases.into_iter().find_map(|case| compare(&case, &Second::new(), &[("the stand-in", wrong)]));
+    first_difference_where(wrong, |_| true)
+}
+
+/// The first difference among the generated cases that ask such a question.
+fn first_difference_where(wrong: &dyn Library, asks: fn(&Question) -> bool) -> Difference {
+    let mut cases = (0..30_000).map(|number| generate::case(1, number)).filter(|case| asks(&case.question));
+    let found = cases.find_map(|case| compare(&case, &Second::new(), &[("the stand-in", wrong)]));
     *found.expect("a difference")
 }
 
 /// The events of the trace that the first difference shrank to.
 fn smallest_events(wrong: &dyn Library) -> String {
     match first_difference(wrong).case.question {
-        Question::Engines { trace, .. } | Question::Forecast { trace, .. } => events(&trace).expect("good lines"),
+        Question::Engines { trace, .. } | Question::Forecast { trace, .. } | Question::Compact { trace, .. } => {
+            events(&trace).expect("good lines")
+        }
         other => panic!("a difference on a trace, not on {other:?}"),
     }
 }
@@ -83,7 +92,11 @@ fn is_sync(shape: &Shape, line: usize) -> bool {
 #[test]
 fn the_stand_in_with_the_right_rules_is_right() {
     let right = Second { search: |shape| chains(shape, Shape::parallel, first) };
-    let cases = (0..2_000).map(|number| generate::case(1, number));
+    let short = |case: &Case| match &case.question {
+        Question::Engines { trace, .. } | Question::Compact { trace, .. } => trace.len() <= 300 * CHARS,
+        _ => true,
+    };
+    let cases = (0..2_000).map(|number| generate::case(1, number)).filter(short);
     let alike = |case| compare(&case, &Second::new(), &[("the stand-in", &right)]).is_none();
     assert!(cases.into_iter().all(alike));
 }
@@ -155,7 +168,11 @@ struct Wrong {
     sheet: fn(&mut Vec<u8>),
     lists: fn([&[u8]; 2]) -> [Vec<u8>; 2],
     asked: Asked,
+    compactor: Compactor,
 }
+
+/// What is left of a trace in some room, or the refusal.
+type Compactor = fn(&[u8], Limits, compact::Lent) -> Result<Vec<u8>, Refusal>;
 
 impl Default for Wrong {
     fn default() -> Wrong {
@@ -165,6 +182,7 @@ impl Default for Wrong {
             sheet: |_| (),
             lists: |lists| lists.map(<[u8]>::to_vec),
             asked: |trace, entries| (trace.to_vec(), entries.to_vec()),
+            compactor: compact::write,
         }
     }
 }
@@ -256,6 +274,23 @@ impl Library for Wrong {
         let [project, stock] = (self.lists)(lists);
         Second::by_paths().folded(trace, limits, [&project, &stock], scratch, out, written)
     }
+
+    fn compact(&self, trace: &[u8], limits: Limits, out: &mut [u8], written: &mut [u64]) -> u64 {
+        let lent = compact::Lent { out: out.len(), written: written.len() };
+        match (self.compactor)(trace, limits, lent) {
+            Err(refusal) => refusal.number() + 256 * refusal.line,
+            Ok(text) => {
+                out[..text.len()].copy_from_slice(&text);
+                written[0] = text.len() as u64;
+                0
+            }
+        }
+    }
+}
+
+/// What the first difference on a plain profile says, where the stand-in does something wrong before or after it.
+fn engines_difference(wrong: &Wrong) -> String {
+    first_difference_where(wrong, |question| matches!(question, Question::Engines { .. })).to_string()
 }
 
 #[test]
@@ -265,14 +300,14 @@ fn keying_a_site_by_part_of_its_place() {
             line[18..22].copy_from_slice(b"0001");
         }
     };
-    let told = first_difference(&Wrong { before, ..Wrong::default() }).to_string();
+    let told = engines_difference(&Wrong { before, ..Wrong::default() });
     assert!(told.contains("table engine: second"), "{told}");
 }
 
 #[test]
 fn refusing_capital_digits() {
     let before = |trace: &mut Vec<u8>| trace.iter_mut().filter(|c| c.is_ascii_uppercase()).for_each(|c| *c = b'G');
-    let told = first_difference(&Wrong { before, ..Wrong::default() }).to_string();
+    let told = engines_difference(&Wrong { before, ..Wrong::default() });
     assert!(told.contains("table engine: second ") && told.contains("the stand-in refused 5 at line"), "{told}");
 }
 
@@ -283,7 +318,7 @@ fn a_scratch_number_left_over() {
             *last = 1;
         }
     };
-    let told = first_difference(&Wrong { after, ..Wrong::default() }).to_string();
+    let told = engines_difference(&Wrong { after, ..Wrong::default() });
     assert!(told.contains("table engine's scratch, number 11: second 0, the stand-in 1"), "{told}");
 }
 
@@ -294,7 +329,7 @@ fn a_row_cleared_that_no_site_has() {
             rows[COLUMNS * (answer[2] as usize + 1)..].fill(0);
         }
     };
-    let told = first_difference(&Wrong { after, ..Wrong::default() }).to_string();
+    let told = engines_difference(&Wrong { after, ..Wrong::default() });
     assert!(told.contains("table engine's rows, number 5: second "), "{told}");
 }
 
@@ -313,7 +348,8 @@ fn counting_enclosed_invocations() {
         count_enclosed(trace, code, rows, |_, _| true);
     };
     let smallest = smallest_events(&Wrong { after, ..Wrong::default() });
-    assert_eq!(smallest.replace("spawn", "call"), "call 1 {call 1 {1}}");
+    let mut of_each = (1..=4).map(|site| format!("call {site} {{call {site} {{1}}}}"));
+    assert!(of_each.any(|right| right == smallest.replace("spawn", "call")), "{smallest}");
 }
 
 #[test]
@@ -334,7 +370,7 @@ fn an_answer_written_with_a_refusal() {
             *work = 0;
         }
     };
-    let told = first_difference(&Wrong { after, ..Wrong::default() }).to_string();
+    let told = engines_difference(&Wrong { after, ..Wrong::default() });
     assert!(told.contains("table engine's answer, number 0: second "), "{told}");
 }
 
@@ -438,8 +474,9 @@ fn dividing_and_rounding_down() {
         costs_by(trace, entries, |shape, entries, n| (shape.lines[n].value / factor(shape, entries, n)).max(1))
     });
     let told = told.replace("spawn", "call");
-    let smallest = [("0/2\n", " (3):"), ("1/2\n", " (call 1 {3}):")];
-    assert!(smallest.iter().any(|(entry, events)| told.contains(entry) && told.contains(events)), "{told}");
+    let of_site = |site| (format!("{site}/2\n"), format!(" (call {site} {{3}}):"));
+    let mut smallest = (1..=4).map(of_site).chain([("0/2\n".into(), " (3):".into())]);
+    assert!(smallest.any(|(entry, events)| told.contains(&entry) && told.contains(&events)), "{told}");
 }
 
 #[test]
@@ -536,4 +573,115 @@ fn a_forecast_that_halves_every_cost() {
     ] {
         assert!(broken.contains(&law), "{broken:?}");
     }
+}
+
+/// A compactor by a rule of which syncs are dropped and a rule of which two costs merge.
+fn compactor(
+    trace: &[u8],
+    limits: Limits,
+    lent: compact::Lent,
+    dropped: impl Fn(&Shape, usize) -> bool,
+    merge: fn(u64, u64) -> bool,
+) -> Result<Vec<u8>, Refusal> {
+    let shape = check::read(trace, limits, |_| lent.written < 1)?;
+    let mut left: Vec<Line> = vec![];
+    for (number, line) in shape.lines.iter().enumerate() {
+        let is_cost = |line: &Line| line.kind == Kind::Cost;
+        match left.last_mut() {
+            _ if is_sync(&shape, number) && dropped(&shape, number) => (),
+            Some(last) if is_cost(last) && is_cost(line) && merge(last.value, line.value) => last.value += line.value,
+            _ => left.push(*line),
+        }
+    }
+    let text: Vec<u8> = left.iter().flat_map(|line| chars(&line.fields())).collect();
+    Some(text).filter(|text| text.len() <= lent.out).ok_or(Ground::CompactRoom.at(0))
+}
+
+/// Whether a spawn stands before a sync, since the start of its invocation or the last sync, among the lines that
+/// count.
+fn spawned_since(shape: &Shape, sync: usize, counts: fn(&Shape, usize, usize) -> bool) -> bool {
+    let first = shape.invocation_of(sync).first;
+    let kinds = (first..sync).rev().filter(|&line| counts(shape, line, sync)).map(|line| shape.lines[line].kind);
+    kinds.take_while(|kind| *kind != Kind::Sync).any(|kind| kind == Kind::Spawn)
+}
+
+fn directly_beside(shape: &Shape, line: usize, sync: usize) -> bool {
+    shape.directly_in[line] == shape.directly_in[sync]
+}
+
+/// "only syncs between it and its return"
+fn last_in_its_body(shape: &Shape, sync: usize) -> bool {
+    (sync + 1..shape.invocation_of(sync).last).all(|line| is_sync(shape, line))
+}
+
+/// The rule of the request.
+fn says_nothing(shape: &Shape, sync: usize) -> bool {
+    !spawned_since(shape, sync, directly_beside) || last_in_its_body(shape, sync)
+}
+
+fn fits(a: u64, b: u64) -> bool {
+    a + b <= 0xffff_ffff
+}
+
+/// The events of the trace that the first difference between compactors shrank to.
+fn compacted_difference(compactor: Compactor) -> String {
+    smallest_events(&Wrong { compactor, ..Wrong::default() })
+}
+
+#[test]
+fn the_compactor_with_the_right_rules_is_right() {
+    let right = Wrong {
+        compactor: |trace, limits, lent| compactor(trace, limits, lent, says_nothing, fits),
+        ..Wrong::default()
+    };
+    let cases = (0..5_000).map(|number| generate::case(1, number));
+    let alike = |case| compare(&case, &Second::new(), &[("the stand-in", &right)]).is_none();
+    assert!(cases.into_iter().all(alike));
+}
+
+#[test]
+fn keeping_a_sync_before_a_return() {
+    let smallest = compacted_difference(|trace, limits, lent| {
+        compactor(trace, limits, lent, |shape, sync| !spawned_since(shape, sync, directly_beside), fits)
+    });
+    assert_eq!(smallest, "spawn 1 {}, sync");
+}
+
+#[test]
+fn taking_a_childs_spawn_for_its_callers() {
+    let smallest = compacted_difference(|trace, limits, lent| {
+        let counts = |shape: &Shape, line: usize, sync: usize| {
+            shape.lines[line].kind == Kind::Spawn || directly_beside(shape, line, sync)
+        };
+        let dropped = |shape: &Shape, sync: usize| !spawned_since(shape, sync, counts) || last_in_its_body(shape, sync);
+        compactor(trace, limits, lent, dropped, fits)
+    });
+    assert!(smallest.starts_with("call 1 {spawn 1 {}}, sync, "), "{smallest}");
+}
+
+#[test]
+fn taking_a_childs_sync_for_its_callers() {
+    let smallest = compacted_difference(|trace, limits, lent| {
+        let counts =
+            |shape: &Shape, line: usize, sync: usize| is_sync(shape, line) || directly_beside(shape, line, sync);
+        let dropped = |shape: &Shape, sync: usize| !spawned_since(shape, sync, counts) || last_in_its_body(shape, sync);
+        compactor(trace, limits, lent, dropped, fits)
+    });
+    assert!(smallest.starts_with("spawn 1 {") && smallest.contains("sync}, sync, "), "{smallest}");
+}
+
+#[test]
+fn merging_no_costs() {
+    let smallest =
+        compacted_difference(|trace, limits, lent| compactor(trace, limits, lent, says_nothing, |_, _| false));
+    assert_eq!(smallest, "1, 1");
+}
+
+#[test]
+fn a_sum_of_the_greatest_value_taken_for_one_that_does_not_fit() {
+    let smallest = compacted_difference(|trace, limits, lent| {
+        compactor(trace, limits, lent, says_nothing, |a, b| a + b < 0xffff_ffff)
+    });
+    let costs: Vec<u64> = smallest.split(", ").map(|cost| cost.parse().expect("a cost")).collect();
+    assert_eq!(costs.iter().sum::<u64>(), 0xffff_ffff, "{smallest}");
 }

@@ -21,7 +21,7 @@ fn verdicts(cases: impl Iterator<Item = Case>) -> BTreeMap<u64, u32> {
 
 #[test]
 fn every_verdict_is_reached() {
-    let cases = (0..20_000).map(|number| generate::case(1, number));
+    let cases = (0..40_000).map(|number| generate::case(1, number));
     let verdicts = verdicts(cases.filter(|case| matches!(case.question, Question::Engines { .. })));
     println!("{verdicts:?}");
     for verdict in [0, 1, 2, 4, 5, 6, 7, 8, 9, 10, 11, 12, 14] {
@@ -31,7 +31,7 @@ fn every_verdict_is_reached() {
 
 #[test]
 fn every_verdict_on_a_sheet_is_reached() {
-    let cases = || (0..20_000).map(|number| generate::case(1, number));
+    let cases = || (0..40_000).map(|number| generate::case(1, number));
     let writes = verdicts(cases().filter(|case| matches!(case.question, Question::WriteSheet { .. })));
     let reads = verdicts(cases().filter(|case| matches!(case.question, Question::ReadSheet { .. })));
     println!("{writes:?} {reads:?}");
@@ -45,7 +45,7 @@ fn every_verdict_on_a_sheet_is_reached() {
 
 #[test]
 fn every_verdict_on_folded_stacks_is_reached() {
-    let cases = (0..20_000).map(|number| generate::case(1, number));
+    let cases = (0..40_000).map(|number| generate::case(1, number));
     let verdicts = verdicts(cases.filter(|case| matches!(case.question, Question::Folded { .. })));
     println!("{verdicts:?}");
     for verdict in [0, 1, 2, 4, 5, 6, 7, 8, 9, 10, 11, 12, 14, 17, 18] {
@@ -56,7 +56,7 @@ fn every_verdict_on_folded_stacks_is_reached() {
 
 #[test]
 fn every_verdict_on_a_forecast_is_reached() {
-    let cases = (0..20_000).map(|number| generate::case(1, number));
+    let cases = (0..40_000).map(|number| generate::case(1, number));
     let verdicts = verdicts(cases.filter(|case| matches!(case.question, Question::Forecast { .. })));
     println!("{verdicts:?}");
     for verdict in [0, 1, 2, 4, 5, 6, 7, 8, 9, 10, 11, 12, 14, 19, 20] {
@@ -71,7 +71,7 @@ fn every_verdict_on_a_forecast_is_reached() {
 fn forecasts_gain_and_do_not_gain() {
     let wide = Limits { depth: 64, sites: 255 };
     let mut times = [0; 6];
-    for number in 0..20_000 {
+    for number in 0..40_000 {
         let Question::Forecast { trace, entries, .. } = generate::case(1, number).question else { continue };
         let lent = wide.for_marks(trace.len() / 23);
         let Ok(forecast) = Second::by_paths().forecast(&trace, wide, &entries, &lent) else { continue };
@@ -92,12 +92,26 @@ fn forecasts_gain_and_do_not_gain() {
 }
 
 #[test]
+fn every_verdict_on_a_compaction_is_reached() {
+    let cases = (0..40_000).map(|number| generate::case(1, number));
+    let verdicts = verdicts(cases.filter(|case| matches!(case.question, Question::Compact { .. })));
+    println!("{verdicts:?}");
+    for verdict in [0, 1, 2, 4, 5, 6, 7, 8, 9, 10, 11, 12, 14, 21] {
+        assert!(verdicts.get(&verdict).is_some_and(|&times| times >= 5), "{verdict}: {verdicts:?}");
+    }
+    assert!([0, 21].iter().all(|verdict| verdicts[verdict] >= 100), "{verdicts:?}");
+}
+
+#[test]
 fn good_traces_reach_the_limits() {
     let wide = Limits { depth: 64, sites: 255 };
     let room: Lent = wide.for_tables();
     let mut reached = [false; 3];
-    for number in 0..20_000 {
-        let Question::Engines { trace, .. } = generate::case(2, number).question else { continue };
+    for number in 0..40_000 {
+        let (Question::Engines { trace, .. } | Question::Compact { trace, .. }) = generate::case(2, number).question
+        else {
+            continue;
+        };
         let Ok(profile) = Second::by_paths().profile(&trace, wide, &room) else { continue };
         let shallow = Limits { depth: 63, ..wide };
         reached[0] |= Second::by_paths().profile(&trace, shallow, &room).is_err();
@@ -131,7 +145,7 @@ fn recursion(shape: &Shape) -> [bool; 5] {
 fn sites_call_themselves_in_every_form() {
     let wide = Limits { depth: 64, sites: 255 };
     let mut times = [0; 5];
-    for number in 0..20_000 {
+    for number in 0..40_000 {
         let Question::Engines { trace, .. } = generate::case(1, number).question else { continue };
         let Ok(shape) = check::trace(&trace, wide, &wide.for_tables()) else { continue };
         let forms = recursion(&shape);

@@ -1,5 +1,6 @@
 //! The examples print what their page says, and the page says what was worked out by hand.
 
+use second::compact;
 use second::folded;
 use second::forecast::Entry;
 use second::library::Second;
@@ -121,6 +122,25 @@ fn case_i_with_site_2_halved_is_on_the_page() {
     assert_eq!(rows, [[1, 7, 6, 2, 2], [1, 5, 4, 1, 0], [1, 4, 4, 4, 4]]);
     assert_eq!(answer, [7, 6, 2, 10]);
     assert!(forecasts().contains(&report::report(rows.as_flattened(), 2, 255).expect("room enough")));
+}
+
+#[test]
+fn the_wordy_trace_is_on_the_page_and_compacts_as_worked_out_by_hand() {
+    let report = example("wordy.trace");
+    // 2^32 = 4294967296 are the last two costs of the root together.
+    let most = 1 << 32;
+    let root = [1, most + 36, most + 26, most + 10, most + 8];
+    assert_eq!(rows(&report), [root, [1, 11, 11, 11, 11], [2, 15, 15, 15, 7]]);
+    assert_eq!(example("wordy-compact.trace"), report);
+    assert_eq!(page().matches(&report).count(), 2);
+    let compact = |name: &str, out| {
+        let text = compact::write(&file(name), LIMITS, compact::Lent { out, written: 1 });
+        text.map_err(|refusal| (refusal.number(), refusal.line))
+    };
+    assert_eq!(compact("wordy.trace", 414), Ok(file("wordy-compact.trace")));
+    assert_eq!(compact("wordy-compact.trace", 414), Ok(file("wordy-compact.trace")));
+    assert_eq!(compact("proxy.trace", 9999), Ok(file("proxy.trace")));
+    assert_eq!(compact("wordy.trace", 413), Err((21, 0)));
 }
 
 #[test]

@@ -1,6 +1,8 @@
-//! The plain engine, its forecast and the plain writer of folded stacks give what the second program gives.
+//! The plain engine, its forecast, the plain writer of folded stacks and the plain compactor give what the second program
+//! gives.
 
 use second::check::Limits;
+use second::compact;
 use second::compare::case::{Case, Question};
 use second::compare::{fixed, generate};
 use second::folded;
@@ -28,7 +30,7 @@ fn on_the_fixed_traces() {
 
 #[test]
 fn on_generated_traces() {
-    assert!(alike((0..40_000).map(|number| generate::case(3, number))) > 20_000);
+    assert!(alike((0..50_000).map(|number| generate::case(3, number))) > 20_000);
 }
 
 /// Holds the plain forecast against the second program on the entries among some cases, and counts them.
@@ -52,7 +54,7 @@ fn on_the_fixed_entries() {
 
 #[test]
 fn on_generated_entries() {
-    assert!(forecast_alike((0..40_000).map(|number| generate::case(3, number))) > 5_000);
+    assert!(forecast_alike((0..50_000).map(|number| generate::case(3, number))) > 5_000);
 }
 
 /// Holds the plain writer of folded stacks against the second program on the lists among some cases, with just enough room
@@ -83,5 +85,35 @@ fn on_the_fixed_lists() {
 
 #[test]
 fn on_generated_lists() {
-    assert!(folded_alike((0..40_000).map(|number| generate::case(3, number))) > 5_000);
+    assert!(folded_alike((0..50_000).map(|number| generate::case(3, number))) > 5_000);
+}
+
+/// Holds the plain compactor against the second program on the traces among some cases, with just enough room and one
+/// character less, and counts them.
+fn compacts_alike(cases: impl IntoIterator<Item = Case>) -> usize {
+    let mut count = 0;
+    for case in cases {
+        let Question::Compact { trace, limits, .. } = &case.question else { continue };
+        let right = compact::write(trace, *limits, compact::Lent::ALL);
+        let mut out = vec![0; right.as_ref().map_or(0, Vec::len)];
+        let found = plain::compact::write(trace, *limits, &mut out).map(|length| out[..length].to_vec());
+        assert_eq!(found, right, "{case}");
+        if let Some((_, less)) = out.split_last_mut() {
+            let refused = plain::compact::write(trace, *limits, less).map_err(|refusal| refusal.number());
+            assert_eq!(refused, Err(21), "{case}");
+        }
+        count += 1;
+    }
+    count
+}
+
+#[test]
+fn on_the_fixed_compactions() {
+    // 44 traces by hand, 5 long ones and 18 that are refused, in six rooms.
+    assert_eq!(compacts_alike(fixed::cases()), 6 * (44 + 5 + 18));
+}
+
+#[test]
+fn on_generated_compactions() {
+    assert!(compacts_alike((0..50_000).map(|number| generate::case(3, number))) > 5_000);
 }

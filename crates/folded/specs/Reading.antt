@@ -5,7 +5,8 @@ use mathlib.Core.Bool.{cond}
 use mathlib.Core.List.{List, [], _∷_, _++_, map}
 use lib.Dec.{eqb}
 use Rattle.line.specs.declared.Frame.{Frame}
-use Rattle.folded.specs.Text.{ifCost, rowsAt, rootFirst}
+use Rattle.trace.specs.Shape.{ifCost}
+use Rattle.folded.specs.Text.{rowsAt, rootFirst}
 
 pub record Stack : Type 0 where
   pub names : List (List ℕ)

@@ -4,9 +4,10 @@ use mathlib.Core.Path.{_≡_}
 use mathlib.Core.List.{List, [], _∷_, _++_, map}
 use lib.ListN.{length}
 use Rattle.line.specs.declared.Frame.{Frame}
+use Rattle.trace.specs.Shape.{ifCost}
 use Rattle.weigh.specs.Weighed.{rowStep}
 use Rattle.walk.specs.Stands.{Stands}
-use Rattle.folded.specs.Text.{ifCost, rootFirst, joined, costText}
+use Rattle.folded.specs.Text.{rootFirst, joined, costText}
 use Rattle.folded.specs.Reading.{Stack}
 
 -- the names of open rows, joined

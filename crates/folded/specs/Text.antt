@@ -3,17 +3,7 @@ use Prim.Native.Nat.{ℕ, zero, suc}
 use mathlib.Core.List.{List, [], _∷_, _++_, map}
 use Rattle.digits.specs.Decimal.{decimal}
 use Rattle.line.specs.declared.Frame.{Frame}
-use Rattle.line.specs.declared.Frame.the-variants.{Site, Call, Spawn, Sync, Return, Cost}
-use Rattle.trace.specs.Shape.{ifMakes, openAt}
-
--- a: what is said of a cost line, by its value; b: of any other line
-abbrev pub ifCost : {A : Type 0} → (ℕ → A) → A → Frame → A
-ifCost a b (Site s p) = b
-ifCost a b (Call s) = b
-ifCost a b (Spawn s) = b
-ifCost a b Sync = b
-ifCost a b Return = b
-ifCost a b (Cost v) = a v
+use Rattle.trace.specs.Shape.{ifMakes, ifCost, openAt}
 
 -- the site of the call or spawn at line k
 abbrev pub siteOn : List Frame → ℕ → ℕ

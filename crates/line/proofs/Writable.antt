@@ -7,7 +7,7 @@ use mathlib.Core.Path.{_≡_, refl, ap, _∙_, sym}
 use native.Mathlib.Omega.{arith}
 use borrow.Author.Tests.{lt-ltb, le-leb}
 use lib.Dec.{leb}
-use lib.ListN.{replicate}
+use lib.ListN.{length, replicate}
 use Rattle.line.specs.declared.Frame.{Frame}
 use Rattle.line.specs.declared.Frame.the-variants.{Site, Call, Spawn, Cost}
 use Rattle.line.specs.declared.Place.{Place}
@@ -37,3 +37,11 @@ pub writes : (f : Frame) (b : Bool) (a : Wrote) (l : List ℕ) → writable f �
     → (a ≡ cond b (Chars 23) (Refused 6 0)) × (l ≡ cond b (chars (fieldsOf f)) (replicate 23 0))
     → (a ≡ writeAnswer f) × (l ≡ writeChars f)
 writes f b a l e (g, h) = (g ∙ ap (λ (x : Bool). cond x (Chars 23) (Refused 6 0)) (sym e), h ∙ ap (λ (x : Bool). cond x (chars (fieldsOf f)) (replicate 23 0)) (sym e))
+
+-- "gives 23 characters", beside a refusal too
+pub chars-length : (f : Frame) → length (writeChars f) ≡ 23
+chars-length f = go (writable f)
+  where
+    go : (b : Bool) → length (cond b (chars (fieldsOf f)) (replicate 23 0)) ≡ 23
+    go true = refl
+    go false = refl

@@ -7,12 +7,12 @@ use mathlib.Core.Path.{_≡_, refl, ap, _∙_, sym}
 use native.Mathlib.Omega.{arith}
 use borrow.Author.Tests.{eq-eqb, ne-eqb, lt-ltb, le-ltb}
 use lib.Dec.{ltb}
-use lib.ListN.{length, drop, replicate}
+use lib.ListN.{length, drop}
 use Rattle.line.specs.declared.Frame.{Frame}
 use Rattle.line.specs.declared.Read.{Read}
 use Rattle.line.specs.declared.Read.the-variants.{Line, Refused}
 use Rattle.line.specs.declared.Wrote.{Wrote}
-use Rattle.line.specs.Table.{Fields, Entry, frame, none, table, fieldsOf}
+use Rattle.line.specs.Table.{Fields, Entry, frame, none, table}
 use Rattle.line.specs.Read.{tabled, readLine}
 use Rattle.line.specs.Write.{chars, narrow, isFrame, writable, writeChars}
 use Rattle.line.proofs.Cases.{Case, long, wrongs, unlisted, listed, line-case}
@@ -126,13 +126,6 @@ framed-at-0 x number line e = go (framed-case x)
     go : Framed x (framedBy x) → line ≤ 65536
     go (as-none h r) = let z : line ≡ 0 = cc in omega arith
     go (as-frame f h t r) = absurd (let z : _≡_ {A = ℕ} 0 1 = cc in omega arith)
-
-pub chars-length : (f : Frame) → length (writeChars f) ≡ 23
-chars-length f = go (writable f)
-  where
-    go : (b : Bool) → length (cond b (chars (fieldsOf f)) (replicate 23 0)) ≡ 23
-    go true = refl
-    go false = refl
 
 -- the writers of text: a refusal that is given, with both rooms as they were
 pub untold : {d : Decision} (number line : ℕ) (text written : List ℕ) → d ≡ refuse number line → Tells d (coded number line) text text written written

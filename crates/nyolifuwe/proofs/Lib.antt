@@ -4,3 +4,4 @@ mod Profiled
 mod Sheets
 mod Stacks
 mod Taken
+mod Shelf

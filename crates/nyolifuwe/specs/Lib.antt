@@ -7,3 +7,4 @@ pub mod Sheets
 pub mod InsideSheets
 pub mod Stacks
 pub mod InsideForecasts
+pub mod Shelf

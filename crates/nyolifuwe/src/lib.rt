@@ -23,6 +23,7 @@ ghost use Rattle.nyolifuwe.specs.Engines.{numbered, Profiles, Forecasts}
 ghost use Rattle.nyolifuwe.specs.InsideForecasts.{ForecastsOf};
 ghost use Rattle.nyolifuwe.specs.Sheets.{csvWrite, csvRead, Takes};
 ghost use Rattle.nyolifuwe.specs.Stacks.{foldedStacks, Folded};
+ghost use Rattle.nyolifuwe.specs.Shelf.{Shelves};
 ghost use Rattle.nyolifuwe.specs.InsideSheets.{toldSites, recordIn, notedSites};
 ghost use Rattle.nyolifuwe.specs.Inside.{framedBy, told, lineOf, noted, lineIn, unroomy};
 
@@ -430,5 +431,24 @@ pub extern "C" fn nyo_folded<'a>(
         scratch,
         out,
     );
+    tell(wrote, written)
+}
+
+// Writes a trace without the lines that say nothing: its lines go to `out`, or a refusal of the engines or 21.
+#[no_mangle]
+pub extern "C" fn nyo_compact(
+    trace: &[u8],
+    depth: u64,
+    sites: u64,
+    out: &mut [u8],
+    written: &mut [u64],
+) -> u64
+    ensures { λ r. ⌜ Shelves (now (trace .entry)) depth sites r
+        (now (out .entry)) (now (out .exit)) (now (written .entry)) (now (written .exit)) ⌝ }
+{
+    if written.len() < 1 {
+        return refuse_room(trace.len(), depth as usize, sites as usize);
+    }
+    let wrote = compact::compact(trace, depth as usize, sites as usize, out);
     tell(wrote, written)
 }

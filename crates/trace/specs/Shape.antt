@@ -27,6 +27,15 @@ ifMakes a b Sync = b
 ifMakes a b Return = b
 ifMakes a b (Cost v) = b
 
+-- a: what is said of a cost line, by its value; b: of any other line
+abbrev pub ifCost : {A : Type 0} → (ℕ → A) → A → Frame → A
+ifCost a b (Site s p) = b
+ifCost a b (Call s) = b
+ifCost a b (Spawn s) = b
+ifCost a b Sync = b
+ifCost a b Return = b
+ifCost a b (Cost v) = a v
+
 -- "Lines are numbered from 0": line k of the trace is this frame
 abbrev pub Is : List Frame → ℕ → Frame → Type 0
 Is [] k f = ⊥

@@ -14,7 +14,7 @@ use Rattle.weigh.specs.Weighed.{Weigh}
 use Rattle.walk.specs.Stands.{Whole}
 use Rattle.walk.specs.Reads.{Reads}
 
-line-whole : (s : List ℕ) (n : ℕ) (f : Frame) → readAt s n ≡ Line n f → Whole s n
+pub line-whole : (s : List ℕ) (n : ℕ) (f : Frame) → readAt s n ≡ Line n f → Whole s n
 line-whole s n f e = omega (arith, frames (lineAt s n) n n f e .1, length-take 23 (drop (23 * n) s), length-drop (23 * n) s)
 
 -- all lines of a body

@@ -49,6 +49,20 @@ pub fn deepest(lines: usize, sites: u64) -> Vec<u8> {
     trace.chars
 }
 
+/// A trace that says little, in tens of lines: a spawned child with one cost, three costs, three syncs and a cost.
+/// Costs fill it up to the root's return.
+pub fn wordy(lines: usize, sites: u64) -> Vec<u8> {
+    let mut trace = Trace::with_sites(sites);
+    while trace.lines() + 10 < lines {
+        trace.spawn(1).cost(4).leave().cost(1).cost(2).cost(3).sync().sync().sync().cost(1);
+    }
+    while trace.lines() + 1 < lines {
+        trace.cost(1);
+    }
+    trace.leave();
+    trace.chars
+}
+
 /// A trace in the making that never grows past a number of lines. Sites take turns.
 struct Maker {
     trace: Trace,

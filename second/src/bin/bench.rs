@@ -1,5 +1,5 @@
 //! `bench DIR [SAMPLES]`: times the proved engines against the plain one, the script and a pass that only sums the bytes; and
-//! the proved writer of folded stacks and the proved forecasts against plain ones.
+//! the proved writer of folded stacks, the proved forecasts and the proved compactor against plain ones.
 //!
 //! Writes the traces and `bench.csv` to DIR, tells its progress, and prints the table and the goals. The numbers are
 //! medians of SAMPLES samples (101 if not said; the script's, of 3) of processor time. Each sample goes over all traces and
@@ -9,7 +9,7 @@
 use second::bench::table::{csv, goals, head, Measured};
 use second::bench::timing::{medians, Run};
 use second::bench::traces::{Shape, DEPTH, SHAPES};
-use second::bench::{folding, forecasting};
+use second::bench::{compacting, folding, forecasting};
 use second::check::{Lent, Limits};
 use second::library::{proved, Library};
 use second::plain;
@@ -70,6 +70,10 @@ fn measure(folder: &Path, samples: usize) -> Result<(), Box<dyn Error>> {
     println!("{}", forecasting::head());
     forecasts.iter().for_each(|measured| println!("{}", measured.line()));
     println!("{}", forecasting::goals(&forecasts));
+    let compacted = compacting::measure(library, samples);
+    println!("{}", compacting::head());
+    compacted.iter().for_each(|measured| println!("{}", measured.line()));
+    println!("{}", compacting::goal(&compacted));
     Ok(())
 }
 

@@ -1,7 +1,9 @@
 //! A case: what is asked, the room that is lent for it, and all that there is to see afterwards.
 
+use super::compacts;
 use super::rng::Rng;
 use crate::check::{Lent, Limits};
+use crate::compact;
 use crate::folded;
 use crate::forecast::Entry;
 use crate::library::Library;
@@ -35,6 +37,8 @@ pub enum Question {
     ReadSheet { text: Vec<u8>, rows: usize, count: usize },
     /// A trace, the project's list of names and the stock list, for the writer of folded stacks.
     Folded { trace: Vec<u8>, limits: Limits, lists: [Vec<u8>; 2], spare: FoldedSpare },
+    /// A trace, for the compactor.
+    Compact { trace: Vec<u8>, limits: Limits, spare: CompactSpare },
 }
 
 /// How much more than needed is lent to the engines; less than needed where it is negative.
@@ -50,6 +54,13 @@ pub struct Spare {
 #[derive(Clone, Copy, Debug, Default, PartialEq, Eq)]
 pub struct FoldedSpare {
     pub scratch: isize,
+    pub out: isize,
+    pub written: isize,
+}
+
+/// How much more than needed is lent to the compactor; less than needed where it is negative.
+#[derive(Clone, Copy, Debug, Default, PartialEq, Eq)]
+pub struct CompactSpare {
     pub out: isize,
     pub written: isize,
 }
@@ -92,6 +103,7 @@ impl Case {
             }
             Question::ReadSheet { text, rows, count } => lender.read_sheet(library, text, [*rows, *count]),
             Question::Folded { trace, limits, lists, spare } => lender.folded(library, trace, *limits, lists, *spare),
+            Question::Compact { trace, limits, spare } => lender.compact(library, trace, *limits, *spare),
         }
     }
 }
@@ -234,6 +246,22 @@ impl Lender {
         Outcome { codes: vec![("writer of folded stacks", code)], bytes, numbers: vec![scratch, written] }
     }
 
+    /// What the compactor makes of a trace, and of what is accepted which laws hold.
+    fn compact(&mut self, library: &dyn Library, trace: &[u8], limits: Limits, spare: CompactSpare) -> Outcome {
+        let lent = spare.over(trace, limits);
+        let mut lines = self.bytes("trace", trace.len()).holding(trace);
+        let mut out = self.bytes("output", lent.out);
+        let mut written = self.numbers("count of characters", lent.written);
+        let code = library.compact(lines.lent(), limits, out.lent(), written.lent());
+        let mut numbers = vec![];
+        if let (0, [count, ..]) = (code, &*written.lent()) {
+            let text = out.lent().get(..*count as usize).unwrap_or_default();
+            numbers = compacts::laws(library, trace, limits, text);
+        }
+        numbers.push(written);
+        Outcome { codes: vec![("compactor", code)], bytes: vec![out, lines], numbers }
+    }
+
     fn bytes(&mut self, name: &'static str, length: usize) -> Room<u8> {
         Room { name, all: (0..length + 2 * STRIP).map(|_| self.0.number() as u8).collect() }
     }
@@ -305,6 +333,17 @@ impl FoldedSpare {
         let text = folded::write(trace, limits, lists, folded::Lent::ALL).map_or(0, |text| text.len());
         folded::Lent {
             scratch: (limits.nearest().depth as usize).saturating_add_signed(self.scratch),
+            out: text.saturating_add_signed(self.out),
+            written: 1_usize.saturating_add_signed(self.written),
+        }
+    }
+}
+
+impl CompactSpare {
+    /// The lengths to lend for a trace; where it is refused no text is needed.
+    fn over(self, trace: &[u8], limits: Limits) -> compact::Lent {
+        let text = compact::write(trace, limits, compact::Lent::ALL).map_or(0, |text| text.len());
+        compact::Lent {
             out: text.saturating_add_signed(self.out),
             written: 1_usize.saturating_add_signed(self.written),
         }

@@ -1,8 +1,8 @@
 //! Generated cases: traces, good and damaged, and questions to the readers and writers.
 
-use super::case::{Case, Question, Spare};
+use super::case::{Case, CompactSpare, Question, Spare};
 use super::rng::Rng;
-use super::{damage, forecasts, shapes, sheets, stacks};
+use super::{compacts, damage, forecasts, shapes, sheets, stacks};
 use crate::check::Limits;
 use crate::line::{chars, Fields, CHARS, WIDTHS};
 use crate::report::{REFUSAL_CHARS, ROW_CHARS};
@@ -12,7 +12,7 @@ use crate::trace::Trace;
 /// The case with a number, of a seed.
 pub fn case(seed: u64, number: u64) -> Case {
     let mut rng = Rng::of_case(seed, number);
-    let question = match rng.below(36) {
+    let question = match rng.below(40) {
         0 => read_line(&mut rng),
         1 => write_line(&mut rng),
         2 => report(&mut rng),
@@ -21,21 +21,24 @@ pub fn case(seed: u64, number: u64) -> Case {
         5 | 6 => sheets::read(&mut rng),
         7..=11 => stacks::write(&mut rng),
         12..=17 => forecasts::forecast(&mut rng),
+        18..=22 => compacts::write(&mut rng),
         _ => engines(&mut rng),
     };
     Case { question, rubbish: rng.number() }
 }
 
 /// Every trace that begins with a site line and has so many lines after it, each one of six: costs of 1 and 2, a sync, a
-/// call, a spawn and a return.
+/// call, a spawn and a return; for the engines and for the compactor.
 pub fn every(lines: u32) -> impl Iterator<Item = Case> {
     let of = move |number: u64| {
         let mut trace = Trace::with_sites(1);
         (0..lines).for_each(|place| one_of_six(&mut trace, number / 6_u64.pow(place) % 6));
-        let question = Question::Engines { trace: trace.chars, limits: SMALL, spare: Spare::default() };
-        Case { question, rubbish: number }
+        let trace = trace.chars;
+        let compact = Question::Compact { trace: trace.clone(), limits: SMALL, spare: CompactSpare::default() };
+        let engines = Question::Engines { trace, limits: SMALL, spare: Spare::default() };
+        [engines, compact].map(|question| Case { question, rubbish: number })
     };
-    (0..6_u64.pow(lines)).map(of)
+    (0..6_u64.pow(lines)).flat_map(of)
 }
 
 /// Limits that some of those traces break.

@@ -26,7 +26,7 @@ fn length(rng: &mut Rng) -> usize {
 /// A way to make a good trace of at most so many lines, give or take what its sites and returns need.
 type Make = fn(&mut Rng, usize) -> Trace;
 
-const SHAPES: [Make; 9] = [mixed, mixed, deep, wide, recursive, idle, empty, fib, pipeline];
+const SHAPES: [Make; 10] = [mixed, mixed, deep, wide, recursive, idle, empty, fib, pipeline, wordy];
 
 /// How costs are drawn.
 #[derive(Clone, Copy)]
@@ -35,13 +35,15 @@ enum Costs {
     Ones,
     Few,
     Any,
+    /// Next to half of the most that a line can hold: some sums of two fit.
+    Halves,
     /// Next to the most that a line can hold.
     Most,
 }
 
 impl Costs {
     fn any(rng: &mut Rng) -> Costs {
-        rng.pick(&[Costs::Ones, Costs::Few, Costs::Few, Costs::Any, Costs::Most])
+        rng.pick(&[Costs::Ones, Costs::Few, Costs::Few, Costs::Any, Costs::Halves, Costs::Most])
     }
 
     fn draw(self, rng: &mut Rng) -> u64 {
@@ -49,6 +51,7 @@ impl Costs {
             Costs::Ones => 1,
             Costs::Few => rng.between(1, 4),
             Costs::Any => rng.between(1, 0xffff_ffff),
+            Costs::Halves => rng.between(0x7fff_fffe, 0x8000_0001),
             Costs::Most => rng.between(0xffff_fffe, 0xffff_ffff),
         }
     }
@@ -279,6 +282,21 @@ fn pipeline(rng: &mut Rng, lines: usize) -> Trace {
         maker.leave();
         if rng.once_in(6) {
             maker.sync();
+        }
+    }
+    maker.finish()
+}
+
+/// Runs of syncs and of costs, in the root and in short children.
+fn wordy(rng: &mut Rng, lines: usize) -> Trace {
+    let sites = rng.between(1, 3);
+    let mut maker = Maker::new(rng, sites, lines);
+    while maker.fits(1) {
+        match rng.below(8) {
+            0 | 1 => (0..rng.between(1, 4)).for_each(|_| maker.sync()),
+            2 | 3 => (0..rng.between(1, 4)).for_each(|_| maker.cost(rng)),
+            which @ (4 | 5) if maker.open < 4 => _ = maker.enter_any(rng, which == 4),
+            _ => maker.leave(),
         }
     }
     maker.finish()

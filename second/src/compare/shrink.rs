@@ -1,6 +1,6 @@
 //! From a case in which two programs differ to the smallest such case that can be found by leaving parts out.
 
-use super::case::{Case, FoldedSpare, Question, Spare};
+use super::case::{Case, CompactSpare, FoldedSpare, Question, Spare};
 use crate::check::Limits;
 use crate::forecast::Entry;
 use crate::line::{chars, read, Fields, Kind, CHARS};
@@ -51,9 +51,10 @@ impl<D: Fn(&Case) -> bool> Shrinker<D> {
     /// The trace, if the case has one.
     fn trace(&self) -> Option<&[u8]> {
         match &self.case.question {
-            Question::Engines { trace, .. } | Question::Forecast { trace, .. } | Question::Folded { trace, .. } => {
-                Some(trace)
-            }
+            Question::Engines { trace, .. }
+            | Question::Forecast { trace, .. }
+            | Question::Folded { trace, .. }
+            | Question::Compact { trace, .. } => Some(trace),
             _ => None,
         }
     }
@@ -62,9 +63,10 @@ impl<D: Fn(&Case) -> bool> Shrinker<D> {
     fn keep_trace(&mut self, changed: Vec<u8>) -> bool {
         let mut question = self.case.question.clone();
         match &mut question {
-            Question::Engines { trace, .. } | Question::Forecast { trace, .. } | Question::Folded { trace, .. } => {
-                *trace = changed;
-            }
+            Question::Engines { trace, .. }
+            | Question::Forecast { trace, .. }
+            | Question::Folded { trace, .. }
+            | Question::Compact { trace, .. } => *trace = changed,
             _ => return false,
         }
         self.keep(question)
@@ -151,15 +153,17 @@ fn without(trace: &[u8], lines: Range<usize>) -> Vec<u8> {
     [&trace[..lines.start * CHARS], &trace[end..]].concat()
 }
 
-/// The trace with one field of one line lower, in each way that is tried.
+/// The trace with one field of one line lower, or of every line like it, in each way that is tried.
 fn lower_lines(trace: &[u8], line: usize) -> Vec<Vec<u8>> {
     let range = line * CHARS..(line + 1) * CHARS;
-    let Ok(old) = read(&trace[range.clone()]) else { return vec![] };
+    let old = &trace[range.clone()];
+    let Ok(read) = read(old) else { return vec![] };
     let mut lower = vec![];
-    for fields in lower_fields(old.fields()) {
-        let mut changed = trace.to_vec();
-        changed[range.clone()].copy_from_slice(&chars(&fields));
-        lower.push(changed);
+    for fields in lower_fields(read.fields()) {
+        let (mut one, mut all) = (trace.to_vec(), trace.to_vec());
+        one[range.clone()].copy_from_slice(&chars(&fields));
+        all.chunks_mut(CHARS).filter(|line| *line == old).for_each(|line| line.copy_from_slice(&chars(&fields)));
+        lower.extend([one, all]);
     }
     lower
 }
@@ -171,7 +175,7 @@ fn lower_fields(fields: Fields) -> Vec<Fields> {
         lower.push([Kind::Call.number(), fields[1], fields[2], fields[3], fields[4]]);
     }
     for (field, &old) in fields.iter().enumerate().skip(1) {
-        for new in [1, old / 2, old.saturating_sub(1)].into_iter().filter(|&new| 0 < new && new < old) {
+        for new in [1, old / 2, old / 2 + 1, old.saturating_sub(1)].into_iter().filter(|&new| 0 < new && new < old) {
             let mut changed = fields;
             changed[field] = new;
             lower.push(changed);
@@ -224,6 +228,12 @@ fn lower_questions(question: &Question) -> Vec<Question> {
             let stocks = shorter_texts(stock).map(|stock| of(*limits, project, &stock, *spare));
             let rooms = lower_folded_spares(*spare).map(|spare| of(*limits, project, stock, spare));
             lower.chain(projects).chain(stocks).chain(rooms).collect()
+        }
+        Question::Compact { trace, limits, spare } => {
+            let of = |limits, spare| Question::Compact { trace: trace.clone(), limits, spare };
+            let lower = lower_limits(*limits).map(|limits| of(limits, *spare));
+            let rooms = [CompactSpare { out: 0, ..*spare }, CompactSpare { written: 0, ..*spare }];
+            lower.chain(rooms.into_iter().filter(|new| new != spare).map(|spare| of(*limits, spare))).collect()
         }
     }
 }

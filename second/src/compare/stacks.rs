@@ -165,7 +165,7 @@ pub fn write(rng: &mut Rng) -> Question {
 }
 
 /// How much more is lent than needed; seldom less.
-fn more_or_less(rng: &mut Rng) -> isize {
+pub fn more_or_less(rng: &mut Rng) -> isize {
     match rng.below(16) {
         0 => -1,
         1 => -(rng.below(60) as isize),

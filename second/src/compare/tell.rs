@@ -1,6 +1,6 @@
 //! A case and a difference in words.
 
-use super::case::{Case, FoldedSpare, Outcome, Question, Room, Spare, STRIP};
+use super::case::{Case, CompactSpare, FoldedSpare, Outcome, Question, Room, Spare, STRIP};
 use super::Difference;
 use crate::forecast::Entry;
 use crate::line::CHARS;
@@ -54,6 +54,10 @@ impl Display for Case {
                 writeln!(f, "project's list: {}\nstock list: {}", project.escape_ascii(), stock.escape_ascii())?;
                 told_trace(f, trace)
             }
+            Question::Compact { trace, limits, spare } => {
+                writeln!(f, "compact, D = {}, M = {}{spare}", limits.depth, limits.sites)?;
+                told_trace(f, trace)
+            }
         }
     }
 }
@@ -69,6 +73,13 @@ impl Display for FoldedSpare {
     fn fmt(&self, f: &mut Formatter) -> Result {
         let FoldedSpare { scratch, out, written } = *self;
         told_spares(f, &[("scratch", scratch), ("output", out), ("count", written)])
+    }
+}
+
+impl Display for CompactSpare {
+    fn fmt(&self, f: &mut Formatter) -> Result {
+        let CompactSpare { out, written } = *self;
+        told_spares(f, &[("output", out), ("count", written)])
     }
 }
 

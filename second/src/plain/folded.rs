@@ -4,29 +4,22 @@
 //! One pass checks the lines and keeps what each does to the stack; each row's name is found once; a second pass adds up the
 //! length. The last one writes, with the text of the stack at hand, which a call makes longer and a return cuts.
 
-use super::{Fields, CALL, COST, RETURN, SITE, SPAWN};
-use crate::check::{before_lines, Limits};
+use super::{checks, Fields, CALL, COST, RETURN, SPAWN};
+use crate::check::Limits;
 use crate::line::CHARS;
 use crate::refusal::{Ground, Refusal};
 
 /// Writes the folded stacks of a trace to the front of `out`, and gives how many characters they are, or the refusal.
 pub fn write(trace: &[u8], limits: Limits, lists: [&[u8]; 2], room: usize, out: &mut [u8]) -> Result<usize, Refusal> {
+    let mut steps = Vec::with_capacity(trace.len() / CHARS);
     let short = |_| (room as u64) < limits.depth;
-    let lines = before_lines(trace, limits, short).map_err(|ground| ground.at(0))?;
-    let mut checks = Checks { limits, places: vec![], open: 1, steps: Vec::with_capacity(lines) };
-    for (number, chars) in trace.chunks_exact(CHARS).enumerate() {
-        let chars = chars.try_into().expect("a whole line");
-        checks.line(number, chars).map_err(|ground| ground.at(number))?;
-    }
-    if checks.open > 0 {
-        return Err(Ground::Unfinished.at(lines));
-    }
-    let names = names(lists, checks.places.len())?;
-    let length = length(&names, &checks.steps);
+    let sites = checks::each_line(trace, limits, short, |line| steps.extend(Step::of(line)))?;
+    let names = names(lists, sites)?;
+    let length = length(&names, &steps);
     if out.len() < length {
         return Err(Ground::FoldedRoom.at(0));
     }
-    fill(&names, &checks.steps, &mut out[..length]);
+    fill(&names, &steps, &mut out[..length]);
     Ok(length)
 }
 
@@ -38,60 +31,14 @@ enum Step {
     Spend(u32),
 }
 
-struct Checks {
-    limits: Limits,
-    places: Vec<u64>,
-    open: u64,
-    steps: Vec<Step>,
-}
-
-impl Checks {
-    /// Takes one line, or gives the smallest number that it is refused with.
-    fn line(&mut self, number: usize, chars: &[u8; CHARS]) -> Result<(), Ground> {
-        let fields = Fields::read(chars)?;
-        if self.open == 0 {
-            return Err(Ground::AfterEnd);
+impl Step {
+    fn of(line: &Fields) -> Option<Step> {
+        match line.kind {
+            COST => Some(Step::Spend(line.value)),
+            CALL | SPAWN => Some(Step::Enter(line.site as u8)),
+            RETURN => Some(Step::Leave),
+            _ => None,
         }
-        match fields.kind {
-            COST => self.steps.push(Step::Spend(fields.value)),
-            CALL | SPAWN => self.enter(fields.site)?,
-            RETURN => {
-                self.open -= 1;
-                self.steps.push(Step::Leave);
-            }
-            SITE => self.site(number, &fields)?,
-            _ => (),
-        }
-        Ok(())
-    }
-
-    /// Refusals 8, 9 and 10.
-    fn site(&mut self, number: usize, fields: &Fields) -> Result<(), Ground> {
-        let sites = self.places.len();
-        if number > sites || usize::from(fields.site) != sites + 1 {
-            return Err(Ground::SiteOrder);
-        }
-        if u64::from(fields.site) > self.limits.sites {
-            return Err(Ground::SiteLimit);
-        }
-        if self.places.contains(&fields.place()) {
-            return Err(Ground::Place);
-        }
-        self.places.push(fields.place());
-        Ok(())
-    }
-
-    /// Refusals 11 and 12.
-    fn enter(&mut self, site: u16) -> Result<(), Ground> {
-        if site == 0 || usize::from(site) > self.places.len() {
-            return Err(Ground::Undeclared);
-        }
-        if self.open >= self.limits.depth {
-            return Err(Ground::Depth);
-        }
-        self.open += 1;
-        self.steps.push(Step::Enter(site as u8));
-        Ok(())
     }
 }
 

@@ -5,10 +5,11 @@ use mathlib.Core.Path.{_≡_, ap, _∙_, sym}
 use native.Mathlib.Omega.{arith}
 use lib.ListN.{length}
 use Rattle.line.specs.Write.{writeChars}
+use Rattle.line.proofs.Writable.{chars-length}
 use Rattle.report.specs.Room.{write, fitting}
 use Rattle.report.proofs.Decisions.{fitting-text}
 use Rattle.nyolifuwe.specs.Lines.{fieldsIn}
-use Rattle.nyolifuwe.proofs.Decided.{untold, tells, fitting-at-0, write-4-frame, write-4-out, write-4-count, write-framed, write-refused, framed-at-0, chars-length}
+use Rattle.nyolifuwe.proofs.Decided.{untold, tells, fitting-at-0, write-4-frame, write-4-out, write-4-count, write-framed, write-refused, framed-at-0}
 use borrow.Author.Needs.{needs}
 use Rattle.nyolifuwe.proofs.nyo_write_line.Statement.{statement}
 use Rattle.nyolifuwe.proofs.nyo_write_line.Tie as tie

@@ -1,0 +1,146 @@
+-- The laws of request g over the definitions of 01: a compacted trace passes, nothing that is profiled changes, and once is
+-- enough. Assumes nothing.
+use mathlib.Core.Path.{_≡_, refl, sym, _∙_, ap, subst}
+use mathlib.Core.List.{List, [], _++_}
+use Prim.Native.Nat.{ℕ, zero, suc, _+_, _≤_}
+use native.Mathlib.Omega.{arith}
+use lib.ListN.{length, length-append}
+use Rattle.line.specs.declared.Frame.{Frame}
+use Rattle.trace.specs.Shape.{root, sites}
+use Rattle.trace.specs.Series.{Span, Chosen}
+use Rattle.trace.specs.Rows.{Spans, onSpan}
+use Rattle.trace.specs.Tree.{Body, linesOf, Within, AllSites, Parts, rootAt, workOf, localOf, spanOf, rowSum, outerRow, callsIn, workIn, spansIn, localIn}
+use Rattle.trace.proofs.Scan.{Fine}
+use Rattle.trace.proofs.Parse.{parts}
+use Rattle.trace.proofs.Tree.{size-is, no-sites-lines}
+use Rattle.trace.proofs.Sites.{sites-none, sites-append}
+use Rattle.trace.proofs.Accept.{heads-sites, fine-is-trace, trace-is-fine}
+use Rattle.trace.proofs.Invocations.{root-paid}
+use Rattle.trace.proofs.Recurrence.{Paid}
+use Rattle.trace.proofs.Root.{root-span, root-span-only, root-chosen-only}
+use Rattle.trace.proofs.Columns.{calls-tree, local-tree, total-tree}
+use Rattle.trace.proofs.Outermost.{work-tree, spans-tree}
+use Rattle.trace.proofs.OnChain.{on-span-tree}
+use Rattle.trace.proofs.Unique.{spans-unique}
+use Rattle.compact.specs.Fold.{compact}
+use Rattle.compact.specs.Unchanged.{Unchanged}
+use Rattle.compact.specs.Tree.{compactB}
+use Rattle.compact.proofs.Lines.{compact-lines}
+use Rattle.compact.proofs.Sums.{compact-within, compact-size, compact-work, compact-local, packed-made, packed-outer}
+use Rattle.compact.proofs.Spans.{compact-span, compact-on}
+use Rattle.compact.proofs.Once.{compact-once}
+
+-- ── the sums over a row, on the tree ──
+
+module _ (f : Body → ℕ) (same : (g : Body) → Paid g → f (compactB g) ≡ f g) where
+  row-same : (s : ℕ) (b : Body) → Paid b → rowSum f s (compactB b) ≡ rowSum f s b
+  row-same zero b w = same b w
+  row-same (suc s) b w = packed-made f same (suc s) b _ 0 w
+
+  outer-same : (s : ℕ) (b : Body) → Paid b → outerRow f s (compactB b) ≡ outerRow f s b
+  outer-same zero b w = same b w
+  outer-same (suc s) b w = packed-outer f same (suc s) b _ 0 w
+
+compact-calls : (s : ℕ) (b : Body) → Paid b → callsIn s (compactB b) ≡ callsIn s b
+compact-calls = row-same (λ g. 1) (λ g w. refl)
+
+compact-works : (s : ℕ) (b : Body) → Paid b → workIn s (compactB b) ≡ workIn s b
+compact-works = outer-same workOf (λ g w. compact-work g)
+
+compact-spans : (s : ℕ) (b : Body) → Paid b → spansIn s (compactB b) ≡ spansIn s b
+compact-spans = outer-same spanOf compact-span
+
+compact-locals : (s : ℕ) (b : Body) → Paid b → localIn s (compactB b) ≡ localIn s b
+compact-locals = row-same localOf (λ g w. compact-local g)
+
+-- ── over the definitions ──
+
+-- the sites are those of the site lines
+sites-stay : (t heads : List Frame) (b : Body) → t ≡ heads ++ linesOf b → AllSites heads → sites (compact t) ≡ sites t
+sites-stay t heads b e a =
+    let count : (c : Body) → sites (heads ++ linesOf c) ≡ sites heads = λ c. omega (arith, sites-append heads (linesOf c), sites-none (linesOf c) (no-sites-lines c)) in
+    ap sites (ap compact e ∙ compact-lines heads b a) ∙ count (compactB b) ∙ sym (count b) ∙ sym (ap sites e)
+
+module _ (D : ℕ) (t : List Frame) (p : Parts D t) where
+  abbrev u : List Frame
+  u = compact t
+
+  pub same-sites : sites u ≡ sites t
+  same-sites = sites-stay t (p .heads) (p .body) (p .lines) (p .all-sites)
+
+  -- the compacted trace has the sites of the trace and the compacted tree, within the same limits
+  abbrev pub compact-parts : Parts D u
+  compact-parts =
+      record {
+        heads = p .heads;
+        body = compactB (p .body);
+        lines = ap compact (p .lines) ∙ compact-lines (p .heads) (p .body) (p .all-sites);
+        all-sites = p .all-sites;
+        within = subst (λ (m : ℕ). Within m D 1 (compactB (p .body))) (sym same-sites) (compact-within (sites t) D 1 (p .body) (p .within));
+      }
+
+  abbrev q : Parts D u
+  q = compact-parts
+
+  w : Paid (p .body)
+  w = root-paid D t p
+
+  same-on-span : (c d : List ℕ) → Chosen t c → Chosen u d → (s : ℕ) → onSpan u d s ≡ onSpan t c s
+  same-on-span c d h k s =
+      ap (λ (l : List ℕ). onSpan u l s) (root-chosen-only D u q d k)
+      ∙ on-span-tree D u q s
+      ∙ compact-on (p .body) (rootAt q) (rootAt p) 0 s w
+      ∙ sym (on-span-tree D t p s)
+      ∙ sym (ap (λ (l : List ℕ). onSpan t l s) (root-chosen-only D t p c h))
+
+  -- LAW: "Work, span and all rows are unchanged"
+  pub compact-unchanged : Unchanged t u
+  compact-unchanged =
+      record {
+        same-sites = same-sites;
+        same-total = total-tree D u q ∙ compact-work (p .body) ∙ sym (total-tree D t p);
+        same-span = λ n h. subst (Span u root) (compact-span (p .body) w ∙ sym (root-span-only D t p n h)) (root-span D u q);
+        same-calls = λ s. calls-tree D u q s ∙ compact-calls s (p .body) w ∙ sym (calls-tree D t p s);
+        same-work = λ s. work-tree D u q s ∙ compact-works s (p .body) w ∙ sym (work-tree D t p s);
+        same-spans = λ s n h.
+            subst (Spans u s) (compact-spans s (p .body) w ∙ sym (spans-unique t s n (spansIn s (p .body)) h (spans-tree D t p s))) (spans-tree D u q s);
+        same-local = λ s. local-tree D u q s ∙ compact-locals s (p .body) w ∙ sym (local-tree D t p s);
+        same-on-span = same-on-span;
+      }
+
+  -- LAW: "Compacting twice equals compacting once."
+  pub twice-is-once : compact u ≡ u
+  twice-is-once =
+      ap compact (q .lines)
+      ∙ compact-lines (p .heads) (compactB (p .body)) (p .all-sites)
+      ∙ ap (λ (b : Body). p .heads ++ linesOf b) (compact-once (p .body) w)
+      ∙ sym (q .lines)
+
+  -- LAW: never longer
+  pub never-longer : length u ≤ length t
+  never-longer =
+      omega (
+        arith,
+        ap length (q .lines),
+        ap length (p .lines),
+        length-append (p .heads) (linesOf (compactB (p .body))),
+        length-append (p .heads) (linesOf (p .body)),
+        size-is (compactB (p .body)),
+        size-is (p .body),
+        compact-size (p .body),
+      )
+
+-- LAW: what passes still passes, with the same limits
+pub compact-fine : (D M : ℕ) (t : List Frame) → Fine D M t → Fine D M (compact t)
+compact-fine D M t f =
+    let x = fine-is-trace D M t f in
+    let a = heads-sites M [] (x .heads) (x .heads-ok) in
+    let p = parts D M t f in
+    trace-is-fine D M (compact t) (f .least) (f .most) (f .sites-most) (omega (arith, f .lines-most, never-longer D t p))
+    (record {
+      heads = x .heads;
+      body = compactB (x .body);
+      lines = ap compact (x .lines) ∙ compact-lines (x .heads) (x .body) a;
+      heads-ok = x .heads-ok;
+      within = subst (λ (m : ℕ). Within m D 1 (compactB (x .body))) (sym (sites-stay t (x .heads) (x .body) (x .lines) a)) (compact-within (sites t) D 1 (x .body) (x .within));
+    })

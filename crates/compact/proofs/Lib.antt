@@ -1,0 +1,14 @@
+pub mod Lines
+pub mod Sums
+pub mod Same
+pub mod Once
+pub mod Spans
+pub mod Tied
+pub mod Laws
+pub mod Result
+pub mod Cases
+pub mod Machine
+pub mod Steps
+pub mod Letters
+pub mod Passes
+pub mod Whole

@@ -1,0 +1,280 @@
+-- What a line tells the two passes, and how they go on from line to line. Assumes nothing.
+use mathlib.Core.Path.{_≡_, refl, sym, _∙_, ap, subst}
+use mathlib.Core.Bool.{Bool, true, false, not, cond}
+use mathlib.Core.List.{List, [], _∷_, _++_, append-assoc, append-nil}
+use Prim.Native.Nat.{ℕ, zero, suc, _+_, _*_, _-_, _^_, _≤_, _<_}
+use native.Mathlib.Omega.{arith}
+use lib.Dec.{eqb}
+use borrow.Rule.Slice.PartMut.{midOf}
+use lib.ListN.{length, take, drop, length-append}
+use borrow.Author.Tests.{ne-eqb, not-true, not-false}
+use Rattle.digits.specs.Digits.{smallForm}
+use Rattle.digits.proofs.Laws.{small-length}
+use Rattle.line.specs.declared.Frame.{Frame}
+use Rattle.line.specs.declared.Frame.the-variants.{Sync, Cost}
+use Rattle.line.specs.declared.Read.the-variants.{Line}
+use Rattle.line.specs.Read.{lineAt, readAt}
+use Rattle.line.specs.Write.{writeChars}
+use Rattle.line.specs.At.{kindAt, valueAt}
+use Rattle.line.proofs.Writable.{chars-length}
+use Rattle.line.proofs.RoundTrip.{read-write}
+use Rattle.line.proofs.Items.{item}
+use Rattle.trace.specs.Written.{textOf}
+use Rattle.report.specs.Room.{Lays}
+use Rattle.report.proofs.Laying.{lays-nothing, lays-next, lays-as}
+use Rattle.walk.specs.Stands.{Stands, Whole, kindOf}
+use Rattle.walk.proofs.Room.{line-whole}
+use Rattle.compact.specs.Compact.{summed}
+use Rattle.compact.specs.Machine.{bit, start, step, stepped, emitted, outs, sizeOf, pieces, Room}
+use Rattle.compact.specs.Pass.{Lines}
+use Rattle.compact.specs.declared.step.State.{State}
+use Rattle.compact.specs.declared.step.Given.{Given}
+
+-- ── what goes out at a line ──
+
+line-size : (l : Bool) (f : Frame) (u : List Frame) → length (cond l (f ∷ u) u) ≡ bit l + length u
+line-size true f u = omega arith
+line-size false f u = omega arith
+
+sync-size : (y l : Bool) (f : Frame) (u : List Frame) → length (cond y (Sync ∷ cond l (f ∷ u) u) (cond l (f ∷ u) u)) ≡ bit y + (bit l + length u)
+sync-size true l f u = omega (arith, line-size l f u)
+sync-size false l f u = omega (arith, line-size l f u)
+
+summed-size : (c : ℕ) (u : List Frame) → length (summed c u) ≡ bit (not (eqb c 0)) + length u
+summed-size zero u = omega arith
+summed-size (suc c) u =
+    let one : bit (not (eqb (suc c) 0)) ≡ 1 = ap (λ (e : Bool). bit (not e)) (ne-eqb (suc c) 0 (λ z. omega arith)) in
+    omega arith
+
+emitted-size : (e : Given) (f : Frame) (u : List Frame) → length (emitted e f u) ≡ sizeOf e + length u
+emitted-size e f u =
+    let tail = cond (e .sync) (Sync ∷ cond (e .line) (f ∷ u) u) (cond (e .line) (f ∷ u) u) in
+    omega (arith, summed-size (e .cost) tail, sync-size (e .sync) (e .line) f u)
+
+tail-text : (y l : Bool) (f : Frame) (u : List Frame)
+    → textOf (cond y (Sync ∷ cond l (f ∷ u) u) (cond l (f ∷ u) u)) ≡ (cond y (writeChars Sync) [] ++ cond l (writeChars f) []) ++ textOf u
+tail-text true true f u = sym (append-assoc (writeChars Sync) (writeChars f) (textOf u))
+tail-text true false f u = ap (λ (l : List ℕ). l ++ textOf u) (sym (append-nil (writeChars Sync)))
+tail-text false true f u = refl
+tail-text false false f u = refl
+
+summed-text : (c : ℕ) (u : List Frame) → textOf (summed c u) ≡ textOf (summed c []) ++ textOf u
+summed-text zero u = refl
+summed-text (suc c) u = ap (λ (l : List ℕ). l ++ textOf u) (sym (append-nil (writeChars (Cost (suc c)))))
+
+emitted-text : (e : Given) (f : Frame) (u : List Frame) → textOf (emitted e f u) ≡ pieces e (writeChars f) ++ textOf u
+emitted-text e f u =
+    let tail = cond (e .sync) (Sync ∷ cond (e .line) (f ∷ u) u) (cond (e .line) (f ∷ u) u) in
+    let last = cond (e .sync) (writeChars Sync) [] ++ cond (e .line) (writeChars f) [] in
+    summed-text (e .cost) tail
+    ∙ ap (λ (l : List ℕ). textOf (summed (e .cost) []) ++ l) (tail-text (e .sync) (e .line) f u)
+    ∙ sym (append-assoc (textOf (summed (e .cost) [])) last (textOf u))
+
+-- ── laying it ──
+
+pub no-cost : (v at : ℕ) (out : List ℕ) → v ≡ 0 → Lays at (textOf (summed v [])) out at out
+no-cost v at out e = subst (λ (k : ℕ). Lays at (textOf (summed k [])) out at out) (sym e) (lays-nothing at out)
+
+cost-text : (v : ℕ) → (v ≡ 0 → ⊥) → textOf (summed v []) ≡ writeChars (Cost v)
+cost-text zero n = absurd (n refl)
+cost-text (suc v) n = append-nil (writeChars (Cost (suc v)))
+
+module _ {chars : List ℕ} (v : ℕ) (some : v ≡ 0 → ⊥) (is : chars ≡ writeChars (Cost v)) where
+  pub cost-fits : (at room : ℕ) → at + length (textOf (summed v [])) ≤ room → (length chars ≡ 23) × (at + 23 ≤ room)
+  cost-fits at room h =
+      let l = ap length is ∙ chars-length (Cost v) in
+      (l, omega (arith, ap length (cost-text v some ∙ sym is)))
+
+  pub a-cost : {at end : ℕ} {before after : List ℕ} → Lays at chars before end after → Lays at (textOf (summed v [])) before end after
+  a-cost {at} w = lays-as at (is ∙ sym (cost-text v some)) w
+
+-- a piece that goes or not
+module _ (goes : Bool) (piece : List ℕ) where
+  pub not-going : not goes ≡ true → (at : ℕ) (out : List ℕ) → Lays at (cond goes piece []) out at out
+  not-going e at out = subst (λ (b : Bool). Lays at (cond b piece []) out at out) (sym (not-true goes e)) (lays-nothing at out)
+
+  going : not goes ≡ false → piece ≡ cond goes piece []
+  going e = sym (ap (λ (b : Bool). cond b piece []) (not-false goes e))
+
+  pub goes-fits : not goes ≡ false → (at room : ℕ) → at + length (cond goes piece []) ≤ room → at + length piece ≤ room
+  goes-fits e at room h = omega (arith, ap length (going e))
+
+  pub goes-laid : not goes ≡ false → {at end : ℕ} {before after : List ℕ} → Lays at piece before end after → Lays at (cond goes piece []) before end after
+  goes-laid e {at} w = lays-as at (going e) w
+
+-- the 23 characters that are cut out of the text are those of line n
+module _ (s : List ℕ) (n : ℕ) (whole : Whole s n) (goes : Bool) (e : not goes ≡ false) where
+  abbrev cut : List ℕ
+  cut = midOf (23 * n) (23 * n + 23 - 23 * n) s
+
+  cut-is : cut ≡ lineAt s n
+  cut-is = let k : 23 * n + 23 - 23 * n ≡ 23 = omega arith in ap (λ (k : ℕ). take k (drop (23 * n) s)) k
+
+  pub cut-fits : (at room : ℕ) → at + length (cond goes (smallForm (lineAt s n)) []) ≤ room → at + length cut ≤ room
+  cut-fits at room h = omega (arith, goes-fits goes (smallForm (lineAt s n)) e at room h, small-length (lineAt s n), ap length cut-is)
+
+  pub cut-laid : {at end : ℕ} {before after : List ℕ} → Lays at (smallForm cut) before end after → Lays at (cond goes (smallForm (lineAt s n)) []) before end after
+  cut-laid {at} w = goes-laid goes (smallForm (lineAt s n)) e (lays-as at (ap smallForm cut-is) w)
+
+-- the three pieces of what goes out, each behind the one before it
+module _ (g : Given) (l : List ℕ) (at : ℕ) where
+  abbrev a : List ℕ
+  a = textOf (summed (g .cost) [])
+
+  abbrev b : List ℕ
+  b = cond (g .sync) (writeChars Sync) []
+
+  abbrev c : List ℕ
+  c = cond (g .line) l []
+
+  pub record Fit (room : ℕ) : Type 0 where
+    pub first : at + length a ≤ room
+    pub second : at + length a + length b ≤ room
+    pub third : at + length a + length b + length c ≤ room
+
+  pub pieces-fit : (room : ℕ) → at + length (pieces g l) ≤ room → Fit room
+  pieces-fit room h =
+      let p = length-append a (b ++ c) in
+      let q = length-append b c in
+      record { first = omega arith; second = omega arith; third = omega arith }
+
+  pub pieces-laid : {x y end : ℕ} {before one two after : List ℕ} → Fit (length before) → Lays at a before x one → length one ≡ length before → Lays x b one y two → Lays y c two end after
+      → Lays at (pieces g l) before end after
+  pieces-laid {before = before} {one = one} f w e v u =
+      lays-next at a (b ++ c) before (f .first) w (lays-next _ b c one (omega (arith, f .second, w .ends)) v u)
+
+-- ── a line ──
+
+module _ (s : List ℕ) (n : ℕ) (f : Frame) (reads : readAt s n ≡ Line n f) where
+  -- its kind and its value tell the step
+  pub step-is : (kind v : ℕ) (a : State) → kind ≡ kindAt s n → v ≡ valueAt s n → step kind v a ≡ stepped a f
+  step-is kind v a k w =
+      let i = item s n n f reads in
+      ap (λ (x : ℕ). step x v a) (k ∙ i .0) ∙ ap (λ (x : ℕ). step (kindOf f) x a) (w ∙ i .2)
+
+  -- in small letters it is what the line writer gives
+  pub line-is : smallForm (lineAt s n) ≡ writeChars f
+  line-is = sym (read-write (lineAt s n) n n f reads .2)
+
+-- ── the passes ──
+
+-- the lines from line n on, with a held back before it
+pub record Turn (s : List ℕ) (lines : ℕ) (a : State) (n : ℕ) (rest : List Frame) : Type 0 where
+  pub stands : Stands s n rest
+  pub ends : n + length rest ≡ lines
+  pub room : Room a rest
+
+module _ {s : List ℕ} {lines : ℕ} where
+  turn-next : {a : State} {n : ℕ} {f : Frame} {u : List Frame} → Turn s lines a n (f ∷ u) → Turn s lines (stepped a f .next) (n + 1) u
+  turn-next t = record { stands = t .stands .1; ends = omega (arith, t .ends); room = t .room .1 }
+
+  turn-small : {a : State} {n : ℕ} (rest : List Frame) → Turn s lines a n rest → n < lines → a .around < 2 ^ 63
+  turn-small [] t l = absurd (omega (arith, t .ends))
+  turn-small (f ∷ u) t l = t .room .0
+
+  module _ (q : Lines s lines) where
+    turn-start : Turn s lines start 0 (q .frames)
+    turn-start = record { stands = q .stands; ends = omega (arith, q .long); room = q .room }
+
+    -- ── counting ──
+
+    -- so many lines went out, and with what goes out from line n on they are all
+    pub record Counting (a : State) (total n : ℕ) : Type 0 where
+      pub rest : List Frame
+      pub turn : Turn s lines a n rest
+      pub future : total + length (outs a rest) ≡ length (outs start (q .frames))
+
+    pub counting-start : Counting start 0 0
+    counting-start = record { rest = q .frames; turn = turn-start; future = omega arith }
+
+    pub counting-small : {a : State} {total n : ℕ} → Counting a total n → n < lines → a .around < 2 ^ 63
+    counting-small h l = turn-small (h .rest) (h .turn) l
+
+    module _ {a : State} {total n : ℕ} (kind v k : ℕ) (g : Given) (kind-is : kind ≡ kindAt s n) (v-is : v ≡ valueAt s n) (g-is : g ≡ step kind v a) (k-is : k ≡ sizeOf g) where
+      pub counting-on : Counting a total n → n < lines → (total + k ≤ 65536) × Counting (g .next) (total + k) (n + 1)
+      counting-on h l = go (h .rest) (h .turn) (h .future)
+        where
+          go : (rest : List Frame) → Turn s lines a n rest → total + length (outs a rest) ≡ length (outs start (q .frames)) → (total + k ≤ 65536) × Counting (g .next) (total + k) (n + 1)
+          go [] t e = absurd (omega (arith, t .ends))
+          go (f ∷ u) t e =
+              let is : stepped a f ≡ g = sym (g-is ∙ step-is s n f (t .stands .0) kind v a kind-is v-is) in
+              let size = emitted-size (stepped a f) f (outs (stepped a f .next) u) in
+              let same : sizeOf (stepped a f) ≡ k = ap sizeOf is ∙ sym k-is in
+              let then : total + k + length (outs (stepped a f .next) u) ≡ length (outs start (q .frames)) = omega arith in (
+                omega (arith, q .few),
+                subst (λ (x : Given). Counting (x .next) (total + k) (n + 1)) is (record { rest = u; turn = turn-next t; future = then }),
+              )
+
+    pub counting-end : {a : State} {total n : ℕ} → Counting a total n → lines ≤ n → total ≡ length (outs start (q .frames))
+    counting-end {a} {total} {n} h l = go (h .rest) (h .turn) (h .future)
+      where
+        go : (rest : List Frame) → Turn s lines a n rest → total + length (outs a rest) ≡ length (outs start (q .frames)) → total ≡ length (outs start (q .frames))
+        go [] t e = omega arith
+        go (f ∷ u) t e = absurd (omega (arith, t .ends))
+
+    -- ── writing ──
+
+    abbrev whole : List ℕ
+    whole = textOf (outs start (q .frames))
+
+    -- the text of the lines that went out is laid, and with that of those that go out from line n on it is all
+    pub record Writing (before : List ℕ) (a : State) (out : List ℕ) (at n : ℕ) : Type 0 where
+      pub rest : List Frame
+      pub turn : Turn s lines a n rest
+      pub done : List ℕ
+      pub laid : Lays 0 done before at out
+      pub future : done ++ textOf (outs a rest) ≡ whole
+
+    pub writing-start : (before : List ℕ) → Writing before start before 0 0
+    writing-start before = record { rest = q .frames; turn = turn-start; done = []; laid = lays-nothing 0 before; future = refl }
+
+    pub writing-small : {before : List ℕ} {a : State} {out : List ℕ} {at n : ℕ} → Writing before a out at n → n < lines → a .around < 2 ^ 63
+    writing-small h l = turn-small (h .rest) (h .turn) l
+
+    module _ {before : List ℕ} {a : State} {out : List ℕ} {at n : ℕ} (kind v : ℕ) (g : Given) (kind-is : kind ≡ kindAt s n) (v-is : v ≡ valueAt s n) (g-is : g ≡ step kind v a)
+        (fits : length whole ≤ length before) (h : Writing before a out at n) (l : n < lines) where
+      abbrev piece : List ℕ
+      piece = pieces g (smallForm (lineAt s n))
+
+      -- line n, what goes out at it, and what is left then
+      record Here : Type 0 where
+        tail : List Frame
+        line : Whole s n
+        next : Turn s lines (g .next) (n + 1) tail
+        then : (h .done ++ piece) ++ textOf (outs (g .next) tail) ≡ whole
+
+      here : Here
+      here = go (h .rest) (h .turn) (h .future)
+        where
+          go : (rest : List Frame) → Turn s lines a n rest → h .done ++ textOf (outs a rest) ≡ whole → Here
+          go [] t e = absurd (omega (arith, t .ends))
+          go (f ∷ u) t e =
+              let is : stepped a f ≡ g = sym (g-is ∙ step-is s n f (t .stands .0) kind v a kind-is v-is) in
+              let p = pieces (stepped a f) (writeChars f) in
+              let same : p ≡ piece = ap (λ (x : Given). pieces x (writeChars f)) is ∙ ap (pieces g) (sym (line-is s n f (t .stands .0))) in
+              let on : (h .done ++ p) ++ textOf (outs (stepped a f .next) u) ≡ whole =
+              append-assoc (h .done) p (textOf (outs (stepped a f .next) u))
+              ∙ ap (λ (x : List ℕ). h .done ++ x) (sym (emitted-text (stepped a f) f (outs (stepped a f .next) u)))
+              ∙ e in
+              record {
+                tail = u;
+                line = line-whole s n f (t .stands .0);
+                next = subst (λ (x : Given). Turn s lines (x .next) (n + 1) u) is (turn-next t);
+                then = ap (λ (x : List ℕ). (h .done ++ x) ++ textOf (outs (g .next) u)) (sym same) ∙ ap (λ (x : Given). (h .done ++ p) ++ textOf (outs (x .next) u)) (sym is) ∙ on;
+              }
+
+      long : length (h .done) + length piece ≤ length before
+      long = omega (arith, ap length (here .then), length-append (h .done ++ piece) (textOf (outs (g .next) (here .tail))), length-append (h .done) piece)
+
+      pub writing-asks : length out ≡ length before → Whole s n × (at + length piece ≤ length out)
+      writing-asks e = (here .line, omega (arith, long, h .laid .ends))
+
+      pub writing-on : {end : ℕ} {after : List ℕ} → Lays at piece out end after → Writing before (g .next) after end (n + 1)
+      writing-on w = record { rest = here .tail; turn = here .next; done = h .done ++ piece; laid = lays-next 0 (h .done) piece before (omega (arith, long)) (h .laid) w; future = here .then }
+
+    pub writing-end : {before : List ℕ} {a : State} {out : List ℕ} {at n : ℕ} → Writing before a out at n → lines ≤ n → Lays 0 whole before at out
+    writing-end {before} {a} {out} {at} {n} h l = go (h .rest) (h .turn) (h .future)
+      where
+        go : (rest : List Frame) → Turn s lines a n rest → h .done ++ textOf (outs a rest) ≡ whole → Lays 0 whole before at out
+        go [] t e = subst (λ (x : List ℕ). Lays 0 x before at out) (sym (append-nil (h .done)) ∙ e) (h .laid)
+        go (f ∷ u) t e = absurd (omega (arith, t .ends))

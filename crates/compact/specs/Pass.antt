@@ -1,0 +1,34 @@
+-- For proofs and code, not for the reader of document 02: what both passes over a trace ask, and what they leave.
+use Prim.Native.Nat.{ℕ, _*_, _≤_}
+use mathlib.Core.Path.{_≡_}
+use mathlib.Core.List.{List}
+use lib.ListN.{length}
+use Rattle.line.specs.declared.Frame.{Frame}
+use Rattle.line.specs.declared.Wrote.{Wrote}
+use Rattle.trace.specs.Written.{textOf}
+use Rattle.report.specs.Room.{fitting, Writes, Lays}
+use Rattle.walk.specs.Stands.{Stands}
+use Rattle.compact.specs.Machine.{start, outs, Room}
+
+-- the lines of the text s are these frames, their bits fit, and no more go out
+pub record Lines (s : List ℕ) (lines : ℕ) : Type 0 where
+  pub frames : List Frame
+  pub stands : Stands s 0 frames
+  pub long : length frames ≡ lines
+  pub room : Room start frames
+  pub few : length (outs start frames) ≤ 65536
+  pub size : length (textOf (outs start frames)) ≡ 23 * length (outs start frames)
+  pub no-longer : length (textOf (outs start frames)) ≤ length s
+
+-- and what goes out fits
+pub record Fits (s : List ℕ) (lines room : ℕ) : Type 0 where
+  pub trace : Lines s lines
+  pub fits : length (textOf (outs start (trace .frames))) ≤ room
+
+-- what is laid, whatever trace that is
+abbrev pub Leaves : List ℕ → ℕ → List ℕ → ℕ → List ℕ → Type 0
+Leaves s lines before r after = (q : Fits s lines (length before)) → Lays 0 (textOf (outs start (q .trace .frames))) before r after
+
+-- what is answered and left, whatever trace that is
+abbrev pub Ends : List ℕ → ℕ → Wrote → List ℕ → List ℕ → Type 0
+Ends s lines r before after = (q : Lines s lines) → Writes (fitting 21 (textOf (outs start (q .frames))) (length before)) r before after

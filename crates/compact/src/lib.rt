@@ -1,0 +1,81 @@
+// The trace compactor. The lines of the result are counted where the output may be too short for them, and then written.
+mod put;
+mod step;
+
+use line::LINE;
+use line::Wrote;
+use step::State;
+ghost use mathlib.Core.Path.{_≡_};
+ghost use lib.Dec.{leb};
+ghost use lib.ListN.{length};
+ghost use Rattle.trace.specs.Written.{textOf};
+ghost use Rattle.compact.specs.Machine.{start, outs};
+ghost use Rattle.compact.specs.Pass.{Lines, Fits, Leaves, Ends};
+ghost use Rattle.compact.specs.Promise.{Compacts};
+
+// How many lines the result has.
+fn count(trace: &[u8], lines: usize) -> usize
+    requires { ⌜ Lines (now trace) lines ⌝ }
+    ensures { λ r. ⌜ ((q : Lines (now (trace .entry)) lines) → r ≡ length (outs start (q .frames))) ⌝ }
+{
+    let mut s = State::new();
+    let mut total = 0;
+    let mut n = 0;
+    while n < lines {
+        let g = s.step(line::kind_at(trace, n), line::value_at(trace, n));
+        total += put::size(g);
+        s = g.next;
+        n += 1;
+    }
+    total
+}
+
+// Writes the result to the front of the output, and answers how many characters it is.
+fn write(trace: &[u8], lines: usize, out: &mut [u8]) -> usize
+    requires { ⌜ Fits (now trace) lines (length (now out)) ⌝ }
+    ensures { λ r. ⌜ Leaves (now (trace .entry)) lines (now (out .entry)) r (now (out .exit)) ⌝ }
+{
+    let mut s = State::new();
+    let mut at = 0;
+    let mut n = 0;
+    while n < lines {
+        let g = s.step(line::kind_at(trace, n), line::value_at(trace, n));
+        at = put::lines(trace, n, out, at, g);
+        s = g.next;
+        n += 1;
+    }
+    at
+}
+
+// Whether the result fits a room of so many characters. It is never longer than the trace, and room for that is enough.
+fn fits(trace: &[u8], lines: usize, room: usize) -> bool
+    requires { ⌜ Lines (now trace) lines ⌝ }
+    ensures { λ r. ⌜ ((q : Lines (now (trace .entry)) lines) → r ≡ leb (length (textOf (outs start (q .frames)))) room) ⌝ }
+{
+    if trace.len() <= room {
+        return true;
+    }
+    LINE * count(trace, lines) <= room
+}
+
+// The trace is accepted: 21 for output shorter than the result.
+fn accepted(trace: &[u8], lines: usize, out: &mut [u8]) -> Wrote
+    requires { ⌜ Lines (now trace) lines ⌝ }
+    ensures { λ r. ⌜ Ends (now (trace .entry)) lines r (now (out .entry)) (now (out .exit)) ⌝ }
+{
+    if !fits(trace, lines, out.len()) {
+        return Wrote::Refused(21, 0);
+    }
+    Wrote::Chars(write(trace, lines, out))
+}
+
+// Writes any text, with any limits, without the lines that say nothing to the front of any output, or refuses: as the
+// engines do, with no room asked but the output, then 21 for output shorter than the result.
+pub fn compact(trace: &[u8], depth: usize, sites: usize, out: &mut [u8]) -> Wrote
+    ensures { λ r. ⌜ Compacts (now (trace .entry)) depth sites r (now (out .entry)) (now (out .exit)) ⌝ }
+{
+    match admit::with_room(trace, depth, sites, true) {
+        admit::Verdict::Accepted(_, lines) => accepted(trace, lines, out),
+        admit::Verdict::Refused(number, line) => Wrote::Refused(number, line),
+    }
+}

@@ -1,0 +1,77 @@
+//! The checks of a trace line by line, for the plain writers.
+
+use super::{Fields, CALL, RETURN, SITE, SPAWN};
+use crate::check::{before_lines, Limits};
+use crate::line::CHARS;
+use crate::refusal::{Ground, Refusal};
+
+/// Hands each line of a trace to `take`, and gives how many sites there are, or the refusal. Whether too little is
+/// lent, `short` says.
+pub fn each_line(
+    trace: &[u8],
+    limits: Limits,
+    short: impl Fn(usize) -> bool,
+    mut take: impl FnMut(&Fields),
+) -> Result<usize, Refusal> {
+    let lines = before_lines(trace, limits, short).map_err(|ground| ground.at(0))?;
+    let mut checks = Checks { limits, places: vec![], open: 1 };
+    for (number, chars) in trace.chunks_exact(CHARS).enumerate() {
+        let chars = chars.try_into().expect("a whole line");
+        take(&checks.line(number, chars).map_err(|ground| ground.at(number))?);
+    }
+    if checks.open > 0 {
+        return Err(Ground::Unfinished.at(lines));
+    }
+    Ok(checks.places.len())
+}
+
+struct Checks {
+    limits: Limits,
+    places: Vec<u64>,
+    open: u64,
+}
+
+impl Checks {
+    /// Takes one line, or gives the smallest number that it is refused with.
+    fn line(&mut self, number: usize, chars: &[u8; CHARS]) -> Result<Fields, Ground> {
+        let fields = Fields::read(chars)?;
+        if self.open == 0 {
+            return Err(Ground::AfterEnd);
+        }
+        match fields.kind {
+            CALL | SPAWN => self.enter(fields.site)?,
+            RETURN => self.open -= 1,
+            SITE => self.site(number, &fields)?,
+            _ => (),
+        }
+        Ok(fields)
+    }
+
+    /// Refusals 8, 9 and 10.
+    fn site(&mut self, number: usize, fields: &Fields) -> Result<(), Ground> {
+        let sites = self.places.len();
+        if number > sites || usize::from(fields.site) != sites + 1 {
+            return Err(Ground::SiteOrder);
+        }
+        if u64::from(fields.site) > self.limits.sites {
+            return Err(Ground::SiteLimit);
+        }
+        if self.places.contains(&fields.place()) {
+            return Err(Ground::Place);
+        }
+        self.places.push(fields.place());
+        Ok(())
+    }
+
+    /// Refusals 11 and 12.
+    fn enter(&mut self, site: u16) -> Result<(), Ground> {
+        if site == 0 || usize::from(site) > self.places.len() {
+            return Err(Ground::Undeclared);
+        }
+        if self.open >= self.limits.depth {
+            return Err(Ground::Depth);
+        }
+        self.open += 1;
+        Ok(())
+    }
+}
