@@ -10,7 +10,7 @@ use Rattle.line.specs.declared.Frame.{Frame}
 use Rattle.trace.specs.Shape.{has, sites}
 use Rattle.trace.specs.Rows.{ofRow}
 use Rattle.trace.specs.Refusals.{Verdict, accepted, refused}
-use Rattle.trace.proofs.Basics.{clash}
+use Rattle.trace.proofs.Basics.{clash, neither}
 use Rattle.trace.proofs.Scan.{accepted-same}
 use Rattle.weigh.specs.Weighed.{Tabled}
 use Rattle.forecast.specs.declared.Entry.{Entry}
@@ -18,10 +18,6 @@ use Rattle.forecast.specs.Rewritten.{factorOf, rewritten}
 use Rattle.forecast.specs.Asked.{badList, badFactor, asked, asking}
 use Rattle.forecast.specs.ByRow.{rowFactor, byEntries}
 use Rattle.forecast.proofs.Divided.{divided-least, divided-most}
-
-neither : (a b : Bool) → (a || b) ≡ false → (a ≡ false) × (b ≡ false)
-neither true b h = clash (cc)
-neither false b h = (refl, h)
 
 -- ── the factors ──
 

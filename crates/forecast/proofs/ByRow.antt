@@ -12,7 +12,7 @@ use Rattle.line.specs.declared.Frame.the-variants.{Return}
 use Rattle.trace.specs.Shape.{Is, root, step, has, sites}
 use Rattle.trace.specs.Rows.{ofRow}
 use Rattle.trace.specs.Tree.{Way, opening, lineOf, Body, done, leaf, child, linesOf, size, Within, AllSites, Parts, rootAt}
-use Rattle.trace.proofs.Cases.{IsSite, at-site}
+use Rattle.trace.proofs.Cases.{at-site}
 use Rattle.trace.proofs.Tree.{leaf-step, opening-step}
 use Rattle.trace.proofs.Sums.{not-made}
 use Rattle.trace.proofs.Columns.{first-is}

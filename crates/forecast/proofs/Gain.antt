@@ -1,20 +1,20 @@
 -- What a forecast can change, for every trace: an empty list changes nothing, no number grows, and the span falls by no
 -- more than the chosen chain's lines in the named rows lose.
-use mathlib.Core.Path.{_≡_, refl, sym, _∙_, ap, subst}
+use mathlib.Core.Path.{_≡_, refl, sym, _∙_, ap}
 use mathlib.Core.Logic.{_⊎_, inl, inr}
 use mathlib.Core.Bool.{Bool, true, false, cond, _&&_, _||_}
 use mathlib.Core.List.{List, [], _∷_}
 use Prim.Native.Nat.{ℕ, zero, suc, _+_, _-_, _≤_}
 use native.Mathlib.Omega.{arith}
-use lib.Dec.{T, eqb}
+use lib.Dec.{eqb}
 use borrow.Author.Tests.{eqb-true, eq-eqb}
 use Rattle.line.specs.declared.Frame.{Frame}
 use Rattle.line.specs.declared.Frame.the-variants.{Site, Call, Spawn, Sync, Return, Cost}
 use Rattle.chain.specs.Over.{Each}
 use Rattle.chain.specs.Over as Over
 use Rattle.trace.specs.Shape.{Is, root, step, walk, openAt, has, firstIs}
-use Rattle.trace.specs.Series.{value, valueAt, CostIn, Chain, weight, Span, Chosen}
-use Rattle.trace.specs.Rows.{ofRow, sumOf, costsWhere, directOn, sum, total, calls, work, Spans, onSpan}
+use Rattle.trace.specs.Series.{value, valueAt, CostIn, weight, Span, Chosen}
+use Rattle.trace.specs.Rows.{ofRow, sumOf, directOn, sum, total, calls, work, Spans, onSpan}
 use Rattle.trace.specs.Refusals.{Verdict, accepted, refused}
 use Rattle.trace.proofs.Basics.{no-way}
 use Rattle.weigh.specs.Cost.{costing}

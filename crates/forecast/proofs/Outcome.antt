@@ -1,14 +1,14 @@
 -- The forecast's promise determines its outcome, and some outcome always meets it.
 use mathlib.Core.Path.{_≡_, sym, _∙_, ap, subst}
 use mathlib.Core.List.{List, [], _∷_}
-use Prim.Native.Nat.{ℕ, _+_, _*_, _≤_}
+use Prim.Native.Nat.{ℕ}
 use native.Mathlib.Omega.{arith}
 use lib.ListN.{length}
 use Rattle.line.specs.declared.Frame.{Frame}
 use Rattle.trace.specs.declared.Answer.{Answer}
 use Rattle.trace.specs.Shape.{sites}
 use Rattle.trace.specs.Refusals.{Verdict, accepted, verdict}
-use Rattle.trace.specs.Promise.{Engine, marks, Lent, enough, Kept}
+use Rattle.trace.specs.Promise.{Engine, marks, Lent, enough}
 use Rattle.trace.specs.Tree.{Parts}
 use Rattle.trace.proofs.Outcome.{kept-unique, kept-met, Housed, accepted-housed}
 use Rattle.weigh.specs.Weighed.{reweighed}

@@ -1,12 +1,12 @@
 -- Two traces that differ only in what their cost lines weigh have the same open invocations, parallel lines and chains.
-use mathlib.Core.Path.{_≡_, refl, sym, _∙_, ap, subst, subst₂}
-use mathlib.Core.List.{List, [], _∷_, _++_}
-use Prim.Native.Nat.{ℕ, zero, suc, _<_}
+use mathlib.Core.Path.{_≡_, refl, sym, _∙_, ap, subst}
+use mathlib.Core.List.{List, [], _∷_}
+use Prim.Native.Nat.{ℕ, zero, suc}
 use lib.Dec.{T}
 use lib.ListN.{length}
 use Rattle.line.specs.declared.Frame.{Frame}
 use Rattle.line.specs.declared.Frame.the-variants.{Site, Call, Spawn, Sync, Return, Cost}
-use Rattle.trace.specs.Shape.{Is, step, walk, openAt, has, firstIs, Parallel, Returns}
+use Rattle.trace.specs.Shape.{Is, step, walk, openAt, has, firstIs, Parallel}
 use Rattle.chain.specs.Over.{Each, EachTwo}
 use Rattle.trace.specs.Series.{Series, valueAt, CostIn, Chain}
 use Rattle.trace.proofs.Basics.{clash}
