@@ -10,14 +10,16 @@ use lib.ListN.{length, getD, set}
 use lib.Seq.{getD-set-same, getD-set-other}
 use borrow.Author.Tests.{eqb-true, eqb-false}
 use Rattle.chain.specs.Plan.{CostLine, weight, choose}
+use Rattle.chain.proofs.Lists.{weight-append}
 use Rattle.chain.proofs.Choose.{choose-cases, test}
-use Rattle.trace.specs.Fold.{costAt, Chains, spawned, onRow}
+use Rattle.trace.specs.Fold.{costAt, Chains, joined, spawned, onRow}
 use Rattle.trace.proofs.OnChain.{row-append, row-le}
 use Rattle.walk.specs.declared.Open.{Open}
-use Rattle.walk.specs.Numbers.{spentN, laterHeavier, joinedN, calledN, childLonger, spawnedN}
-use Rattle.walk.proofs.Numbers.{spent-numbers, later-chosen, joined-numbers, called-numbers, child-chosen, spawned-numbers}
-use Rattle.tables.specs.Blocks.{Added, Cleared, Table, Weighed, sinceAt, partAt, Holds, Asks, Spent, Joined, Called, Spawned}
-use Rattle.tables.proofs.Held.{since-first, since-later, part-first, part-later, none-longest, some-longest, weightless, light, holds-two}
+use Rattle.walk.specs.Reader.{alone}
+use Rattle.walk.specs.Numbers.{spentN, laterHeavier, joinedN, childLonger, spawnedN, load}
+use Rattle.walk.proofs.Numbers.{spent-numbers, later-chosen, joined-numbers, child-chosen, spawned-numbers}
+use Rattle.tables.specs.Blocks.{Added, Cleared, Table, Shows, sinceAt, Holds, behind, Asks, Spent, Joined, Spawned}
+use Rattle.tables.proofs.Held.{since-first, since-later, behind-joined, behind-spawned, none-longest, some-longest, weightless, light, holds-two}
 
 -- a table elsewhere is kept
 kept : (t t′ : List ℕ) (a w : ℕ) (c : List CostLine) → ((i : ℕ) → i < w → getD t′ (a + i) 0 ≡ getD t (a + i) 0) → Table t a w c → Table t′ a w c
@@ -58,16 +60,21 @@ module _ (t : List ℕ) (a s v : ℕ) where
           rw (← z) (getD-set-same t (a + s) (getD t (a + s) 0 + v) 0 (omega arith) ∙ omega (arith, h s sw))
       here false q = elsewhere (a + i) (λ z. eqb-false s i q (omega arith)) ∙ omega (arith, h i l)
 
+-- behind a join one block holds all
+join-held : (n w : ℕ) (t : List ℕ) (q : List CostLine) (k : Chains) → Shows n w t (alone ((q ++ k .p) ++ choose (k .l) (k .c))) [] → Holds n w t (behind q (joined k)) []
+join-held n w t q k s = subst (λ (x : Chains). Holds n w t x []) (behind-joined q k) (holds-two n w t ((q ++ k .p) ++ choose (k .l) (k .c)) [] s)
+
 module _ (n w : ℕ) (wn : w ≤ n) (t : List ℕ) where
   -- no child was the longest: the prefix's block has the continuation
   pub join-none : (f : Open) → f .longest ≡ 0 → (b : Bool) → b ≡ laterHeavier f → Joined n w t f (joinedN b f) t
-  join-none f m b q k e h =
+  join-none f m b is q k e h =
       let z = none-longest f k e m in
-      let s = h .first z in (
-        joined-numbers f k e b q,
-        holds-two n w t (k .p ++ choose (k .l) (k .c)) []
+      let s = h .first z in
+      let p = q ++ k .p in (
+        joined-numbers f k e b is,
+        join-held n w t q k
             (record {
-              P = λ i l. omega (arith, s .P i l, row-append i (k .p) (k .c), row-append i (k .p) (choose (k .l) (k .c)), row-choose i (k .l) (k .c) z);
+              P = λ i l. omega (arith, s .P i l, row-append i p (k .c), row-append i p (choose (k .l) (k .c)), row-choose i (k .l) (k .c) z);
               L = s .L;
               C = s .C;
               G = s .G;
@@ -77,13 +84,14 @@ module _ (n w : ℕ) (wn : w ≤ n) (t : List ℕ) where
 
   -- the continuation was heavier
   pub join-since : (f : Open) (t₁ t₂ : List ℕ) → Added 0 (2 * n) w t t₁ → Cleared n w t₁ t₂ → (f .longest ≡ 0 → ⊥) → (b : Bool) → b ≡ laterHeavier f → b ≡ true → Joined n w t f (joinedN b f) t₂
-  join-since f t₁ t₂ d z m b q wins k e h =
+  join-since f t₁ t₂ d z m b is wins q k e h =
       let s = h .later (some-longest f k e m) in
-      let taken : choose (k .l) (k .c) ≡ k .c = later-chosen f k e true (sym wins ∙ q) in (
-        joined-numbers f k e b q,
-        holds-two n w t₂ (k .p ++ choose (k .l) (k .c)) []
+      let p = q ++ k .p in
+      let taken : choose (k .l) (k .c) ≡ k .c = later-chosen f k e true (sym wins ∙ is) in (
+        joined-numbers f k e b is,
+        join-held n w t₂ q k
             (record {
-              P = rw taken (kept t₁ t₂ 0 w (k .p ++ k .c) (λ i l. z .rest (0 + i) (λ x y. omega arith)) (summed 0 (2 * n) w t t₁ (k .p) (k .c) d (s .P) (s .C)));
+              P = rw taken (kept t₁ t₂ 0 w (p ++ k .c) (λ i l. z .rest (0 + i) (λ x y. omega arith)) (summed 0 (2 * n) w t t₁ p (k .c) d (s .P) (s .C)));
               L = z .gone;
               C = kept t₁ t₂ (2 * n) w [] (λ i l. z .rest (2 * n + i) (λ x y. omega arith)) (d .gone);
               G = λ i l. z .rest (4 * n + i) (λ x y. omega arith) ∙ d .rest (4 * n + i) (λ x y. omega arith) (λ x y. omega arith) ∙ s .G i l;
@@ -93,13 +101,14 @@ module _ (n w : ℕ) (wn : w ≤ n) (t : List ℕ) where
 
   -- the longest child was, or they weigh the same
   pub join-longest : (f : Open) (t₁ t₂ : List ℕ) → Added 0 n w t t₁ → Cleared (2 * n) w t₁ t₂ → (f .longest ≡ 0 → ⊥) → (b : Bool) → b ≡ laterHeavier f → b ≡ false → Joined n w t f (joinedN b f) t₂
-  join-longest f t₁ t₂ d z m b q loses k e h =
+  join-longest f t₁ t₂ d z m b is loses q k e h =
       let s = h .later (some-longest f k e m) in
-      let taken : choose (k .l) (k .c) ≡ k .l = later-chosen f k e false (sym loses ∙ q) in (
-        joined-numbers f k e b q,
-        holds-two n w t₂ (k .p ++ choose (k .l) (k .c)) []
+      let p = q ++ k .p in
+      let taken : choose (k .l) (k .c) ≡ k .l = later-chosen f k e false (sym loses ∙ is) in (
+        joined-numbers f k e b is,
+        join-held n w t₂ q k
             (record {
-              P = rw taken (kept t₁ t₂ 0 w (k .p ++ k .l) (λ i l. z .rest (0 + i) (λ x y. omega arith)) (summed 0 n w t t₁ (k .p) (k .l) d (s .P) (s .L)));
+              P = rw taken (kept t₁ t₂ 0 w (p ++ k .l) (λ i l. z .rest (0 + i) (λ x y. omega arith)) (summed 0 n w t t₁ p (k .l) d (s .P) (s .L)));
               L = kept t₁ t₂ n w [] (λ i l. z .rest (n + i) (λ x y. omega arith)) (d .gone);
               C = z .gone;
               G = λ i l. z .rest (4 * n + i) (λ x y. omega arith) ∙ d .rest (4 * n + i) (λ x y. omega arith) (λ x y. omega arith) ∙ s .G i l;
@@ -107,62 +116,16 @@ module _ (n w : ℕ) (wn : w ≤ n) (t : List ℕ) where
             }),
       )
 
-  -- a called child, where no child is the longest
-  called-first : (f : Open) (c : Open) (t′ : List ℕ) → Added 0 n w t t′ → f .longest ≡ 0 → Called n w t f c (calledN c f) t′
-  called-first f c t′ d m k g e v h =
-      let z = none-longest f k e m in
-      let s = h .first z in (
-        ap (calledN c) e ∙ called-numbers (f .at) (f .work) k c g v,
-        record {
-          first = λ q.
-              record {
-                P = subst (Table t′ 0 w) (append-assoc (k .p) (k .c) g) (summed 0 n w t t′ (k .p ++ k .c) g d (s .P) (s .L));
-                L = d .gone;
-                C = λ i l. d .rest (2 * n + i) (λ x y. omega arith) (λ x y. omega arith) ∙ s .C i l;
-                G = λ i l. d .rest (4 * n + i) (λ x y. omega arith) (λ x y. omega arith) ∙ s .G i l;
-                zero = λ j a b x y. d .rest j a b ∙ s .zero j a b x y;
-              };
-          later = λ q. absurd (q z);
-        },
-      )
-
-  -- a called child, where another child is
-  called-later : (f : Open) (c : Open) (t′ : List ℕ) → Added (2 * n) (4 * n) w t t′ → (f .longest ≡ 0 → ⊥) → Called n w t f c (calledN c f) t′
-  called-later f c t′ d m k g e v h =
-      let z = some-longest f k e m in
-      let s = h .later z in (
-        ap (calledN c) e ∙ called-numbers (f .at) (f .work) k c g v,
-        record {
-          first = λ q. absurd (z q);
-          later = λ q.
-              record {
-                P = λ i l. d .rest (0 + i) (λ x y. omega arith) (λ x y. omega arith) ∙ s .P i l;
-                L = λ i l. d .rest (n + i) (λ x y. omega arith) (λ x y. omega arith) ∙ s .L i l;
-                C = summed (2 * n) (4 * n) w t t′ (k .c) g d (s .C) (s .G);
-                G = d .gone;
-                zero = λ j a b x y. d .rest j x y ∙ s .zero j a b x y;
-              };
-        },
-      )
-
-  -- a called child, wherever the tables are
-  pub called-done : (f : Open) (c : Open) (a b : ℕ) → a ≡ sinceAt n (f .longest) → b ≡ partAt n (f .longest) → (t′ : List ℕ) → Added a b w t t′ → (r : Open) → r ≡ calledN c f → Called n w t f c r t′
-  called-done f c a b ea eb t′ added r er = rw er (go (rw (ea, eb) at added) (eqb (f .longest) 0) refl)
-    where
-      go : Added (sinceAt n (f .longest)) (partAt n (f .longest)) w t t′ → (b : Bool) → eqb (f .longest) 0 ≡ b → Called n w t f c (calledN c f) t′
-      go d true q = let m = eqb-true (f .longest) 0 q in called-first f c t′ (rw (since-first n (f .longest) m, part-first n (f .longest) m) at d) m
-      go d false q = let m = eqb-false (f .longest) 0 q in called-later f c t′ (rw (since-later n (f .longest) m, part-later n (f .longest) m) at d) m
-
   -- no child was the longest before the spawned one: its table is in its place
   pub spawned-first : (f : Open) (c : Open) → f .longest ≡ 0 → (b : Bool) → b ≡ childLonger c f → Spawned n w t f c (spawnedN b c f) t
-  spawned-first f c m b q k g e v h =
+  spawned-first f c m b is q k g e v h =
       let z = none-longest f k e m in
-      (spawned-numbers f k e c g v b q, go z (test (weight (k .l)) (weight (k .c) + weight g)))
+      (spawned-numbers f k e c g v b is, subst (λ (x : Chains). Holds n w t x []) (behind-spawned q g k) (go z (test (weight (k .l)) (weight (k .c) + weight g))))
     where
       go : weight (k .l) ≡ 0 → ((weight (k .l) < weight (k .c) + weight g) × (ltb (weight (k .l)) (weight (k .c) + weight g) ≡ true)) ⊎ ((weight (k .c) + weight g ≤ weight (k .l)) × (ltb (weight (k .l)) (weight (k .c) + weight g) ≡ false))
-          → Holds n w t (spawned g k) []
-      go z (inl q) = simp (q .1) (holds-two n w t (k .p ++ k .c) g (h .first z))
-      go z (inr q) = simp (q .1) (record { first = λ x. light n w t (k .p ++ k .c) g (omega (arith, q .0)) (h .first z); later = λ x. absurd (x z) })
+          → Holds n w t (spawned g (behind q k)) []
+      go z (inl c) = simp (c .1) (holds-two n w t ((q ++ k .p) ++ k .c) g (h .first z))
+      go z (inr c) = simp (c .1) (record { first = λ x. light n w t ((q ++ k .p) ++ k .c) g (omega (arith, c .0)) (h .first z); later = λ x. absurd (x z) })
 
   -- the spawned child's table, behind what is done to the other blocks
   pub child-table : (t₁ t₂ : List ℕ) → Added 0 (2 * n) w t t₁ → Cleared n w t₁ t₂ → (g : List CostLine) → Table t (4 * n) w g → Table t₂ (4 * n) w g
@@ -174,15 +137,16 @@ module _ (n w : ℕ) (wn : w ≤ n) (t : List ℕ) where
 
   -- the spawned child is the longest from now on
   pub spawned-longer : (f : Open) (c : Open) (t₁ t₂ t₃ : List ℕ) → Added 0 (2 * n) w t t₁ → Cleared n w t₁ t₂ → Added n (4 * n) w t₂ t₃ → (f .longest ≡ 0 → ⊥) → (b : Bool) → b ≡ childLonger c f → b ≡ true → Spawned n w t f c (spawnedN b c f) t₃
-  spawned-longer f c t₁ t₂ t₃ d z d₂ m b q wins k g e v h =
+  spawned-longer f c t₁ t₂ t₃ d z d₂ m b is wins q k g e v h =
       let s = h .later (some-longest f k e m) in
-      let p₂ : Table t₂ 0 w (k .p ++ k .c) = kept t₁ t₂ 0 w (k .p ++ k .c) (λ i l. z .rest (0 + i) (λ x y. omega arith)) (summed 0 (2 * n) w t t₁ (k .p) (k .c) d (s .P) (s .C)) in
+      let p = q ++ k .p in
+      let p₂ : Table t₂ 0 w (p ++ k .c) = kept t₁ t₂ 0 w (p ++ k .c) (λ i l. z .rest (0 + i) (λ x y. omega arith)) (summed 0 (2 * n) w t t₁ p (k .c) d (s .P) (s .C)) in
       let c₂ : Table t₂ (2 * n) w [] = kept t₁ t₂ (2 * n) w [] (λ i l. z .rest (2 * n + i) (λ x y. omega arith)) (d .gone) in (
-        spawned-numbers f k e c g v b q,
-        subst (λ (x : Chains). Holds n w t₃ x []) (sym (child-chosen f k e c g v true (sym wins ∙ q)))
-            (holds-two n w t₃ (k .p ++ k .c) g
+        spawned-numbers f k e c g v b is,
+        subst (λ (x : Chains). Holds n w t₃ x []) (ap (λ (x : List CostLine). record { p = x; l = g; c = [] }) (append-assoc q (k .p) (k .c)) ∙ ap (behind q) (sym (child-chosen f k e c g v true (sym wins ∙ is))))
+            (holds-two n w t₃ (p ++ k .c) g
             (record {
-              P = kept t₂ t₃ 0 w (k .p ++ k .c) (λ i l. d₂ .rest (0 + i) (λ x y. omega arith) (λ x y. omega arith)) p₂;
+              P = kept t₂ t₃ 0 w (p ++ k .c) (λ i l. d₂ .rest (0 + i) (λ x y. omega arith) (λ x y. omega arith)) p₂;
               L = summed n (4 * n) w t₂ t₃ [] g d₂ (z .gone) (child-table t₁ t₂ d z g (s .G));
               C = kept t₂ t₃ (2 * n) w [] (λ i l. d₂ .rest (2 * n + i) (λ x y. omega arith) (λ x y. omega arith)) c₂;
               G = d₂ .gone;
@@ -192,11 +156,11 @@ module _ (n w : ℕ) (wn : w ≤ n) (t : List ℕ) where
 
   -- it is not
   pub spawned-shorter : (f : Open) (c : Open) (t₁ : List ℕ) → Cleared (4 * n) w t t₁ → (f .longest ≡ 0 → ⊥) → (b : Bool) → b ≡ childLonger c f → b ≡ false → Spawned n w t f c (spawnedN b c f) t₁
-  spawned-shorter f c t₁ z m b q loses k g e v h =
+  spawned-shorter f c t₁ z m b is loses q k g e v h =
       let x = some-longest f k e m in
       let s = h .later x in (
-        spawned-numbers f k e c g v b q,
-        subst (λ (x : Chains). Holds n w t₁ x []) (sym (child-chosen f k e c g v false (sym loses ∙ q)))
+        spawned-numbers f k e c g v b is,
+        subst (λ (x : Chains). Holds n w t₁ (behind q x) []) (sym (child-chosen f k e c g v false (sym loses ∙ is)))
             (record {
               first = λ o. absurd (x o);
               later = λ o.
@@ -212,40 +176,40 @@ module _ (n w : ℕ) (wn : w ≤ n) (t : List ℕ) where
 
   -- a cost, where no child is the longest
   spent-first : (f : Open) (s v : ℕ) → s < w → 4 * n ≤ length t → f .longest ≡ 0 → Spent n w s v t f (spentN v f) (raised t 0 s v)
-  spent-first f s v sw room m k e h =
+  spent-first f s v sw room m q k e h =
       let z = none-longest f k e m in
       let o = h .first z in
       let other = elsewhere t 0 s v in (
         ap (spentN v) e ∙ spent-numbers (f .at) (f .work) s v k,
         record {
-          first = λ q.
+          first = λ x.
               record {
-                P = subst (Table (raised t 0 s v) 0 w) (append-assoc (k .p) (k .c) (costAt (f .at) s v ∷ [])) (row-raised t 0 s v w (f .at) (k .p ++ k .c) sw (omega arith) (o .P));
-                L = λ i l. other (n + i) (λ q. omega arith) ∙ o .L i l;
-                C = λ i l. other (2 * n + i) (λ q. omega arith) ∙ o .C i l;
-                G = λ i l. other (4 * n + i) (λ q. omega arith) ∙ o .G i l;
-                zero = λ j a b x y. other j (λ q. a (omega arith) (omega arith)) ∙ o .zero j a b x y;
+                P = subst (Table (raised t 0 s v) 0 w) (append-assoc (q ++ k .p) (k .c) (costAt (f .at) s v ∷ [])) (row-raised t 0 s v w (f .at) ((q ++ k .p) ++ k .c) sw (omega arith) (o .P));
+                L = λ i l. other (n + i) (λ e. omega arith) ∙ o .L i l;
+                C = λ i l. other (2 * n + i) (λ e. omega arith) ∙ o .C i l;
+                G = λ i l. other (4 * n + i) (λ e. omega arith) ∙ o .G i l;
+                zero = λ j a b x y. other j (λ e. a (omega arith) (omega arith)) ∙ o .zero j a b x y;
               };
-          later = λ q. absurd (q z);
+          later = λ x. absurd (x z);
         },
       )
 
   -- a cost, where a child is
   spent-later : (f : Open) (s v : ℕ) → s < w → 4 * n ≤ length t → (f .longest ≡ 0 → ⊥) → Spent n w s v t f (spentN v f) (raised t (2 * n) s v)
-  spent-later f s v sw room m k e h =
+  spent-later f s v sw room m q k e h =
       let z = some-longest f k e m in
       let o = h .later z in
       let other = elsewhere t (2 * n) s v in (
         ap (spentN v) e ∙ spent-numbers (f .at) (f .work) s v k,
         record {
-          first = λ q. absurd (z q);
-          later = λ q.
+          first = λ x. absurd (z x);
+          later = λ x.
               record {
-                P = λ i l. other (0 + i) (λ q. omega arith) ∙ o .P i l;
-                L = λ i l. other (n + i) (λ q. omega arith) ∙ o .L i l;
+                P = λ i l. other (0 + i) (λ e. omega arith) ∙ o .P i l;
+                L = λ i l. other (n + i) (λ e. omega arith) ∙ o .L i l;
                 C = row-raised t (2 * n) s v w (f .at) (k .c) sw (omega arith) (o .C);
-                G = λ i l. other (4 * n + i) (λ q. omega arith) ∙ o .G i l;
-                zero = λ j a b x y. other j (λ q. x (omega arith) (omega arith)) ∙ o .zero j a b x y;
+                G = λ i l. other (4 * n + i) (λ e. omega arith) ∙ o .G i l;
+                zero = λ j a b x y. other j (λ e. x (omega arith) (omega arith)) ∙ o .zero j a b x y;
               };
         },
       )
@@ -259,49 +223,29 @@ module _ (n w : ℕ) (wn : w ≤ n) (t : List ℕ) where
       go false q = let m = eqb-false (f .longest) 0 q in rw (since-later n (f .longest) m) (spent-later f s v sw room m)
 
 -- what a step may rely on
-module _ {n w : ℕ} {t : List ℕ} {f : Open} {v : ℕ} (r : Asks n w t f v) where
-  -- the invocation's numbers and the child's fit together
-  pub load-fits : f .prefix + (f .longest + f .since) + v < 2 ^ 64
+module _ {n w : ℕ} {t : List ℕ} {f : Open} {u v : ℕ} (r : Asks n w t f u v) where
+  -- the invocation's numbers, the child's and what is to come fit together
+  pub load-fits : f .prefix + (f .longest + f .since) + (u + v) < 2 ^ 64
   load-fits = omega (arith, r .fits, ap (λ (x : Open). x .prefix) (r .weighs), ap (λ (x : Open). x .longest) (r .weighs), ap (λ (x : Open). x .since) (r .weighs))
 
+  -- so do the tables
+  pub prefix-fits : weight (r .q ++ r .k .p) + (weight (r .k .l) + weight (r .k .c)) + (u + v) < 2 ^ 64
+  prefix-fits = omega (arith, r .fits, weight-append (r .q) (r .k .p))
+
   -- a number of the block with the continuation
-  pub since-le : (i : ℕ) → i < w → getD t (sinceAt n (f .longest) + i) 0 ≤ f .prefix + f .since
+  pub since-le : (i : ℕ) → i < w → getD t (sinceAt n (f .longest) + i) 0 ≤ weight (r .q) + load (r .k)
   since-le i l = go (eqb (f .longest) 0) refl
     where
-      go : (b : Bool) → eqb (f .longest) 0 ≡ b → getD t (sinceAt n (f .longest) + i) 0 ≤ f .prefix + f .since
-      go true q =
-          let m = eqb-true (f .longest) 0 q in
+      go : (b : Bool) → eqb (f .longest) 0 ≡ b → getD t (sinceAt n (f .longest) + i) 0 ≤ weight (r .q) + load (r .k)
+      go true x =
+          let m = eqb-true (f .longest) 0 x in
           let s = r .holds .first (none-longest f (r .k) (r .weighs) m) in
           rw (since-first n (f .longest) m)
-          (omega (arith, s .P i l, row-append i (r .k .p) (r .k .c), row-le i (r .k .p), row-le i (r .k .c), ap (λ (x : Open). x .prefix) (r .weighs), ap (λ (x : Open). x .since) (r .weighs)))
-      go false q =
-          let m = eqb-false (f .longest) 0 q in
+          (omega (arith, s .P i l, row-append i (r .q ++ r .k .p) (r .k .c), row-append i (r .q) (r .k .p), row-le i (r .q), row-le i (r .k .p), row-le i (r .k .c)))
+      go false x =
+          let m = eqb-false (f .longest) 0 x in
           let s = r .holds .later (some-longest f (r .k) (r .weighs) m) in
-          rw (since-later n (f .longest) m) (omega (arith, s .C i l, row-le i (r .k .c), ap (λ (x : Open). x .since) (r .weighs)))
-
-  -- the block that the child left
-  pub part-weighed : Weighed t (partAt n (f .longest)) w v
-  part-weighed = go (eqb (f .longest) 0) refl
-    where
-      go : (b : Bool) → eqb (f .longest) 0 ≡ b → Weighed t (partAt n (f .longest)) w v
-      go true q =
-          let m = eqb-true (f .longest) 0 q in
-          rw (part-first n (f .longest) m) (record { g = r .g; weighs = r .child; table = r .holds .first (none-longest f (r .k) (r .weighs) m) .L })
-      go false q =
-          let m = eqb-false (f .longest) 0 q in
-          rw (part-later n (f .longest) m) (record { g = r .g; weighs = r .child; table = r .holds .later (some-longest f (r .k) (r .weighs) m) .G })
-
-  -- the two can be added
-  pub take-fits : (i : ℕ) → i < w → getD t (sinceAt n (f .longest) + i) 0 + getD t (partAt n (f .longest) + i) 0 < 2 ^ 64
-  take-fits i l = let g = part-weighed in omega (arith, load-fits, since-le i l, g .table i l, row-le i (g .g), g .weighs)
-
-  -- and they lie one behind the other
-  pub take-room : 5 * n ≤ length t → (sinceAt n (f .longest) + w ≤ partAt n (f .longest)) × (partAt n (f .longest) + w ≤ length t)
-  take-room room = go (eqb (f .longest) 0)
-    where
-      go : (b : Bool) → (cond b 0 (2 * n) + w ≤ cond b n (4 * n)) × (cond b n (4 * n) + w ≤ length t)
-      go true = (omega (arith, r .blocks), omega (arith, r .blocks))
-      go false = (omega (arith, r .blocks), omega (arith, r .blocks))
+          rw (since-later n (f .longest) m) (omega (arith, s .C i l, row-le i (r .k .c)))
 
   -- the block with the continuation is in the scratch
   pub since-room : sinceAt n (f .longest) + w ≤ length t

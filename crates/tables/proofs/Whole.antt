@@ -38,7 +38,7 @@ use Rattle.walk.proofs.Accepted as root
 use Rattle.tables.specs.Blocks.{Shows}
 use Rattle.tables.specs.Reader.{BodyAsks, BodyLeaves}
 use Rattle.tables.specs.Root.{lent, Admitted, Settled}
-use Rattle.tables.proofs.Held.{holds-two}
+use Rattle.tables.proofs.Held.{opens}
 use Rattle.tables.proofs.Parts.{own-only}
 
 zeros-show : (n w l : ℕ) → Shows n w (replicate l 0) nothing []
@@ -98,9 +98,11 @@ module _ {s : List ℕ} {D M : ℕ} {scratch rows : List ℕ} {count lines : ℕ
           blocks = omega arith;
           wide = omega arith;
           room = omega (arith, blocks-long, room-is D (count + 1) (limits .0), length-replicate {A = ℕ} (length scratch) 0);
+          q = [];
           k = nothing;
           weighs = refl;
-          holds = holds-two (count + 1) (count + 1) (replicate (length scratch) 0) [] [] (zeros-show (count + 1) (count + 1) (length scratch));
+          holds = opens (count + 1) (count + 1) (replicate (length scratch) 0) [] (zeros-show (count + 1) (count + 1) (length scratch));
+          fits = omega (arith, root.ready tables s D M (lent scratch rows) (a .t) (a .is) count (a .count-is) how tabled .load-fits);
         }))
 
     -- The root was read: its numbers are c, and it left the scratch t₂ and the rows rows₂. Before it, columns 2 and 3 of its
@@ -124,7 +126,7 @@ module _ {s : List ℕ} {D M : ℕ} {scratch rows : List ℕ} {count lines : ℕ
 
       left : BodyDone first 0 rows₁ b c rows₂ × Shows (count + 1) (count + 1) t₂ (alone (chainOf first 0 b)) []
       left =
-          let h = u .leaves b (root.reads tables s D M (lent scratch rows) (a .t) (a .is) count (a .count-is) how tabled) (subst (λ (x : List ℕ). Shows (count + 1) (count + 1) x nothing []) (sym (u .blank .scratch-is)) (zeros-show (count + 1) (count + 1) (length scratch))) in
+          let h = u .leaves b [] (root.reads tables s D M (lent scratch rows) (a .t) (a .is) count (a .count-is) how tabled) (subst (λ (x : List ℕ). Shows (count + 1) (count + 1) x nothing []) (sym (u .blank .scratch-is)) (zeros-show (count + 1) (count + 1) (length scratch))) in
           (subst (λ (y : List ℕ). BodyDone first 0 y b c rows₂) (u .blank .rows-are) (h .0), h .1)
 
       pub root-counts : ReturnFits before rows₂ 0 (c .work) (c .prefix)

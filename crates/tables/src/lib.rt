@@ -1,12 +1,13 @@
 // The table engine. The scratch is blocks of n numbers; the first w numbers of a block are a table: what of a chain
 // stands in each row. The readers take both alike, a number a row. The root is lent the whole scratch. An open
-// invocation lends a child all that lies behind the blocks that it has in use itself, and has it back when the child
-// returns. Its part is at each moment what it was
-// lent, without what it has lent on: so each open invocation works in its own part of the scratch, and no two parts
-// share a number. As long as no child is the longest, one block is in use: the table of the prefix and the
-// continuation together. The table that a child leaves at the front of its part is then in the next block, that of
-// the longest child. Once a child is the longest, four blocks are in use: the prefix's, the longest child's, the
-// continuation's, and one that stays zero.
+// invocation lends a called child what lies from the table of its continuation on, for the continuation always takes
+// the child's chain: the child adds that to the table. It lends a spawned child what lies behind the blocks that it has
+// in use itself. It has what it lent back when the child returns. Its part is at each moment what it was lent, without
+// what it has lent on: so each open invocation works in its own part of the scratch, and no two parts share a number.
+// As long as no child is the longest, one block is in use: the table of the prefix and the continuation together,
+// behind what stood there when the invocation was opened. The table that a spawned child leaves at the front of its part
+// is then in the next block, that of the longest child. Once a child is the longest, four blocks are in use: the
+// prefix's, the longest child's, the continuation's, and one that stays zero.
 ghost use mathlib.Core.Path.{_≡_};
 ghost use Prim.Native.Nat.{ℕ, _+_, _*_, _^_, _≤_, _<_};
 ghost use lib.ListN.{length, getD};
@@ -15,7 +16,7 @@ ghost use Rattle.trace.specs.Promise.{tables, Promise};
 ghost use Rattle.forecast.specs.OfList.{ForecastOf};
 ghost use Rattle.walk.specs.Weight.{byFactors, Factors};
 ghost use Rattle.walk.specs.Profiled.{Profiled};
-ghost use Rattle.tables.specs.Blocks.{Added, Cleared, Weighed, sinceAt, partAt, Asks, Spent, Joined, Called, Spawned};
+ghost use Rattle.tables.specs.Blocks.{Added, Cleared, Weighed, sinceAt, partAt, childAt, Asks, Spent, Joined, Spawned};
 ghost use Rattle.tables.specs.Root.{lent, Admitted, Settled};
 ghost use Rattle.tables.specs.Reader.{Lent, ItemAsks, ItemLeaves, ItemsLeave, BodyAsks, BodyLeaves};
 
@@ -85,8 +86,8 @@ fn since(n: usize, f: walk::Open) -> usize
     2 * n
 }
 
-// Where a child's part of the scratch begins: behind the blocks in use, one as long as no child is the longest, else
-// four.
+// Where a spawned child's part of the scratch begins: behind the blocks in use, one as long as no child is the longest,
+// else four.
 fn part(n: usize, f: walk::Open) -> usize
     requires { ⌜ 4 * n < 2 ^ 64 ⌝ }
     ensures { λ r. ⌜ r ≡ partAt n (f .longest) ⌝ }
@@ -97,11 +98,22 @@ fn part(n: usize, f: walk::Open) -> usize
     4 * n
 }
 
+// Where a child's part of the scratch begins: a called child goes on in the continuation's table, a spawned child begins
+// behind the blocks in use.
+fn child_part(kind: u8, n: usize, f: walk::Open) -> usize
+    requires { ⌜ 4 * n < 2 ^ 64 ⌝ }
+    ensures { λ r. ⌜ r ≡ childAt kind n (f .longest) ⌝ }
+{
+    if kind != 2 {
+        return part(n, f);
+    }
+    since(n, f)
+}
+
 // A cost of v in row s: the continuation's.
 fn spend(t: &mut [u64], n: usize, w: usize, f: walk::Open, s: usize, v: u64) -> walk::Open
-    requires { ⌜ Asks n w (now t) f 0 ⌝ }
-    requires { ⌜ (s < w)
-        × ((f .at + 1 < 2 ^ 64) × ((f .work + v < 2 ^ 64) × (f .prefix + (f .longest + f .since) + v < 2 ^ 64))) ⌝ }
+    requires { ⌜ Asks n w (now t) f 0 v ⌝ }
+    requires { ⌜ (s < w) × ((f .at + 1 < 2 ^ 64) × (f .work + v < 2 ^ 64)) ⌝ }
     ensures { λ r. ⌜ Spent n w s v (now (t .entry)) f r (now (t .exit)) ⌝ }
 {
     let i = since(n, f) + s;
@@ -112,7 +124,7 @@ fn spend(t: &mut [u64], n: usize, w: usize, f: walk::Open, s: usize, v: u64) -> 
 // A sync, or the join at a return: the prefix takes the longest child or, where it is heavier, the continuation. Its
 // block has the continuation already where no child is the longest.
 fn join(t: &mut [u64], n: usize, w: usize, f: walk::Open) -> walk::Open
-    requires { ⌜ Asks n w (now t) f 0 ⌝ }
+    requires { ⌜ Asks n w (now t) f 0 0 ⌝ }
     requires { ⌜ f .at + 1 < 2 ^ 64 ⌝ }
     ensures { λ r. ⌜ Joined n w (now (t .entry)) f r (now (t .exit)) ⌝ }
 {
@@ -131,20 +143,10 @@ fn join(t: &mut [u64], n: usize, w: usize, f: walk::Open) -> walk::Open
     f.joined(later)
 }
 
-// A called child of row s has returned: the continuation takes its chain.
-fn called(t: &mut [u64], n: usize, w: usize, f: walk::Open, s: usize, c: walk::Open) -> walk::Open
-    requires { ⌜ Asks n w (now t) f (c .prefix) ⌝ }
-    requires { ⌜ (s < w) × ((5 * n ≤ length (now t)) × (f .work + c .work < 2 ^ 64)) ⌝ }
-    ensures { λ r. ⌜ Called n w (now (t .entry)) f c r (now (t .exit)) ⌝ }
-{
-    take_child(t, since(n, f), part(n, f), w, s, c.prefix);
-    f.called(c)
-}
-
 // A spawned child of row s has returned: it is the longest from now on where it is longer, and the prefix takes the
 // continuation up to it. Where no child was the longest before, each table is in its place already.
 fn spawned(t: &mut [u64], n: usize, w: usize, f: walk::Open, s: usize, c: walk::Open) -> walk::Open
-    requires { ⌜ Asks n w (now t) f (c .prefix) ⌝ }
+    requires { ⌜ Asks n w (now t) f (c .prefix) 0 ⌝ }
     requires { ⌜ (s < w) × ((5 * n ≤ length (now t)) × (f .work + c .work < 2 ^ 64)) ⌝ }
     ensures { λ r. ⌜ Spawned n w (now (t .entry)) f c r (now (t .exit)) ⌝ }
 {
@@ -234,12 +236,12 @@ fn item(
         return join(t, w, w, f);
     }
     let site = line::site_at(trace, at) as usize;
-    let o = part(w, f);
+    let o = child_part(kind, w, f);
     let before = walk::credit_of(rows, site);
     let c = body(trace, at + 1, site, deep - 1, &mut t[o..], rows, w, factors);
     walk::returned(rows, site, c.work, c.prefix, before);
     if kind == 2 {
-        return called(t, w, w, f, site, c);
+        return f.called(c);
     }
     spawned(t, w, w, f, site, c)
 }

@@ -1,10 +1,11 @@
 -- `tables::join` meets its contract: the block of the chain that wins is added to the prefix's, and that of the loser
 -- cleared.
 use Prim.Native.Nat.{_+_, _*_, _^_, _<_}
+use mathlib.Core.List.{_++_}
 use native.Mathlib.Omega.{arith}
 use borrow.Author.Needs.{needs}
 use Rattle.tables.proofs.Held.{some-longest}
-use Rattle.tables.proofs.Steps.{fits, load-fits, join-none, join-since, join-longest}
+use Rattle.tables.proofs.Steps.{fits, load-fits, prefix-fits, join-none, join-since, join-longest}
 use Rattle.tables.proofs.join.Statement.{statement}
 use Rattle.tables.proofs.join.Tie as tie
 
@@ -61,7 +62,7 @@ add-from-requires c κs =
     let a = asked-start l in
     let r = a .pre .0 in
     let s = r .holds .later (some-longest (a .args .f) (r .k) (r .weighs) (l .before .if1 .left)) in
-    ((omega (arith, r .blocks), omega (arith, r .blocks, r .room)), fits 0 (2 * a .args .n) (a .args .w) (a .args .t .now) (r .k .p) (r .k .c) (s .P) (s .C) (omega (arith, r .fits)))
+    ((omega (arith, r .blocks), omega (arith, r .blocks, r .room)), fits 0 (2 * a .args .n) (a .args .w) (a .args .t .now) (r .q ++ r .k .p) (r .k .c) (s .P) (s .C) (omega (arith, prefix-fits r)))
 
 clear-requires : tie.Need-clear-requires
 clear-requires c κs = search needs
@@ -87,7 +88,7 @@ add-from-requires-2 c κs =
     let a = asked-start l in
     let r = a .pre .0 in
     let s = r .holds .later (some-longest (a .args .f) (r .k) (r .weighs) (l .before .if1 .left)) in
-    ((omega (arith, r .blocks), omega (arith, r .blocks, r .room)), fits 0 (a .args .n) (a .args .w) (a .args .t .now) (r .k .p) (r .k .l) (s .P) (s .L) (omega (arith, r .fits)))
+    ((omega (arith, r .blocks), omega (arith, r .blocks, r .room)), fits 0 (a .args .n) (a .args .w) (a .args .t .now) (r .q ++ r .k .p) (r .k .l) (s .P) (s .L) (omega (arith, prefix-fits r)))
 
 clear-requires-2 : tie.Need-clear-requires-2
 clear-requires-2 c κs = search needs

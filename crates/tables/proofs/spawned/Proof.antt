@@ -1,11 +1,12 @@
 -- `tables::spawned` meets its contract: the child's block is that of the longest child where it is longer, else it is
 -- cleared.
 use Prim.Native.Nat.{_+_, _*_, _^_, _<_}
+use mathlib.Core.List.{_++_}
 use native.Mathlib.Omega.{arith}
 use borrow.Author.Needs.{needs}
-use Rattle.tables.specs.Blocks.{Shows}
+use Rattle.tables.specs.Blocks.{Shows, behind}
 use Rattle.tables.proofs.Held.{some-longest}
-use Rattle.tables.proofs.Steps.{fits, load-fits, child-table, child-fits, spawned-first, spawned-longer, spawned-shorter}
+use Rattle.tables.proofs.Steps.{fits, load-fits, prefix-fits, child-table, child-fits, spawned-first, spawned-longer, spawned-shorter}
 use Rattle.tables.proofs.spawned.Statement.{statement}
 use Rattle.tables.proofs.spawned.Tie as tie
 
@@ -40,7 +41,7 @@ both-fit c = (c .pre .1 .1 .1, omega (arith, load-fits (c .pre .0)))
 
 -- a child is the longest: each block shows its own chain
 shows : (c : tie.After-child-longer2) → (
-    let a = asked-start c in let r = a .pre .0 in Shows (a .args .n) (a .args .w) (a .args .t .now) (r .k) (r .g))
+    let a = asked-start c in let r = a .pre .0 in Shows (a .args .n) (a .args .w) (a .args .t .now) (behind (r .q) (r .k)) (r .g))
 shows c =
     let a = asked-start c in
     let r = a .pre .0 in
@@ -73,7 +74,7 @@ add-from-requires c κs =
     let a = asked-start e in
     let r = a .pre .0 in
     let s = shows e in
-    ((omega (arith, r .blocks), omega (arith, r .blocks, r .room)), fits 0 (2 * a .args .n) (a .args .w) (a .args .t .now) (r .k .p) (r .k .c) (s .P) (s .C) (omega (arith, r .fits)))
+    ((omega (arith, r .blocks), omega (arith, r .blocks, r .room)), fits 0 (2 * a .args .n) (a .args .w) (a .args .t .now) (r .q ++ r .k .p) (r .k .c) (s .P) (s .C) (omega (arith, prefix-fits r)))
 
 clear-requires : tie.Need-clear-requires
 clear-requires c κs = search needs

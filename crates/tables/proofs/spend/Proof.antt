@@ -1,6 +1,6 @@
 -- `tables::spend` meets its contract: the cost is added to the continuation's table.
 use native.Mathlib.Omega.{arith}
-use Rattle.tables.proofs.Steps.{since-le, since-room, spent-done}
+use Rattle.tables.proofs.Steps.{load-fits, since-le, since-room, spent-done}
 use borrow.Author.Needs.{needs}
 use Rattle.tables.proofs.spend.Statement.{statement}
 use Rattle.tables.proofs.spend.Tie as tie
@@ -28,12 +28,12 @@ add-requires : tie.Need-add-requires
 add-requires c κs =
     let a = start (c .before) in
     let r = a .pre .0 in
-    rw (c .before .since .ensures) (omega (arith, since-room r, a .pre .1 .0), omega (arith, since-le r (a .args .s) (a .pre .1 .0), a .pre .1 .1 .1 .1))
+    rw (c .before .since .ensures) (omega (arith, since-room r, a .pre .1 .0), omega (arith, since-le r (a .args .s) (a .pre .1 .0), r .fits))
 
 spent-requires : tie.Need-spent-requires
 spent-requires c κs =
     let a = start (since (added c)) in
-    (a .pre .1 .1 .0, (a .pre .1 .1 .1 .0, omega (arith, a .pre .1 .1 .1 .1)))
+    (a .pre .1 .1 .0, (a .pre .1 .1 .1, omega (arith, load-fits (a .pre .0))))
 
 same-length : tie.Need-same-length
 same-length c = search needs
