@@ -52,6 +52,7 @@ module _ (how : Weigh) (s : List ℕ) (row deep n w : ℕ) where
             ready = ready-again how s row (l .m) deep f rows (l .ready) (more k5 l) (l .k) (l .weighs) r rows′ lr (left .0);
             blocks = l .blocks;
             wide = l .wide;
+            few = l .few;
             room = omega (arith, l .room, lt);
             q = l .q;
             k = itemChains (f .at) row b (l .k);

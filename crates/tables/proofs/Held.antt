@@ -3,16 +3,15 @@ use mathlib.Core.Path.{_≡_, refl, ap, _∙_, sym, subst}
 use mathlib.Core.Bool.{Bool, true, false, cond}
 use mathlib.Core.List.{List, [], _++_, append-nil, append-assoc}
 use Prim.Native.Nat.{ℕ, _+_, _*_}
-use native.Mathlib.Omega.{arith}
 use lib.Dec.{ltb}
 use borrow.Author.Tests.{eq-eqb, ne-eqb}
 use Rattle.chain.specs.Plan.{CostLine, weight, choose}
-use Rattle.trace.specs.Fold.{Chains, nothing, joined, spawned, onRow}
-use Rattle.trace.proofs.OnChain.{row-le}
+use Rattle.trace.specs.Fold.{Chains, nothing, joined, spawned}
 use Rattle.walk.specs.declared.Open.{Open}
 use Rattle.walk.specs.Numbers.{numbers}
 use Rattle.walk.specs.Reader.{alone}
 use Rattle.tables.specs.Blocks.{Shows, sinceAt, partAt, childAt, Holds, behind}
+use Rattle.tables.proofs.Number.{number-light}
 
 -- where the continuation's table is and where a child's part begins: as long as no child is the longest, and from then on
 pub since-first : (n v : ℕ) → v ≡ 0 → sinceAt n v ≡ 0
@@ -51,14 +50,10 @@ none-longest f k e z = sym (ap (λ (x : Open). x .longest) e) ∙ z
 pub some-longest : (f : Open) (k : Chains) → f ≡ numbers (f .at) (f .work) k → (f .longest ≡ 0 → ⊥) → weight (k .l) ≡ 0 → ⊥
 some-longest f k e m z = m (ap (λ (x : Open). x .longest) e ∙ z)
 
--- a chain that weighs nothing has nothing in any row
-pub weightless : (i : ℕ) (c : List CostLine) → weight c ≡ 0 → onRow i c ≡ 0
-weightless i c e = omega (arith, row-le i c)
-
 module _ (n w : ℕ) (t : List ℕ) where
   -- a longest child that weighs nothing is none
   pub light : (p l : List CostLine) → weight l ≡ 0 → Shows n w t (record { p = p; l = l; c = [] }) [] → Shows n w t (alone p) []
-  light p l e s = record { P = s .P; L = λ i h. s .L i h ∙ weightless i l e; C = s .C; G = s .G; zero = s .zero }
+  light p l e s = record { P = s .P; L = λ i h. s .L i h ∙ number-light w l e i h; C = s .C; G = s .G; zero = s .zero }
 
   -- where the continuation is empty, each chain's table is in its own block
   pub holds-two : (p l : List CostLine) → Shows n w t (record { p = p; l = l; c = [] }) [] → Holds n w t (record { p = p; l = l; c = [] }) []

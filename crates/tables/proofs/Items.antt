@@ -13,7 +13,7 @@ use Rattle.line.specs.At.{kindAt, siteAt, valueAt}
 use Rattle.trace.specs.Column.{Column, slot}
 use Rattle.chain.specs.Plan.{CostLine, weight}
 use Rattle.chain.proofs.Lists.{weight-append}
-use Rattle.trace.specs.Tree.{spend, Body, leaf, workOf}
+use Rattle.trace.specs.Tree.{spend, Body, leaf, Within, workOf}
 use Rattle.trace.specs.Fold.{Chains, nothing, joined, called, spawned, chainOf}
 use Rattle.trace.proofs.Basics.{cond-same}
 use Rattle.weigh.specs.Weighed.{Weigh}
@@ -93,8 +93,12 @@ module _ {how : Weigh} {s : List ℕ} {kind row deep : ℕ} {f : Open} {t rows :
   pub rows-asks : ColumnFits rows row Column.local v
   rows-asks = fit .0
 
-  pub spend-asks : Asks n w t f 0 v × ((row < w) × ((f .at + 1 < 2 ^ 64) × (f .work + v < 2 ^ 64)))
-  spend-asks = let l = h .asks .lent in (own-asks l v (omega (arith, ap workOf (here .1))), (omega (arith, l .ready .row-in, l .wide), (line-fits l, fit .1 .0)))
+  -- it is at least 1
+  some : 1 ≤ v
+  some = let y = h .asks .lent .ready in subst (Within (h .asks .lent .m) (y .D) (y .d)) (here .1) (y .within) .0 .0
+
+  pub spend-asks : Asks n w t f 0 v × ((row < w) × ((w ≤ 256) × ((1 ≤ v) × ((f .at + 1 < 2 ^ 64) × (f .work + v < 2 ^ 64)))))
+  spend-asks = let l = h .asks .lent in (own-asks l v (omega (arith, ap workOf (here .1))), (omega (arith, l .ready .row-in, l .wide), (l .few, (some, (line-fits l, fit .1 .0)))))
 
   -- what is left of it
   pub cost-leaves : (r : Open) (t′ rows′ : List ℕ) → Grown rows (one (slot row Column.local) v) rows′ → Spent n w row v t f r t′ → ItemLeaves how s row f t rows n w r t′ rows′
@@ -178,6 +182,7 @@ module _ {how : Weigh} {s : List ℕ} {kind row deep : ℕ} {f : Open} {t rows :
         ready = child-ready how s row (l .m) deep f rows (l .ready) site child;
         blocks = l .blocks;
         wide = l .wide;
+        few = l .few;
         room = omega (arith, room-below, below, part-length n w (l .blocks) t (own-room l) o below);
         q = front .0;
         k = nothing;
@@ -227,11 +232,10 @@ module _ {how : Weigh} {s : List ℕ} {kind row deep : ℕ} {f : Open} {t rows :
     called-asks = (work-fits, omega (arith, all-fit, ap (λ (x : Open). x .since) (l .weighs)))
 
     -- and a spawned child's chain
-    pub spawned-asks : (kind ≡ 2 → ⊥) → Asks n w back f (c .prefix) 0 × ((site < w) × ((5 * n ≤ length back) × (f .work + c .work < 2 ^ 64)))
+    pub spawned-asks : (kind ≡ 2 → ⊥) → Asks n w back f (c .prefix) 0 × ((5 * n ≤ length back) × (f .work + c .work < 2 ^ 64))
     spawned-asks k2 =
         let g = chainOf (f .at + 1) site (child .g) in
-        let d = u .leaves (child .g) [] (child .reads) (spawned-shows (l .q) (l .k) (l .weighs) (l .holds) k2) in
-        let r = child-ready how s row (l .m) deep f rows (l .ready) site child in (
+        let d = u .leaves (child .g) [] (child .reads) (spawned-shows (l .q) (l .k) (l .weighs) (l .holds) k2) in (
           record {
             blocks = l .blocks;
             room = omega (arith, own-room l, back-long);
@@ -243,7 +247,7 @@ module _ {how : Weigh} {s : List ℕ} {kind row deep : ℕ} {f : Open} {t rows :
             holds = spawned-back (l .q) (l .k) (l .weighs) (l .holds) k2 g y (d .1);
             fits = omega (arith, all-fit);
           },
-          (omega (arith, r .row-in, l .wide), (omega (arith, room-below, back-long), work-fits)),
+          (omega (arith, room-below, back-long), work-fits),
         )
 
     -- it was counted, and the step left r

@@ -16,7 +16,8 @@ use Rattle.chain.proofs.Lists.{weight-append}
 use Rattle.trace.specs.Fold.{Chains, nothing, called}
 use Rattle.walk.specs.Numbers.{load}
 use Rattle.walk.specs.Reader.{alone}
-use Rattle.tables.specs.Blocks.{Out, Table, Shows, sinceAt, partAt, childAt, Holds}
+use Rattle.tables.specs.Blocks.{Shows, sinceAt, partAt, childAt, Holds}
+use Rattle.tables.specs.Walks.{Table, Out}
 use Rattle.tables.proofs.Held.{since-first, since-later, part-first, part-later}
 
 -- the part from o on, as it is lent and as it comes back
@@ -45,12 +46,12 @@ module _ (o : ℕ) (t : List ℕ) (h : o ≤ length t) where
   part-at j = ap (λ (z : List ℕ). getD z j 0) part-is ∙ getD-drop o t j 0
 
 -- j is number index of the w numbers from a on
-record In (a w j : ℕ) : Type 0 where
-  index : ℕ
-  below : index < w
-  is : j ≡ a + index
+pub record In (a w j : ℕ) : Type 0 where
+  pub index : ℕ
+  pub below : index < w
+  pub is : j ≡ a + index
 
-in-or-out : (a w j : ℕ) → Out a w j ⊎ In a w j
+pub in-or-out : (a w j : ℕ) → Out a w j ⊎ In a w j
 in-or-out a w j = go (decLt j a) (decLt j (a + w))
   where
     go : Dec (j < a) → Dec (j < a + w) → Out a w j ⊎ In a w j
@@ -59,27 +60,27 @@ in-or-out a w j = go (decLt j a) (decLt j (a + w))
     go (no l) (no d) = inl (λ x y. omega arith)
 
 -- where an invocation has come to one chain, all but that chain's table is zero
-pub own-only : (n w : ℕ) (t : List ℕ) (c : List CostLine) → Shows n w t (alone c) [] → (j : ℕ) → Out 0 w j → getD t j 0 ≡ 0
-own-only n w t c s j o = go (in-or-out n w j) (in-or-out (2 * n) w j) (in-or-out (4 * n) w j)
+pub own-only : (n w : ℕ) → n ≡ w + 1 → (t : List ℕ) (c : List CostLine) → Shows n w t (alone c) [] → (j : ℕ) → Out 0 n j → getD t j 0 ≡ 0
+own-only n w wn t c s j o = go (in-or-out n n j) (in-or-out (2 * n) n j) (in-or-out (4 * n) n j)
   where
-    go : (Out n w j ⊎ In n w j) → (Out (2 * n) w j ⊎ In (2 * n) w j) → (Out (4 * n) w j ⊎ In (4 * n) w j) → getD t j 0 ≡ 0
-    go (inr q) x g = ap (λ (i : ℕ). getD t i 0) (q .is) ∙ s .L (q .index) (q .below)
-    go (inl l) (inr q) g = ap (λ (i : ℕ). getD t i 0) (q .is) ∙ s .C (q .index) (q .below)
-    go (inl l) (inl x) (inr q) = ap (λ (i : ℕ). getD t i 0) (q .is) ∙ s .G (q .index) (q .below)
+    go : (Out n n j ⊎ In n n j) → (Out (2 * n) n j ⊎ In (2 * n) n j) → (Out (4 * n) n j ⊎ In (4 * n) n j) → getD t j 0 ≡ 0
+    go (inr q) x g = ap (λ (i : ℕ). getD t i 0) (q .is) ∙ s .L (q .index) (omega (arith, q .below))
+    go (inl l) (inr q) g = ap (λ (i : ℕ). getD t i 0) (q .is) ∙ s .C (q .index) (omega (arith, q .below))
+    go (inl l) (inl x) (inr q) = ap (λ (i : ℕ). getD t i 0) (q .is) ∙ s .G (q .index) (omega (arith, q .below))
     go (inl l) (inl x) (inl g) = s .zero j o l x g
 
 -- where all but a chain's table is zero, the invocation has come to that chain
-pub alone-is : (n w : ℕ) → w ≤ n → (t : List ℕ) (c : List CostLine) → Table t 0 w c → ((j : ℕ) → w ≤ j → getD t j 0 ≡ 0) → Shows n w t (alone c) []
+pub alone-is : (n w : ℕ) → n ≡ w + 1 → (t : List ℕ) (c : List CostLine) → Table t 0 w c → ((j : ℕ) → n ≤ j → getD t j 0 ≡ 0) → Shows n w t (alone c) []
 alone-is n w wn t c h z =
     record {
       P = h;
       L = λ i l. z (n + i) (omega arith);
       C = λ i l. z (2 * n + i) (omega arith);
       G = λ i l. z (4 * n + i) (omega arith);
-      zero = λ j a b x y. go j a (decLt j w);
+      zero = λ j a b x y. go j a (decLt j n);
     }
   where
-    go : (j : ℕ) → Out 0 w j → Dec (j < w) → getD t j 0 ≡ 0
+    go : (j : ℕ) → Out 0 n j → Dec (j < n) → getD t j 0 ≡ 0
     go j a (yes l) = absurd (a (omega arith) (omega arith))
     go j a (no l) = z j (omega arith)
 
@@ -100,104 +101,105 @@ standing-le k = go (eqb (weight (k .l)) 0)
     go true = omega (arith, weight-append (k .p) (k .c))
     go false = omega arith
 
-module _ (n w : ℕ) (wn : w ≤ n) (t : List ℕ) (h : 4 * n ≤ length t) where
+module _ (n w : ℕ) (wn : n ≡ w + 1) (t : List ℕ) (h : 4 * n ≤ length t) where
   -- behind the prefix's block all is zero as long as no child is the longest
   first-zero : (c : List CostLine) → Shows n w t (alone c) [] → (j : ℕ) → getD t (n + j) 0 ≡ 0
-  first-zero c s j = own-only n w t c s (n + j) (λ x y. omega arith)
+  first-zero c s j = own-only n w wn t c s (n + j) (λ x y. omega arith)
 
   -- and behind the four blocks in any case
   later-zero : (k : Chains) → Shows n w t k [] → (j : ℕ) → getD t (4 * n + j) 0 ≡ 0
-  later-zero k s j = go (decLt j w)
+  later-zero k s j = go (decLt j n)
     where
-      go : Dec (j < w) → getD t (4 * n + j) 0 ≡ 0
-      go (yes l) = s .G j l
+      go : Dec (j < n) → getD t (4 * n + j) 0 ≡ 0
+      go (yes l) = s .G j (omega arith)
       go (no l) = s .zero (4 * n + j) (λ x y. omega arith) (λ x y. omega arith) (λ x y. omega arith) (λ x y. omega arith)
 
   -- behind the continuation's block too
-  since-zero : (k : Chains) → Shows n w t k [] → (j : ℕ) → w ≤ j → getD t (2 * n + j) 0 ≡ 0
-  since-zero k s j l = go (in-or-out (4 * n) w (2 * n + j))
+  since-zero : (k : Chains) → Shows n w t k [] → (j : ℕ) → n ≤ j → getD t (2 * n + j) 0 ≡ 0
+  since-zero k s j l = go (in-or-out (4 * n) n (2 * n + j))
     where
-      go : Out (4 * n) w (2 * n + j) ⊎ In (4 * n) w (2 * n + j) → getD t (2 * n + j) 0 ≡ 0
+      go : Out (4 * n) n (2 * n + j) ⊎ In (4 * n) n (2 * n + j) → getD t (2 * n + j) 0 ≡ 0
       go (inl o) = s .zero (2 * n + j) (λ x y. omega arith) (λ x y. omega arith) (λ x y. omega arith) o
-      go (inr q) = ap (λ (i : ℕ). getD t i 0) (q .is) ∙ s .G (q .index) (q .below)
+      go (inr q) = ap (λ (i : ℕ). getD t i 0) (q .is) ∙ s .G (q .index) (omega (arith, q .below))
 
   -- a part that begins with a chain's table and has zeros behind it shows that chain
-  part-alone : (o : ℕ) → o ≤ 4 * n → (c : List CostLine) → Table t o w c → ((j : ℕ) → w ≤ j → getD t (o + j) 0 ≡ 0) → Shows n w (take (length t - o) (drop o t)) (alone c) []
+  part-alone : (o : ℕ) → o ≤ 4 * n → (c : List CostLine) → Table t o w c → ((j : ℕ) → n ≤ j → getD t (o + j) 0 ≡ 0) → Shows n w (take (length t - o) (drop o t)) (alone c) []
   part-alone o l c table z = alone-is n w wn (take (length t - o) (drop o t)) c (λ i b. part-at o t (omega arith) (0 + i) ∙ from i ∙ table i b) (λ j b. part-at o t (omega arith) j ∙ z j b)
     where
       from : (i : ℕ) → getD t (o + (0 + i)) 0 ≡ getD t (o + i) 0
       from i = let e : o + (0 + i) ≡ o + i = omega arith in ap (λ (j : ℕ). getD t j 0) e
 
-  -- a child leaves its chain's table at the front of its part, and zeros: where no child is the longest,
+  -- A child's part comes back from o on, y: the table of a chain is at the front of it, and zeros are behind.
+  module _ (o : ℕ) (l : o ≤ 4 * n) (c : List CostLine) (y : List ℕ) (d : Shows n w y (alone c) []) where
+    abbrev back : List ℕ
+    back = putMid o (length t - o) t y
+
+    below-back : (j : ℕ) → j < o → getD back j 0 ≡ getD t j 0
+    below-back = back-low o t (omega arith) y
+
+    back-table : Table back o w c
+    back-table i b = let z : i ≡ 0 + i = omega arith in back-high o t (omega arith) y i ∙ ap (λ (j : ℕ). getD y j 0) z ∙ d .P i b
+
+    back-zero : (j : ℕ) → o ≤ j → Out o n j → getD back j 0 ≡ 0
+    back-zero j b x =
+        let i = j - o in
+        let z : o + i ≡ j = omega arith in
+        ap (λ (q : ℕ). getD back q 0) (sym z) ∙ back-high o t (omega arith) y i ∙ own-only n w wn y c d i (λ p q. x (omega arith) (omega arith))
+
+    -- what was zero below it is
+    back-none : (j : ℕ) → getD t j 0 ≡ 0 → Out o n j → getD back j 0 ≡ 0
+    back-none j z x = go (decLt j o)
+      where
+        go : Dec (j < o) → getD back j 0 ≡ 0
+        go (yes b) = below-back j b ∙ z
+        go (no b) = back-zero j (omega arith) x
+
+  -- a spawned child leaves its chain's table at the front of its part: where no child is the longest,
   back-first : (p c : List CostLine) (y : List ℕ) → Shows n w t (alone p) [] → Shows n w y (alone c) [] → Shows n w (putMid n (length t - n) t y) (record { p = p; l = c; c = [] }) []
   back-first p c y s d =
+      let in-it : n ≤ 4 * n = omega arith in
       record {
-        P = λ i l. back-low n t (omega arith) y (0 + i) (omega arith) ∙ s .P i l;
-        L = λ i l. let z : i ≡ 0 + i = omega arith in back-high n t (omega arith) y i ∙ ap (λ (j : ℕ). getD y j 0) z ∙ d .P i l;
-        C = λ i l. high (2 * n + i) (omega arith) (λ x y. omega arith);
-        G = λ i l. high (4 * n + i) (omega arith) (λ x y. omega arith);
-        zero = λ j a b x g. away j a b x g (decLt j n);
+        P = λ i l. below-back n in-it c y d (0 + i) (omega arith) ∙ s .P i l;
+        L = back-table n in-it c y d;
+        C = λ i l. back-zero n in-it c y d (2 * n + i) (omega arith) (λ x y. omega arith);
+        G = λ i l. back-zero n in-it c y d (4 * n + i) (omega arith) (λ x y. omega arith);
+        zero = λ j a b x g. back-none n in-it c y d j (own-only n w wn t p s j a) b;
       }
-    where
-      high : (j : ℕ) → n ≤ j → Out n w j → getD (putMid n (length t - n) t y) j 0 ≡ 0
-      high j l g =
-          let i = j - n in
-          let z : n + i ≡ j = omega arith in
-          ap (λ (q : ℕ). getD (putMid n (length t - n) t y) q 0) (sym z) ∙ back-high n t (omega arith) y i ∙ own-only n w y c d i (λ p q. g (omega arith) (omega arith))
-
-      away : (j : ℕ) → Out 0 w j → Out n w j → Out (2 * n) w j → Out (4 * n) w j → Dec (j < n) → getD (putMid n (length t - n) t y) j 0 ≡ 0
-      away j a b x g (yes l) = back-low n t (omega arith) y j l ∙ own-only n w t p s j a
-      away j a b x g (no l) = high j (omega arith) b
 
   -- and where one is
   back-later : (k : Chains) (c : List CostLine) (y : List ℕ) → Shows n w t k [] → Shows n w y (alone c) [] → Shows n w (putMid (4 * n) (length t - 4 * n) t y) k c
   back-later k c y s d =
+      let in-it : 4 * n ≤ 4 * n = omega arith in
+      let kept = below-back (4 * n) in-it c y d in
       record {
-        P = λ i l. back-low (4 * n) t h y (0 + i) (omega arith) ∙ s .P i l;
-        L = λ i l. back-low (4 * n) t h y (n + i) (omega arith) ∙ s .L i l;
-        C = λ i l. back-low (4 * n) t h y (2 * n + i) (omega arith) ∙ s .C i l;
-        G = λ i l. let z : i ≡ 0 + i = omega arith in back-high (4 * n) t h y i ∙ ap (λ (j : ℕ). getD y j 0) z ∙ d .P i l;
-        zero = λ j a b x g. away j a b x g (decLt j (4 * n));
+        P = λ i l. kept (0 + i) (omega arith) ∙ s .P i l;
+        L = λ i l. kept (n + i) (omega arith) ∙ s .L i l;
+        C = λ i l. kept (2 * n + i) (omega arith) ∙ s .C i l;
+        G = back-table (4 * n) in-it c y d;
+        zero = λ j a b x g. back-none (4 * n) in-it c y d j (s .zero j a b x g) g;
       }
-    where
-      away : (j : ℕ) → Out 0 w j → Out n w j → Out (2 * n) w j → Out (4 * n) w j → Dec (j < 4 * n) → getD (putMid (4 * n) (length t - 4 * n) t y) j 0 ≡ 0
-      away j a b x g (yes l) = back-low (4 * n) t h y j l ∙ s .zero j a b x g
-      away j a b x g (no l) =
-          let i = j - 4 * n in
-          let z : 4 * n + i ≡ j = omega arith in
-          ap (λ (q : ℕ). getD (putMid (4 * n) (length t - 4 * n) t y) q 0) (sym z)
-          ∙ back-high (4 * n) t h y i
-          ∙ own-only n w y c d i (λ p q. g (omega arith) (omega arith))
 
   -- a called child adds its chain's table to the one at the front of its part: where no child is the longest,
   since-back-first : (p c g : List CostLine) (y : List ℕ) → Shows n w y (alone ((p ++ c) ++ g)) [] → Shows n w (putMid 0 (length t - 0) t y) (alone (p ++ (c ++ g))) []
   since-back-first p c g y d =
+      let in-it : 0 ≤ 4 * n = omega arith in
+      let all = (p ++ c) ++ g in
       subst (λ (x : List CostLine). Shows n w (putMid 0 (length t - 0) t y) (alone x) []) (append-assoc p c g)
-      (alone-is n w wn (putMid 0 (length t - 0) t y) ((p ++ c) ++ g) (λ i l. all (0 + i) ∙ d .P i l) (λ j l. all j ∙ own-only n w y ((p ++ c) ++ g) d j (λ x y. omega arith)))
-    where
-      all : (j : ℕ) → getD (putMid 0 (length t - 0) t y) j 0 ≡ getD y j 0
-      all j = let z : j ≡ 0 + j = omega arith in ap (λ (i : ℕ). getD (putMid 0 (length t - 0) t y) i 0) z ∙ back-high 0 t (omega arith) y j
+      (alone-is n w wn (putMid 0 (length t - 0) t y) all (back-table 0 in-it all y d) (λ j l. back-zero 0 in-it all y d j (omega arith) (λ x y. omega arith)))
 
   -- and where one is
   since-back-later : (k : Chains) (g : List CostLine) (y : List ℕ) → Shows n w t k [] → Shows n w y (alone (k .c ++ g)) [] → Shows n w (putMid (2 * n) (length t - 2 * n) t y) (called g k) []
   since-back-later k g y s d =
+      let in-it : 2 * n ≤ 4 * n = omega arith in
+      let c = k .c ++ g in
+      let kept = below-back (2 * n) in-it c y d in
       record {
-        P = λ i l. back-low (2 * n) t (omega arith) y (0 + i) (omega arith) ∙ s .P i l;
-        L = λ i l. back-low (2 * n) t (omega arith) y (n + i) (omega arith) ∙ s .L i l;
-        C = λ i l. let z : i ≡ 0 + i = omega arith in back-high (2 * n) t (omega arith) y i ∙ ap (λ (j : ℕ). getD y j 0) z ∙ d .P i l;
-        G = λ i l. high (4 * n + i) (omega arith) (λ x y. omega arith);
-        zero = λ j a b x g. away j a b x g (decLt j (2 * n));
+        P = λ i l. kept (0 + i) (omega arith) ∙ s .P i l;
+        L = λ i l. kept (n + i) (omega arith) ∙ s .L i l;
+        C = back-table (2 * n) in-it c y d;
+        G = λ i l. back-zero (2 * n) in-it c y d (4 * n + i) (omega arith) (λ x y. omega arith);
+        zero = λ j a b x g. back-none (2 * n) in-it c y d j (s .zero j a b x g) x;
       }
-    where
-      high : (j : ℕ) → 2 * n ≤ j → Out (2 * n) w j → getD (putMid (2 * n) (length t - 2 * n) t y) j 0 ≡ 0
-      high j l x =
-          let i = j - 2 * n in
-          let z : 2 * n + i ≡ j = omega arith in
-          ap (λ (q : ℕ). getD (putMid (2 * n) (length t - 2 * n) t y) q 0) (sym z) ∙ back-high (2 * n) t (omega arith) y i ∙ own-only n w y (k .c ++ g) d i (λ p q. x (omega arith) (omega arith))
-
-      away : (j : ℕ) → Out 0 w j → Out n w j → Out (2 * n) w j → Out (4 * n) w j → Dec (j < 2 * n) → getD (putMid (2 * n) (length t - 2 * n) t y) j 0 ≡ 0
-      away j a b x g (yes l) = back-low (2 * n) t (omega arith) y j l ∙ s .zero j a b x g
-      away j a b x g (no l) = high j (omega arith) x
 
   -- at most the four blocks lie below a child's part
   pub part-in : (kind v : ℕ) → childAt kind n v ≤ 4 * n
@@ -247,7 +249,7 @@ module _ (n w : ℕ) (wn : w ≤ n) (t : List ℕ) (h : 4 * n ≤ length t) wher
         go true q =
             let m = eqb-true v 0 q in
             let f = s .first (sym e ∙ m) in
-            rw (is ∙ since-first n v m, standing-first k (sym e ∙ m)) (part-alone 0 (omega arith) (k .p ++ k .c) (f .P) (λ j l. own-only n w t (k .p ++ k .c) f (0 + j) (λ x y. omega arith)))
+            rw (is ∙ since-first n v m, standing-first k (sym e ∙ m)) (part-alone 0 (omega arith) (k .p ++ k .c) (f .P) (λ j l. own-only n w wn t (k .p ++ k .c) f (0 + j) (λ x y. omega arith)))
         go false q =
             let m = eqb-false v 0 q in
             let f = s .later (λ z. m (e ∙ z)) in

@@ -1,5 +1,5 @@
 -- For proofs and engines, not for the reader of document 01: what an open invocation's part of the scratch holds, and its
--- child's behind it. A block is n numbers, its first w a table. One block is in use as long as no child is the
+-- child's behind it. A block is n numbers, a table of w rows and its word. One block is in use as long as no child is the
 -- longest, then four, the last of them zero. A called child is lent all from the continuation's table on, a spawned
 -- child all that lies behind the blocks in use.
 use Prim.Native.Nat.{ℕ, _+_, _*_, _^_, _≤_, _<_}
@@ -9,34 +9,10 @@ use mathlib.Core.List.{List, [], _++_}
 use lib.Dec.{eqb}
 use lib.ListN.{length, getD}
 use Rattle.chain.specs.Plan.{CostLine, weight}
-use Rattle.trace.specs.Fold.{costAt, Chains, spent, joined, spawned, onRow}
+use Rattle.trace.specs.Fold.{costAt, Chains, spent, joined, spawned}
 use Rattle.walk.specs.declared.Open.{Open}
 use Rattle.walk.specs.Numbers.{numbers, load}
-
--- j is not among the w numbers from a on
-abbrev pub Out : ℕ → ℕ → ℕ → Type 0
-Out a w j = a ≤ j → j < a + w → ⊥
-
--- the block at b was added to the block at a, and cleared
-pub record Added (a b w : ℕ) (t t′ : List ℕ) : Type 0 where
-  pub sums : (i : ℕ) → i < w → getD t′ (a + i) 0 ≡ getD t (a + i) 0 + getD t (b + i) 0
-  pub gone : (i : ℕ) → i < w → getD t′ (b + i) 0 ≡ 0
-  pub rest : (j : ℕ) → Out a w j → Out b w j → getD t′ j 0 ≡ getD t j 0
-
--- the block at a was cleared
-pub record Cleared (a w : ℕ) (t t′ : List ℕ) : Type 0 where
-  pub gone : (i : ℕ) → i < w → getD t′ (a + i) 0 ≡ 0
-  pub rest : (j : ℕ) → Out a w j → getD t′ j 0 ≡ getD t j 0
-
--- the block at a is a chain's table: what of the chain stands in each row below w
-abbrev pub Table : List ℕ → ℕ → ℕ → List CostLine → Type 0
-Table t a w c = (i : ℕ) → i < w → getD t (a + i) 0 ≡ onRow i c
-
--- the block at b is the table of a chain that weighs v
-pub record Weighed (t : List ℕ) (b w v : ℕ) : Type 0 where
-  pub g : List CostLine
-  pub weighs : weight g ≡ v
-  pub table : Table t b w g
+use Rattle.tables.specs.Walks.{Table, Out}
 
 -- the tables of the three chains, that of a child's chain g at the front of its own scratch, and zeros everywhere else
 pub record Shows (n w : ℕ) (t : List ℕ) (k : Chains) (g : List CostLine) : Type 0 where
@@ -44,7 +20,7 @@ pub record Shows (n w : ℕ) (t : List ℕ) (k : Chains) (g : List CostLine) : T
   pub L : Table t n w (k .l)
   pub C : Table t (2 * n) w (k .c)
   pub G : Table t (4 * n) w g
-  pub zero : (j : ℕ) → Out 0 w j → Out n w j → Out (2 * n) w j → Out (4 * n) w j → getD t j 0 ≡ 0
+  pub zero : (j : ℕ) → Out 0 n j → Out n n j → Out (2 * n) n j → Out (4 * n) n j → getD t j 0 ≡ 0
 
 -- where the continuation's table is, by what the longest child weighs: in the prefix's block as long as no child is
 -- the longest
@@ -75,7 +51,7 @@ behind q k = record { p = q ++ k .p; l = k .l; c = k .c }
 -- What a step asks of the scratch t of an invocation with the numbers f: it holds the chains that weigh so, behind some
 -- chain, with a child's chain of weight u beside them, and v more fits.
 pub record Asks (n w : ℕ) (t : List ℕ) (f : Open) (u v : ℕ) : Type 0 where
-  pub blocks : w ≤ n
+  pub blocks : n ≡ w + 1
   pub room : 4 * n ≤ length t
   pub q : List CostLine
   pub k : Chains

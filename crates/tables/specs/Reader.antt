@@ -21,8 +21,9 @@ use Rattle.tables.specs.Blocks.{Shows, Holds, behind}
 pub record Lent (how : Weigh) (s : List ℕ) (row deep : ℕ) (f : Open) (t rows : List ℕ) (n w : ℕ) : Type 0 where
   pub m : ℕ
   pub ready : Ready how s row m deep f rows
-  pub blocks : w ≤ n
+  pub blocks : n ≡ w + 1
   pub wide : m < w
+  pub few : w ≤ 256
   pub room : 4 * n + deep * (4 * n) ≤ length t
   pub q : List CostLine
   pub k : Chains

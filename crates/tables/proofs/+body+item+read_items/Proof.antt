@@ -72,7 +72,7 @@ abbrev item-calls : ℕ → item-lts.Claims
 item-calls t = (weight-at-reads.Asked, weight-at-reads.Learnt, spend-reads′.Asked, spend-reads′.Learnt, spend-reads.Asked, spend-reads.Learnt, join-reads.Asked, join-reads.Learnt, site-at-reads.Asked, site-at-reads.Learnt, child-part-reads.Asked, child-part-reads.Learnt, credit-of-reads.Asked, credit-of-reads.Learnt, body-below t, body.Post, returned-reads.Asked, returned-reads.Learnt, called-reads.Asked, called-reads.Learnt, spawned-reads.Asked, spawned-reads.Learnt)
 
 abbrev Inv-loop : items-lts.InvT-loop
-Inv-loop trace row deep t₀ rows₀ w factors f₀ kind₀ t rows f kind = Loop (byFactors factors) trace row deep f₀ t₀ rows₀ t rows w w f kind
+Inv-loop trace row deep t₀ rows₀ w factors f₀ kind₀ t rows f kind = Loop (byFactors factors) trace row deep f₀ t₀ rows₀ t rows (w + 1) w f kind
 
 abbrev μ-loop : items-lts.MeasureT-loop
 μ-loop trace row deep t₀ rows₀ w factors f₀ kind₀ t rows f kind = 65536 - f .at
@@ -103,6 +103,9 @@ module _ (t : ℕ) where
       let f = body-first c in
       let a = body-start f in
       (omega (arith, a .pre .0), begins (f .new .result) (f .new .ensures) (a .pre .1))
+
+  body-add-join : Body body-lts.Need-add-join
+  body-add-join c = record { fits = omega (arith, body-items c .read-items .ensures .lent .few) }
 
   body-join-requires : Body body-lts.Need-join-requires
   body-join-requires c κs = join-asks (body-items c .read-items .ensures .lent)
@@ -248,17 +251,20 @@ module _ (t : ℕ) where
 
   -- what is known where a weight was read, where the child's part is known, and where the child has returned
   at-weight : (c : Item item-lts.After-weight-at) → (
-      let a = item-start (weight-test c) .args in Costs (byFactors (a .factors .now)) (a .trace .now) (a .kind) (a .row) (a .deep) (a .f) (a .t .now) (a .rows .now) (a .w) (a .w) (c .weight-at .result))
+      let a = item-start (weight-test c) .args in Costs (byFactors (a .factors .now)) (a .trace .now) (a .kind) (a .row) (a .deep) (a .f) (a .t .now) (a .rows .now) (a .w + 1) (a .w) (c .weight-at .result))
   at-weight c = record { asks = item-start (weight-test c) .pre .1; weight-is = c .weight-at .ensures; cost = c .before .if1 .taken }
 
   at-part : (c : Item item-lts.After-child-part) → (
-      let a = child-start (c .before) .args in Calls (byFactors (a .factors .now)) (a .trace .now) (a .kind) (a .row) (a .deep) (a .f) (a .t .now) (a .rows .now) (a .w) (a .w) (c .before .site-at .result) (c .child-part .result))
+      let a = child-start (c .before) .args in Calls (byFactors (a .factors .now)) (a .trace .now) (a .kind) (a .row) (a .deep) (a .f) (a .t .now) (a .rows .now) (a .w + 1) (a .w) (c .before .site-at .result) (c .child-part .result))
   at-part c =
       let e = c .before .before in
       record { asks = child-start (c .before) .pre .1; site-is = c .before .site-at .ensures; no-cost = e .before .if1 .left; no-sync = e .if2 .left; begins = c .child-part .ensures }
 
   at-body : (c : Item item-lts.After-body) → Back (at-part (body-part (c .before))) (body-credit (c .before) .credit-of .result) (c .body .result) (body-scratch c) (body-rows c)
   at-body c = record { taken = body-credit (c .before) .credit-of .ensures; part-long = c .body .kept .1 .1 .1 .1 .0; rows-long = c .body .kept .1 .1 .1 .1 .1 .0; leaves = c .body .ensures }
+
+  item-add-n : Item item-lts.Need-add-n
+  item-add-n c = record { fits = omega (arith, item-start c .pre .1 .lent .few) }
 
   item-weight-at-requires : Item item-lts.Need-weight-at-requires
   item-weight-at-requires c κs = search needs
@@ -379,6 +385,7 @@ pub +body+item+read-items-spec : {M : Type 1} → statement M
     body.Post
     (body-new-requires t)
     (body-read-items-requires t)
+    (body-add-join t)
     (body-join-requires t)
     (body-same-length t)
     (body-same-length-2 t)
@@ -386,6 +393,7 @@ pub +body+item+read-items-spec : {M : Type 1} → statement M
     (λ t. item-lts.spec (item-calls t)
     (item-at t)
     item.Post
+    (item-add-n t)
     (item-weight-at-requires t)
     (item-spend-requires t)
     (item-spend-requires-2 t)
