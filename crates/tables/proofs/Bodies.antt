@@ -1,10 +1,11 @@
 -- The body reader: what its loop keeps from item to item, with no code in sight.
 use mathlib.Core.Path.{_≡_, refl, ap, _∙_, sym, subst}
-use mathlib.Core.List.{List, []}
+use mathlib.Core.List.{List, [], _++_}
 use Prim.Native.Nat.{ℕ, _+_, _-_, _<_}
 use native.Mathlib.Omega.{arith}
 use lib.ListN.{length}
 use Rattle.line.specs.At.{kindAt}
+use Rattle.chain.specs.Plan.{CostLine}
 use Rattle.trace.specs.Tree.{Body, workOf}
 use Rattle.trace.specs.Fold.{Chains, nothing, run, chainOf}
 use Rattle.weigh.specs.Weighed.{Weigh}
@@ -14,22 +15,22 @@ use Rattle.walk.specs.Reads.{Reads}
 use Rattle.walk.specs.Numbers.{numbers}
 use Rattle.walk.specs.Item.{More, rest, itemSize, itemWork, itemChains}
 use Rattle.walk.specs.Reader.{ItemDone, ItemsDone, Turn}
-use Rattle.walk.proofs.Items.{size-some}
+use Rattle.walk.proofs.Items.{size-some, work-item, load-item}
 use Rattle.walk.proofs.Says.{kind-says}
 use Rattle.walk.proofs.Lines.{is-more, is-done}
-use Rattle.walk.proofs.Reader.{own-numbers, farther, ready-again, turn-start, turn-again, turn-done, body-done}
-use Rattle.tables.specs.Blocks.{Holds, Joined}
+use Rattle.walk.proofs.Reader.{own-numbers, farther, ready-again, again-body, turn-start, turn-again, turn-done, body-done}
+use Rattle.tables.specs.Blocks.{Holds, behind, Joined}
 use Rattle.tables.specs.Reader.{Lent, ItemAsks, ItemLeaves, ItemsLeave, BodyAsks, BodyLeaves}
-use Rattle.tables.proofs.Held.{holds-two, alone-shows}
+use Rattle.tables.proofs.Held.{opens, alone-shows}
 
 module _ (how : Weigh) (s : List ℕ) (row deep n w : ℕ) where
   -- the loop has come from f₀ to f: what is left of the body, and what it comes to, are as from f₀ on
   abbrev Turns : (f₀ : Open) (t₀ rows₀ : List ℕ) (f : Open) (t rows : List ℕ) → Type 0
-  Turns f₀ t₀ rows₀ f t rows = (b : Body) (k₀ : Chains) → Reads how s (f₀ .at) row b → f₀ ≡ numbers (f₀ .at) (f₀ .work) k₀ → Holds n w t₀ k₀ []
-      → (l : Body) × (k : Chains) × Turn how s row f₀ rows₀ b k₀ f rows l k × Holds n w t k []
+  Turns f₀ t₀ rows₀ f t rows = (b : Body) (q : List CostLine) (k₀ : Chains) → Reads how s (f₀ .at) row b → f₀ ≡ numbers (f₀ .at) (f₀ .work) k₀ → Holds n w t₀ (behind q k₀) []
+      → (l : Body) × (k : Chains) × Turn how s row f₀ rows₀ b k₀ f rows l k × Holds n w t (behind q k) []
 
   turns-start : (f : Open) (t rows : List ℕ) → Turns f t rows f t rows
-  turns-start f t rows b k h e sh = (b, k, turn-start how s row f rows b k h e, sh)
+  turns-start f t rows b q k h e sh = (b, k, turn-start how s row f rows b k h e, sh)
 
   module _ (kind : ℕ) (f : Open) (t rows : List ℕ) (says : Says kindOf s (f .at) kind) where
     more : (kind ≡ 5 → ⊥) → (l : Lent how s row deep f t rows n w) → More (l .ready .body)
@@ -37,8 +38,8 @@ module _ (how : Weigh) (s : List ℕ) (row deep n w : ℕ) where
 
     module _ (l : Lent how s row deep f t rows n w) (k5 : kind ≡ 5 → ⊥) (r : Open) (t′ rows′ : List ℕ) (lt : length t′ ≡ length t) (lr : length rows′ ≡ length rows)
         (done : ItemLeaves how s row f t rows n w r t′ rows′) where
-      left : ItemDone row f rows (l .ready .body) (l .k) r rows′ × Holds n w t′ (itemChains (f .at) row (l .ready .body) (l .k)) []
-      left = done (l .ready .body) (l .k) (more k5 l) (l .ready .reads) (l .weighs) (l .holds)
+      left : ItemDone row f rows (l .ready .body) (l .k) r rows′ × Holds n w t′ (behind (l .q) (itemChains (f .at) row (l .ready .body) (l .k))) []
+      left = done (l .ready .body) (l .q) (l .k) (more k5 l) (l .ready .reads) (l .weighs) (l .holds)
 
       goes-on : f .at < r .at
       goes-on = farther how s row (l .m) deep f rows (l .ready) (more k5 l) (l .k) (l .weighs) r rows′ lr (left .0)
@@ -51,26 +52,29 @@ module _ (how : Weigh) (s : List ℕ) (row deep n w : ℕ) where
             ready = ready-again how s row (l .m) deep f rows (l .ready) (more k5 l) (l .k) (l .weighs) r rows′ lr (left .0);
             blocks = l .blocks;
             wide = l .wide;
+            few = l .few;
             room = omega (arith, l .room, lt);
+            q = l .q;
             k = itemChains (f .at) row b (l .k);
             weighs = own-numbers r (f .at + itemSize b) (f .work + itemWork b) (itemChains (f .at) row b (l .k)) (left .0 .numbers-are);
             holds = left .1;
+            fits = omega (arith, l .fits, load-item b (f .at) row (l .k), work-item b, ap workOf (again-body how s row (l .m) deep f rows (l .ready) (more k5 l) (l .k) (l .weighs) r rows′ lr (left .0)));
           }
 
       turns-again : (f₀ : Open) (t₀ rows₀ : List ℕ) → length rows ≡ length rows₀ → Turns f₀ t₀ rows₀ f t rows → Turns f₀ t₀ rows₀ r t′ rows′
-      turns-again f₀ t₀ rows₀ len turns b k₀ h e sh =
-          let u = turns b k₀ h e sh in
+      turns-again f₀ t₀ rows₀ len turns b q k₀ h e sh =
+          let u = turns b q k₀ h e sh in
           let m = is-more how s (f .at) row kind says (u .0) (u .2 .reads) k5 in
-          let d = done (u .0) (u .1) m (u .2 .reads) (u .2 .weighs) (u .3) in
+          let d = done (u .0) q (u .1) m (u .2 .reads) (u .2 .weighs) (u .3) in
           (rest (u .0), itemChains (f .at) row (u .0) (u .1), turn-again how s row f₀ rows₀ b k₀ f rows (u .0) (u .1) (u .2) len r rows′ m (d .0), d .1)
 
-    turns-done : (f₀ : Open) (t₀ rows₀ : List ℕ) → length rows ≡ length rows₀ → Turns f₀ t₀ rows₀ f t rows → kind ≡ 5 → (b : Body) (k₀ : Chains) → Reads how s (f₀ .at) row b
-        → f₀ ≡ numbers (f₀ .at) (f₀ .work) k₀ → Holds n w t₀ k₀ [] → ItemsDone row f₀ rows₀ b k₀ f rows × Holds n w t (run (f₀ .at) row b k₀) []
-    turns-done f₀ t₀ rows₀ len turns k5 b k₀ h e sh =
-        let u = turns b k₀ h e sh in
+    turns-done : (f₀ : Open) (t₀ rows₀ : List ℕ) → length rows ≡ length rows₀ → Turns f₀ t₀ rows₀ f t rows → kind ≡ 5 → (b : Body) (q : List CostLine) (k₀ : Chains) → Reads how s (f₀ .at) row b
+        → f₀ ≡ numbers (f₀ .at) (f₀ .work) k₀ → Holds n w t₀ (behind q k₀) [] → ItemsDone row f₀ rows₀ b k₀ f rows × Holds n w t (behind q (run (f₀ .at) row b k₀)) []
+    turns-done f₀ t₀ rows₀ len turns k5 b q k₀ h e sh =
+        let u = turns b q k₀ h e sh in
         let z = is-done how s (f .at) row kind says (u .0) (u .2 .reads) k5 in
         let c : u .1 ≡ run (f₀ .at) row b k₀ = sym (ap (λ (x : Body). run (f .at) row x (u .1)) z) ∙ u .2 .same-chains in
-        (turn-done how s row f₀ rows₀ b k₀ f rows (u .0) (u .1) (u .2) len z, subst (λ (x : Chains). Holds n w t x []) c (u .3))
+        (turn-done how s row f₀ rows₀ b k₀ f rows (u .0) (u .1) (u .2) len z, subst (λ (x : Chains). Holds n w t (behind q x) []) c (u .3))
 
 -- the loop has come from f₀ to f, whose next line is of this kind
 pub record Loop (how : Weigh) (s : List ℕ) (row deep : ℕ) (f₀ : Open) (t₀ rows₀ t rows : List ℕ) (n w : ℕ) (f : Open) (kind : ℕ) : Type 0 where
@@ -123,8 +127,8 @@ begins {how} {s} {from} {row} {deep} {t} {rows} {n} {w} f e a = subst (λ (x : O
 -- its items were read from there on, and the join at the return follows
 pub body-leaves : {how : Weigh} {s : List ℕ} {from row deep : ℕ} {t rows : List ℕ} {n w : ℕ} {f : Open} {t₁ rows₁ : List ℕ} (f₀ : Open) → f₀ ≡ numbers from 0 nothing → ItemsLeave how s row deep f₀ t rows n w f t₁ rows₁
     → (r : Open) (t₂ : List ℕ) → Joined n w t₁ f r t₂ → BodyLeaves how s from row t rows n w r t₂ rows₁
-body-leaves {how} {s} {from} {row} {deep} {t} {rows} {n} {w} {f} {t₁} {rows₁} f₀ e₀ i r t₂ j b h sh =
-    let o = subst (λ (x : Open). ItemsLeave how s row deep x t rows n w f t₁ rows₁) e₀ i .leaves b nothing h refl (holds-two n w t [] [] sh) in
+body-leaves {how} {s} {from} {row} {deep} {t} {rows} {n} {w} {f} {t₁} {rows₁} f₀ e₀ i r t₂ j b q h sh =
+    let o = subst (λ (x : Open). ItemsLeave how s row deep x t rows n w f t₁ rows₁) e₀ i .leaves b q nothing h refl (opens n w t q sh) in
     let weighs = own-numbers f (f .at) (0 + workOf b) (run from row b nothing) (o .0 .numbers-are) in
-    let d = j (run from row b nothing) weighs (o .1) in
-    (body-done from row rows b f rows₁ (o .0) r (d .0), alone-shows n w t₂ (chainOf from row b) (d .1))
+    let d = j q (run from row b nothing) weighs (o .1) in
+    (body-done from row rows b f rows₁ (o .0) r (d .0), alone-shows n w t₂ (q ++ chainOf from row b) (d .1))

@@ -1,15 +1,19 @@
 -- The item reader: what each kind of item comes to, with no code in sight.
 use mathlib.Core.Path.{_≡_, refl, ap, _∙_, sym, subst}
-use mathlib.Core.List.{List, []}
+use mathlib.Core.Bool.{Bool, true, false}
+use mathlib.Core.List.{List, [], _++_}
 use Prim.Native.Nat.{ℕ, suc, _+_, _*_, _-_, _^_, _≤_, _<_}
 use native.Mathlib.Nat.{suc-mul}
 use native.Mathlib.Omega.{arith}
 use lib.ListN.{length, take, drop}
 use lib.Dec.{eqb}
+use borrow.Author.Tests.{eqb-true, eqb-false}
 use borrow.Rule.Slice.PartMut.{putMid}
 use Rattle.line.specs.At.{kindAt, siteAt, valueAt}
 use Rattle.trace.specs.Column.{Column, slot}
-use Rattle.trace.specs.Tree.{spend, Body, leaf}
+use Rattle.chain.specs.Plan.{CostLine, weight}
+use Rattle.chain.proofs.Lists.{weight-append}
+use Rattle.trace.specs.Tree.{spend, Body, leaf, Within, workOf}
 use Rattle.trace.specs.Fold.{Chains, nothing, joined, called, spawned, chainOf}
 use Rattle.trace.proofs.Basics.{cond-same}
 use Rattle.weigh.specs.Weighed.{Weigh}
@@ -17,20 +21,20 @@ use Rattle.walk.specs.declared.Open.{Open}
 use Rattle.walk.specs.declared.Credit.{Credit}
 use Rattle.walk.specs.Stands.{Says, kindOf, siteOf}
 use Rattle.walk.specs.Reads.{Reads}
-use Rattle.walk.specs.Numbers.{numbers}
+use Rattle.walk.specs.Numbers.{numbers, calledN, load}
 use Rattle.walk.specs.Gain.{ColumnFits, creditOf, ReturnFits, one, Returned, Grown}
 use Rattle.walk.specs.Item.{itemChains}
 use Rattle.walk.specs.Reader.{ItemDone, alone, BodyDone}
 use Rattle.walk.proofs.Items.{size-some, chain-le}
 use Rattle.walk.proofs.Says.{kind-says, site-says, value-says}
 use Rattle.walk.proofs.Lines.{is-sync}
-use Rattle.walk.proofs.Reader.{load-is}
-use Rattle.walk.proofs.Child.{cost-is, call-is, spawn-is, Child, child-is, cost-fits, child-work, child-row, child-ready, count-fits, ChildDone, child-done}
+use Rattle.walk.proofs.Numbers.{called-numbers}
+use Rattle.walk.proofs.Child.{cost-is, call-is, spawn-is, Child, child-is, cost-fits, child-work, child-row, child-ready, child-body, count-fits, ChildDone, child-done}
 use Rattle.walk.proofs.Child.{deeper as child-deeper}
-use Rattle.tables.specs.Blocks.{Shows, partAt, Holds, Asks, Spent, Joined, Called, Spawned}
+use Rattle.tables.specs.Blocks.{Shows, childAt, Holds, behind, Asks, Spent, Joined, Spawned}
 use Rattle.tables.specs.Reader.{Lent, ItemAsks, ItemLeaves, BodyAsks, BodyLeaves}
-use Rattle.tables.proofs.Held.{holds-two}
-use Rattle.tables.proofs.Parts.{part-in, part-length, child-none, child-back, back-length}
+use Rattle.tables.proofs.Held.{child-called, child-spawned, opens}
+use Rattle.tables.proofs.Parts.{standing, standing-le, part-in, part-length, child-none, child-back, since-shows, since-back, back-length}
 
 module _ {how : Weigh} {s : List ℕ} {row deep : ℕ} {f : Open} {t rows : List ℕ} {n w : ℕ} (l : Lent how s row deep f t rows n w) where
   -- there is a line behind this one
@@ -42,29 +46,30 @@ module _ {how : Weigh} {s : List ℕ} {row deep : ℕ} {f : Open} {t rows : List
   own-room = omega (arith, l .room)
 
   -- a step with no child beside the chains
-  own-asks : Asks n w t f 0
-  own-asks =
+  own-asks : (v : ℕ) → v ≤ workOf (l .ready .body) → Asks n w t f 0 v
+  own-asks v h =
       record {
         blocks = l .blocks;
         room = own-room;
+        q = l .q;
         k = l .k;
         g = [];
         weighs = l .weighs;
         child = refl;
         holds = l .holds;
-        fits = omega (arith, load-is f (l .k) (l .weighs), l .ready .load-fits);
+        fits = omega (arith, l .fits);
       }
 
   -- a sync, or the return
-  pub join-asks : Asks n w t f 0 × (f .at + 1 < 2 ^ 64)
-  join-asks = (own-asks, line-fits)
+  pub join-asks : Asks n w t f 0 0 × (f .at + 1 < 2 ^ 64)
+  join-asks = (own-asks 0 (omega arith), line-fits)
 
   pub sync-leaves : (kind : ℕ) → kind ≡ kindAt s (f .at) → kind ≡ 4 → (r : Open) (t′ : List ℕ) → Joined n w t f r t′ → ItemLeaves how s row f t rows n w r t′ rows
-  sync-leaves kind reads k4 r t′ j b k m h e sh =
-      let q = is-sync how s (f .at) row kind (kind-says s (f .at) (f .at) kind refl reads) b h k4 in
-      let d = j k e sh in
+  sync-leaves kind reads k4 r t′ j b q k m h e sh =
+      let y = is-sync how s (f .at) row kind (kind-says s (f .at) (f .at) kind refl reads) b h k4 in
+      let d = j q k e sh in
       let z : f .work ≡ f .work + 0 = omega arith in
-      subst (λ (x : Body). ItemDone row f rows x k r rows × Holds n w t′ (itemChains (f .at) row x k) []) (sym (q .1))
+      subst (λ (x : Body). ItemDone row f rows x k r rows × Holds n w t′ (behind q (itemChains (f .at) row x k)) []) (sym (y .1))
       (record { numbers-are = d .0 ∙ ap (λ (x : ℕ). numbers (f .at + 1) x (joined k)) z; rows-are = λ i l. omega (arith, cond-same (eqb (slot row Column.local) i)) }, d .1)
 
 -- the item is a cost of v
@@ -78,25 +83,29 @@ module _ {how : Weigh} {s : List ℕ} {kind row deep : ℕ} {f : Open} {t rows :
   spend-is : (b : Body) → Reads how s (f .at) row b → (r : Body) × (b ≡ leaf (spend v) r)
   spend-is = cost-is how s (f .at) row kind (kind-says s (f .at) (f .at) kind refl (h .asks .kind-is)) (valueAt s (f .at)) v (value-says s (f .at) (f .at) (valueAt s (f .at)) refl refl) (h .weight-is) (h .cost)
 
-  -- it fits the rows, the work and the chains
+  here : (r : Body) × (h .asks .lent .ready .body ≡ leaf (spend v) r)
+  here = let l = h .asks .lent in spend-is (l .ready .body) (l .ready .reads)
+
+  -- it fits the rows and the work
   fit : ColumnFits rows row Column.local v × ((f .work + v < 2 ^ 64) × (f .prefix + (f .longest + f .since) + v < 2 ^ 64))
-  fit =
-      let l = h .asks .lent in
-      let q = spend-is (l .ready .body) (l .ready .reads) in
-      cost-fits how s row (l .m) deep f rows (l .ready) v (q .0) (q .1)
+  fit = let l = h .asks .lent in cost-fits how s row (l .m) deep f rows (l .ready) v (here .0) (here .1)
 
   pub rows-asks : ColumnFits rows row Column.local v
   rows-asks = fit .0
 
-  pub spend-asks : Asks n w t f 0 × ((row < w) × ((f .at + 1 < 2 ^ 64) × ((f .work + v < 2 ^ 64) × (f .prefix + (f .longest + f .since) + v < 2 ^ 64))))
-  spend-asks = let l = h .asks .lent in (own-asks l, (omega (arith, l .ready .row-in, l .wide), (line-fits l, fit .1)))
+  -- it is at least 1
+  some : 1 ≤ v
+  some = let y = h .asks .lent .ready in subst (Within (h .asks .lent .m) (y .D) (y .d)) (here .1) (y .within) .0 .0
+
+  pub spend-asks : Asks n w t f 0 v × ((row < w) × ((w ≤ 256) × ((1 ≤ v) × ((f .at + 1 < 2 ^ 64) × (f .work + v < 2 ^ 64)))))
+  spend-asks = let l = h .asks .lent in (own-asks l v (omega (arith, ap workOf (here .1))), (omega (arith, l .ready .row-in, l .wide), (l .few, (some, (line-fits l, fit .1 .0)))))
 
   -- what is left of it
   pub cost-leaves : (r : Open) (t′ rows′ : List ℕ) → Grown rows (one (slot row Column.local) v) rows′ → Spent n w row v t f r t′ → ItemLeaves how s row f t rows n w r t′ rows′
-  cost-leaves r t′ rows′ grown sp b k m st e sh =
-      let q = spend-is b st in
-      let d = sp k e sh in
-      subst (λ (x : Body). ItemDone row f rows x k r rows′ × Holds n w t′ (itemChains (f .at) row x k) []) (sym (q .1)) (record { numbers-are = d .0; rows-are = grown }, d .1)
+  cost-leaves r t′ rows′ grown sp b q k m st e sh =
+      let y = spend-is b st in
+      let d = sp q k e sh in
+      subst (λ (x : Body). ItemDone row f rows x k r rows′ × Holds n w t′ (behind q (itemChains (f .at) row x k)) []) (sym (y .1)) (record { numbers-are = d .0; rows-are = grown }, d .1)
 
 -- the item is a call or a spawn of site, and the child's part begins at o
 pub record Calls (how : Weigh) (s : List ℕ) (kind row deep : ℕ) (f : Open) (t rows : List ℕ) (n w site o : ℕ) : Type 0 where
@@ -104,7 +113,7 @@ pub record Calls (how : Weigh) (s : List ℕ) (kind row deep : ℕ) (f : Open) (
   pub site-is : site ≡ siteAt s (f .at)
   pub no-cost : kind ≡ 6 → ⊥
   pub no-sync : kind ≡ 4 → ⊥
-  pub begins : o ≡ partAt n (f .longest)
+  pub begins : o ≡ childAt kind n (f .longest)
 
 module _ {how : Weigh} {s : List ℕ} {kind row deep : ℕ} {f : Open} {t rows : List ℕ} {n w site o : ℕ} (h : Calls how s kind row deep f t rows n w site o) where
   abbrev l : Lent how s row deep f t rows n w
@@ -126,8 +135,11 @@ module _ {how : Weigh} {s : List ℕ} {kind row deep : ℕ} {f : Open} {t rows :
   pub deeper : 1 ≤ deep
   deeper = child-deeper how s row (l .m) deep f rows (l .ready) site child
 
+  below : o ≤ 4 * n
+  below = rw (h .begins) (part-in n w (l .blocks) t (own-room l) kind (f .longest))
+
   pub room : o ≤ length t
-  room = omega (arith, own-room l, part-in n w (l .blocks) t (own-room l) (f .longest) o (h .begins))
+  room = omega (arith, own-room l, below)
 
   -- depth left by depth left
   room-below : 4 * n + (4 * n + (deep - 1) * (4 * n)) ≤ length t
@@ -135,9 +147,32 @@ module _ {how : Weigh} {s : List ℕ} {kind row deep : ℕ} {f : Open} {t rows :
       let e : deep ≡ suc (deep - 1) = omega (arith, deeper) in
       omega (arith, l .room, ap (λ (x : ℕ). x * (4 * n)) e, suc-mul (deep - 1) (4 * n))
 
-  -- whatever chains the invocation has come to, the child's part shows none
-  lent-none : (k : Chains) → f ≡ numbers (f .at) (f .work) k → Holds n w t k [] → Shows n w part nothing []
-  lent-none k e sh = child-none n w (l .blocks) t (own-room l) (f .longest) o (h .begins) k (ap (λ (x : Open). x .longest) e) sh
+  -- whatever chains the invocation has come to: a called child's part begins with the continuation's table,
+  module _ (q : List CostLine) (k : Chains) (e : f ≡ numbers (f .at) (f .work) k) (sh : Holds n w t (behind q k) []) where
+    called-shows : kind ≡ 2 → Shows n w part (alone (standing (behind q k))) []
+    called-shows k2 = since-shows n w (l .blocks) t (own-room l) (f .longest) o (h .begins ∙ child-called kind n (f .longest) k2) (behind q k) (ap (λ (x : Open). x .longest) e) sh
+
+    called-back : kind ≡ 2 → (g : List CostLine) (y : List ℕ) → Shows n w y (alone (standing (behind q k) ++ g)) [] → Holds n w (putMid o (length t - o) t y) (behind q (called g k)) []
+    called-back k2 = since-back n w (l .blocks) t (own-room l) (f .longest) o (h .begins ∙ child-called kind n (f .longest) k2) (behind q k) (ap (λ (x : Open). x .longest) e) sh
+
+    -- and a spawned child's part is zero
+    spawned-shows : (kind ≡ 2 → ⊥) → Shows n w part nothing []
+    spawned-shows k2 = child-none n w (l .blocks) t (own-room l) (f .longest) o (h .begins ∙ child-spawned kind n (f .longest) k2) (behind q k) (ap (λ (x : Open). x .longest) e) sh
+
+    spawned-back : (kind ≡ 2 → ⊥) → (g : List CostLine) (y : List ℕ) → Shows n w y (alone g) [] → Holds n w (putMid o (length t - o) t y) (behind q k) g
+    spawned-back k2 = child-back n w (l .blocks) t (own-room l) (f .longest) o (h .begins ∙ child-spawned kind n (f .longest) k2) (behind q k) (ap (λ (x : Open). x .longest) e) sh
+
+  -- so it shows one chain, which weighs no more than what the invocation has come to
+  front : (x : List CostLine) × (weight x ≤ weight (l .q) + load (l .k)) × Shows n w part (alone x) []
+  front = go (eqb kind 2) refl
+    where
+      go : (b : Bool) → eqb kind 2 ≡ b → (x : List CostLine) × (weight x ≤ weight (l .q) + load (l .k)) × Shows n w part (alone x) []
+      go true e = (
+        standing (behind (l .q) (l .k)),
+        omega (arith, standing-le (behind (l .q) (l .k)), weight-append (l .q) (l .k .p)),
+        called-shows (l .q) (l .k) (l .weighs) (l .holds) (eqb-true kind 2 e),
+      )
+      go false e = ([], omega arith, spawned-shows (l .q) (l .k) (l .weighs) (l .holds) (eqb-false kind 2 e))
 
   -- the child's reader may begin
   pub body-asks : BodyAsks how s (f .at + 1) site (deep - 1) part rows n w
@@ -147,10 +182,13 @@ module _ {how : Weigh} {s : List ℕ} {kind row deep : ℕ} {f : Open} {t rows :
         ready = child-ready how s row (l .m) deep f rows (l .ready) site child;
         blocks = l .blocks;
         wide = l .wide;
-        room = omega (arith, room-below, part-in n w (l .blocks) t (own-room l) (f .longest) o (h .begins), part-length n w (l .blocks) t (own-room l) (f .longest) o (h .begins));
+        few = l .few;
+        room = omega (arith, room-below, below, part-length n w (l .blocks) t (own-room l) o below);
+        q = front .0;
         k = nothing;
         weighs = refl;
-        holds = holds-two n w part [] [] (lent-none (l .k) (l .weighs) (l .holds));
+        holds = opens n w part (front .0) (front .2);
+        fits = omega (arith, front .1, l .fits, ap workOf (child-body how s row (l .m) deep f rows (l .ready) site child), ap workOf (child .is));
       }
 
   -- columns 2 and 3 of its row can be taken
@@ -172,60 +210,66 @@ module _ {how : Weigh} {s : List ℕ} {kind row deep : ℕ} {f : Open} {t rows :
     pub back-long : length back ≡ length t
     back-long = back-length o t y (u .part-long)
 
-    left : BodyDone (f .at + 1) site rows (child .g) c rows₁ × Shows n w y (alone (chainOf (f .at + 1) site (child .g))) []
-    left = u .leaves (child .g) (child .reads) (lent-none (l .k) (l .weighs) (l .holds))
+    left : BodyDone (f .at + 1) site rows (child .g) c rows₁
+    left = u .leaves (child .g) (front .0) (child .reads) (front .2) .0
 
     -- it can be counted
     pub count-asks : ReturnFits before rows₁ site (c .work) (c .prefix)
-    count-asks = count-fits how s row (l .m) deep f rows (l .ready) site child before c rows₁ (u .taken) (u .rows-long) (left .0)
+    count-asks = count-fits how s row (l .m) deep f rows (l .ready) site child before c rows₁ (u .taken) (u .rows-long) left
 
-    -- and its chain taken
-    pub child-asks : Asks n w back f (c .prefix) × ((site < w) × ((5 * n ≤ length back) × (f .work + c .work < 2 ^ 64)))
-    child-asks =
-        let p = ap (λ (x : Open). x .prefix) (left .0 .numbers-are) in
+    work-fits : f .work + c .work < 2 ^ 64
+    work-fits = omega (arith, ap (λ (x : Open). x .work) (left .numbers-are), child-work how s row (l .m) deep f rows (l .ready) site child .0)
+
+    -- what the child came to, and what the invocation's tables may yet come to
+    prefix-is : weight (chainOf (f .at + 1) site (child .g)) ≡ c .prefix
+    prefix-is = sym (ap (λ (x : Open). x .prefix) (left .numbers-are))
+
+    all-fit : weight (l .q) + load (l .k) + c .prefix < 2 ^ 64
+    all-fit = omega (arith, prefix-is, l .fits, ap workOf (child .is), chain-le (child .g) (f .at + 1) site)
+
+    -- a called child's numbers can be taken
+    pub called-asks : (f .work + c .work < 2 ^ 64) × (f .since + c .prefix < 2 ^ 64)
+    called-asks = (work-fits, omega (arith, all-fit, ap (λ (x : Open). x .since) (l .weighs)))
+
+    -- and a spawned child's chain
+    pub spawned-asks : (kind ≡ 2 → ⊥) → Asks n w back f (c .prefix) 0 × ((5 * n ≤ length back) × (f .work + c .work < 2 ^ 64))
+    spawned-asks k2 =
         let g = chainOf (f .at + 1) site (child .g) in
-        let r = child-ready how s row (l .m) deep f rows (l .ready) site child in (
+        let d = u .leaves (child .g) [] (child .reads) (spawned-shows (l .q) (l .k) (l .weighs) (l .holds) k2) in (
           record {
             blocks = l .blocks;
             room = omega (arith, own-room l, back-long);
+            q = l .q;
             k = l .k;
             g = g;
             weighs = l .weighs;
-            child = sym p;
-            holds = child-back n w (l .blocks) t (own-room l) (f .longest) o (h .begins) (l .k) g y (ap (λ (x : Open). x .longest) (l .weighs)) (l .holds) (left .1);
-            fits = omega (arith, p, load-is f (l .k) (l .weighs), child-work how s row (l .m) deep f rows (l .ready) site child .1, chain-le (child .g) (f .at + 1) site);
+            child = prefix-is;
+            holds = spawned-back (l .q) (l .k) (l .weighs) (l .holds) k2 g y (d .1);
+            fits = omega (arith, all-fit);
           },
-          (
-            omega (arith, r .row-in, l .wide),
-            (
-              omega (arith, room-below, back-long),
-              omega (arith, ap (λ (x : Open). x .work) (left .0 .numbers-are), child-work how s row (l .m) deep f rows (l .ready) site child .0),
-            ),
-          ),
+          (omega (arith, room-below, back-long), work-fits),
         )
 
-    -- it was counted, and the step left r and the scratch t₂
-    module _ {rows₂ : List ℕ} (counts : Returned before site (c .work) (c .prefix) rows₁ rows₂) (r : Open) (t₂ : List ℕ) where
-      -- the child's body is g: its numbers and rows, and the scratch behind it
-      behind : (k : Chains) (g : Body) → f ≡ numbers (f .at) (f .work) k → Reads how s (f .at + 1) site g → Holds n w t k [] → ChildDone f site rows g c rows₂ × Holds n w back k (chainOf (f .at + 1) site g)
-      behind k g e st sh =
-          let d = u .leaves g st (lent-none k e sh) in (
-            child-done f site rows before rows₁ rows₂ g c (u .taken) (u .rows-long) (d .0) counts,
-            child-back n w (l .blocks) t (own-room l) (f .longest) o (h .begins) k (chainOf (f .at + 1) site g) y (ap (λ (x : Open). x .longest) e) sh (d .1),
-          )
+    -- it was counted, and the step left r
+    module _ {rows₂ : List ℕ} (counts : Returned before site (c .work) (c .prefix) rows₁ rows₂) (r : Open) where
+      -- the numbers and the rows behind it, where its body is g
+      counted : (g : Body) → BodyDone (f .at + 1) site rows g c rows₁ → ChildDone f site rows g c rows₂
+      counted g d = child-done f site rows before rows₁ rows₂ g c (u .taken) (u .rows-long) d counts
 
-      pub call-leaves : kind ≡ 2 → Called n w back f c r t₂ → ItemLeaves how s row f t rows n w r t₂ rows₂
-      call-leaves k2 step b k m st e sh =
-          let q = call-is how s (f .at) row kind says site sited b st k2 in
-          let v = behind k (q .0) e (q .3) sh in
-          let g = chainOf (f .at + 1) site (q .0) in
-          let d = step k g e (v .0 .chain) (v .1) in
-          subst (λ (x : Body). ItemDone row f rows x k r rows₂ × Holds n w t₂ (itemChains (f .at) row x k) []) (sym (q .2)) (record { numbers-are = d .0 ∙ v .0 .numbers-are (called g k); rows-are = v .0 .rows-are }, d .1)
+      pub call-leaves : kind ≡ 2 → r ≡ calledN c f → ItemLeaves how s row f t rows n w r back rows₂
+      call-leaves k2 er b q k m st e sh =
+          let x = call-is how s (f .at) row kind says site sited b st k2 in
+          let d = u .leaves (x .0) (standing (behind q k)) (x .3) (called-shows q k e sh k2) in
+          let v = counted (x .0) (d .0) in
+          let g = chainOf (f .at + 1) site (x .0) in
+          subst (λ (z : Body). ItemDone row f rows z k r rows₂ × Holds n w back (behind q (itemChains (f .at) row z k)) []) (sym (x .2))
+          (record { numbers-are = er ∙ ap (calledN c) e ∙ called-numbers (f .at) (f .work) k c g (v .chain) ∙ v .numbers-are (called g k); rows-are = v .rows-are }, called-back q k e sh k2 g y (d .1))
 
-      pub spawn-leaves : (kind ≡ 2 → ⊥) → Spawned n w back f c r t₂ → ItemLeaves how s row f t rows n w r t₂ rows₂
-      spawn-leaves k2 step b k m st e sh =
-          let q = spawn-is how s (f .at) row kind says site sited (h .no-cost) (h .no-sync) b st m k2 in
-          let v = behind k (q .0) e (q .3) sh in
-          let g = chainOf (f .at + 1) site (q .0) in
-          let d = step k g e (v .0 .chain) (v .1) in
-          subst (λ (x : Body). ItemDone row f rows x k r rows₂ × Holds n w t₂ (itemChains (f .at) row x k) []) (sym (q .2)) (record { numbers-are = d .0 ∙ v .0 .numbers-are (spawned g k); rows-are = v .0 .rows-are }, d .1)
+      pub spawn-leaves : (kind ≡ 2 → ⊥) → (t₂ : List ℕ) → Spawned n w back f c r t₂ → ItemLeaves how s row f t rows n w r t₂ rows₂
+      spawn-leaves k2 t₂ step b q k m st e sh =
+          let x = spawn-is how s (f .at) row kind says site sited (h .no-cost) (h .no-sync) b st m k2 in
+          let d = u .leaves (x .0) [] (x .3) (spawned-shows q k e sh k2) in
+          let v = counted (x .0) (d .0) in
+          let g = chainOf (f .at + 1) site (x .0) in
+          let z = step q k g e (v .chain) (spawned-back q k e sh k2 g y (d .1)) in
+          subst (λ (z : Body). ItemDone row f rows z k r rows₂ × Holds n w t₂ (behind q (itemChains (f .at) row z k)) []) (sym (x .2)) (record { numbers-are = z .0 ∙ v .numbers-are (spawned g k); rows-are = v .rows-are }, z .1)

@@ -1,5 +1,8 @@
+pub mod Bits
+pub mod Number
 pub mod Loops
-pub mod OneRow
+pub mod Walks
+pub mod TakeIn
 pub mod Held
 pub mod Steps
 pub mod Parts

@@ -1,45 +1,190 @@
--- What the two loops do, i of w numbers done.
-use mathlib.Core.Path.{_≡_, refl, _∙_}
+-- What the loops over the rows do: nothing, one row, rows that are zero, and some rows and then more.
+use mathlib.Core.Path.{_≡_, refl, _∙_, sym}
 use mathlib.Core.List.{List}
 use Prim.Native.Nat.{ℕ, _+_, _≤_, _<_}
 use native.Mathlib.Decide.{decLt}
 use native.Mathlib.Omega.{arith}
 use lib.ListN.{length, getD, set, length-set}
 use lib.Seq.{getD-set-same, getD-set-other}
-use Rattle.tables.specs.Blocks.{Added, Cleared}
+use Rattle.tables.specs.Walks.{Apart, Off, Taken, Cleared}
 
-pub added-none : (a b : ℕ) (t : List ℕ) → Added a b 0 t t
-added-none a b t = record { sums = λ k h. absurd (omega arith); gone = λ k h. absurd (omega arith); rest = λ j x y. refl }
+-- fewer numbers of the blocks lie apart too
+pub fewer : {w b e g : ℕ} {t : List ℕ} (v : ℕ) → v ≤ w → Apart w b e g t → Apart v b e g t
+fewer v h a =
+    record {
+      at-b = omega (arith, a .at-b);
+      at-e = omega (arith, a .at-e);
+      b-g = omega (arith, a .b-g);
+      e-g = omega (arith, a .e-g);
+      b-e = λ i k l m. a .b-e i k (omega arith) (omega arith);
+      room = omega (arith, a .room);
+    }
 
-module _ (a b i w : ℕ) (o t : List ℕ) (ab : a + w ≤ b) (lt : i < w) (room : b + w ≤ length t) (h : Added a b i o t) where
-  pub added-here : (getD t (a + i) 0 ≡ getD o (a + i) 0) × (getD t (b + i) 0 ≡ getD o (b + i) 0)
-  added-here = (h .rest (a + i) (λ x y. omega arith) (λ x y. omega arith), h .rest (b + i) (λ x y. omega arith) (λ x y. omega arith))
+-- and in a scratch of the same length
+pub apart-in : {w b e g : ℕ} {t : List ℕ} (t′ : List ℕ) → length t′ ≡ length t → Apart w b e g t → Apart w b e g t′
+apart-in t′ h a = record { at-b = a .at-b; at-e = a .at-e; b-g = a .b-g; e-g = a .e-g; b-e = a .b-e; room = omega (arith, a .room) }
 
-  pub added-more : Added a b (i + 1) o (set (set t (a + i) (getD t (a + i) 0 + getD t (b + i) 0)) (b + i) 0)
-  added-more = record { sums = λ k l. sums′ k l (decLt k i); gone = λ k l. gone′ k l (decLt k i); rest = λ j x y. other j (λ e. x (omega arith) (omega arith)) (λ e. y (omega arith) (omega arith)) ∙ h .rest j (λ p q. x p (omega arith)) (λ p q. y p (omega arith)) }
+module _ {w b e g : ℕ} {t : List ℕ} (a : Apart w b e g t) where
+  -- row i of each of the four blocks is no other row of any
+  pub off-p : (i k : ℕ) → i < w → k < w → (i ≡ k → ⊥) → Off b e g k i
+  off-p i k h l d = record { not-p = d; not-b = λ q. omega (arith, a .at-b); not-e = λ q. omega (arith, a .at-e); not-g = λ q. omega (arith, a .at-b, a .b-g) }
+
+  pub off-b : (i k : ℕ) → i < w → k < w → (i ≡ k → ⊥) → Off b e g k (b + i)
+  off-b i k h l d = record { not-p = λ q. omega (arith, a .at-b); not-b = λ q. d (omega arith); not-e = λ q. a .b-e i k h l q; not-g = λ q. omega (arith, a .b-g) }
+
+  pub off-e : (i k : ℕ) → i < w → k < w → (i ≡ k → ⊥) → Off b e g k (e + i)
+  off-e i k h l d = record { not-p = λ q. omega (arith, a .at-e); not-b = λ q. a .b-e k i l h (sym q); not-e = λ q. d (omega arith); not-g = λ q. omega (arith, a .e-g) }
+
+  pub off-g : (i k : ℕ) → i < w → k < w → (i ≡ k → ⊥) → Off b e g k (g + i)
+  off-g i k h l d = record { not-p = λ q. omega (arith, a .at-b, a .b-g); not-b = λ q. omega (arith, a .b-g); not-e = λ q. omega (arith, a .e-g); not-g = λ q. d (omega arith) }
+
+  -- no row is taken
+  pub taken-none : (from : ℕ) → Taken b e g w from from t t
+  taken-none from = record { sums = λ i x y z. absurd (omega arith); gone = λ i x y z. absurd (omega arith); comes = λ i x y z. absurd (omega arith); free = λ i x y z. absurd (omega arith); rest = λ j h. refl }
+
+  -- rows that are zero in the three blocks are taken by themselves
+  pub taken-zero : (from stop : ℕ) → ((i : ℕ) → from ≤ i → i < stop → i < w → (getD t (b + i) 0 ≡ 0) × (getD t (e + i) 0 ≡ 0) × (getD t (g + i) 0 ≡ 0)) → Taken b e g w from stop t t
+  taken-zero from stop z =
+      record {
+        sums = λ i x y l. omega (arith, z i x y l .0);
+        gone = λ i x y l. z i x y l .0;
+        comes = λ i x y l. z i x y l .1 ∙ sym (z i x y l .2);
+        free = λ i x y l. z i x y l .2;
+        rest = λ j h. refl;
+      }
+
+  -- a row that is not among those taken is as it was
+  pub taken-off : (from stop : ℕ) (t′ : List ℕ) → Taken b e g w from stop t t′ → (i : ℕ) → i < w → (i < stop → ⊥)
+      → (getD t′ i 0 ≡ getD t i 0) × (getD t′ (b + i) 0 ≡ getD t (b + i) 0) × (getD t′ (e + i) 0 ≡ getD t (e + i) 0) × (getD t′ (g + i) 0 ≡ getD t (g + i) 0)
+  taken-off from stop t′ x i h o = (
+    x .rest i (λ k p q r. off-p i k h r (λ z. o (omega arith))),
+    x .rest (b + i) (λ k p q r. off-b i k h r (λ z. o (omega arith))),
+    x .rest (e + i) (λ k p q r. off-e i k h r (λ z. o (omega arith))),
+    x .rest (g + i) (λ k p q r. off-g i k h r (λ z. o (omega arith))),
+  )
+
+  -- number i of each of the four blocks is stored
+  module _ (i v y : ℕ) (h : i < w) where
+    abbrev stored : List ℕ
+    stored = set (set (set (set t i v) (b + i) 0) (e + i) y) (g + i) 0
+
+    pub stored-off : (j : ℕ) → Off b e g i j → getD stored j 0 ≡ getD t j 0
+    stored-off j o =
+        getD-set-other (set (set (set t i v) (b + i) 0) (e + i) y) (g + i) j 0 0 (o .not-g)
+        ∙ getD-set-other (set (set t i v) (b + i) 0) (e + i) j y 0 (o .not-e)
+        ∙ getD-set-other (set t i v) (b + i) j 0 0 (o .not-b)
+        ∙ getD-set-other t i j v 0 (o .not-p)
+
+    pub stored-p : getD stored i 0 ≡ v
+    stored-p =
+        getD-set-other (set (set (set t i v) (b + i) 0) (e + i) y) (g + i) i 0 0 (λ q. omega (arith, a .at-b, a .b-g))
+        ∙ getD-set-other (set (set t i v) (b + i) 0) (e + i) i y 0 (λ q. omega (arith, a .at-e))
+        ∙ getD-set-other (set t i v) (b + i) i 0 0 (λ q. omega (arith, a .at-b))
+        ∙ getD-set-same t i v 0 (omega (arith, a .at-b, a .b-g, a .room))
+
+    pub stored-b : getD stored (b + i) 0 ≡ 0
+    stored-b =
+        getD-set-other (set (set (set t i v) (b + i) 0) (e + i) y) (g + i) (b + i) 0 0 (λ q. omega (arith, a .b-g))
+        ∙ getD-set-other (set (set t i v) (b + i) 0) (e + i) (b + i) y 0 (a .b-e i i h h)
+        ∙ getD-set-same (set t i v) (b + i) 0 0 (simp length-set (omega (arith, a .b-g, a .room)))
+
+    pub stored-e : getD stored (e + i) 0 ≡ y
+    stored-e =
+        getD-set-other (set (set (set t i v) (b + i) 0) (e + i) y) (g + i) (e + i) 0 0 (λ q. omega (arith, a .e-g))
+        ∙ getD-set-same (set (set t i v) (b + i) 0) (e + i) y 0 (simp length-set (omega (arith, a .e-g, a .room)))
+
+    pub stored-g : getD stored (g + i) 0 ≡ 0
+    stored-g = getD-set-same (set (set (set t i v) (b + i) 0) (e + i) y) (g + i) 0 0 (simp length-set (omega (arith, a .room)))
+
+  -- one row
+  module _ (i : ℕ) (h : i < w) where
+    abbrev sum : ℕ
+    sum = getD t i 0 + getD t (b + i) 0
+
+    abbrev next : ℕ
+    next = getD (set (set t i sum) (b + i) 0) (g + i) 0
+
+    next-is : next ≡ getD t (g + i) 0
+    next-is =
+        getD-set-other (set t i sum) (b + i) (g + i) 0 0 (λ q. omega (arith, a .b-g))
+        ∙ getD-set-other t i (g + i) sum 0 (λ q. omega (arith, a .at-b, a .b-g))
+
+    pub taken-one : Taken b e g w i (i + 1) t (stored i sum next h)
+    taken-one =
+        record {
+          sums = λ k x y l. let z : k ≡ i = omega arith in rw z (stored-p i sum next h);
+          gone = λ k x y l. let z : k ≡ i = omega arith in rw z (stored-b i sum next h);
+          comes = λ k x y l. let z : k ≡ i = omega arith in rw z (stored-e i sum next h ∙ next-is);
+          free = λ k x y l. let z : k ≡ i = omega arith in rw z (stored-g i sum next h);
+          rest = λ j o. stored-off i sum next h j (o i (omega arith) (omega arith) h);
+        }
+
+-- some rows and then more
+pub taken-then : {w b e g : ℕ} {t : List ℕ} → Apart w b e g t → (from mid stop : ℕ) → from ≤ mid → mid ≤ stop → (t₁ t₂ : List ℕ) → Taken b e g w from mid t t₁ → Taken b e g w mid stop t₁ t₂ → Taken b e g w from stop t t₂
+taken-then {w} {b} {e} {g} {t} a from mid stop fm ms t₁ t₂ x y =
+    record {
+      sums = λ i f s l. sums′ i f s l (decLt i mid);
+      gone = λ i f s l. gone′ i f s l (decLt i mid);
+      comes = λ i f s l. comes′ i f s l (decLt i mid);
+      free = λ i f s l. free′ i f s l (decLt i mid);
+      rest = λ j o. y .rest j (λ i f s l. o i (omega arith) s l) ∙ x .rest j (λ i f s l. o i f (omega arith) l);
+    }
+  where
+    sums′ : (i : ℕ) → from ≤ i → i < stop → i < w → Dec (i < mid) → getD t₂ i 0 ≡ getD t i 0 + getD t (b + i) 0
+    sums′ i f s l (yes d) = y .rest i (λ k p q r. off-p a i k l r (λ z. omega arith)) ∙ x .sums i f d l
+    sums′ i f s l (no d) = omega (arith, y .sums i (omega arith) s l, x .rest i (λ k p q r. off-p a i k l r (λ z. omega arith)), x .rest (b + i) (λ k p q r. off-b a i k l r (λ z. omega arith)))
+
+    gone′ : (i : ℕ) → from ≤ i → i < stop → i < w → Dec (i < mid) → getD t₂ (b + i) 0 ≡ 0
+    gone′ i f s l (yes d) = y .rest (b + i) (λ k p q r. off-b a i k l r (λ z. omega arith)) ∙ x .gone i f d l
+    gone′ i f s l (no d) = y .gone i (omega arith) s l
+
+    comes′ : (i : ℕ) → from ≤ i → i < stop → i < w → Dec (i < mid) → getD t₂ (e + i) 0 ≡ getD t (g + i) 0
+    comes′ i f s l (yes d) = y .rest (e + i) (λ k p q r. off-e a i k l r (λ z. omega arith)) ∙ x .comes i f d l
+    comes′ i f s l (no d) = y .comes i (omega arith) s l ∙ x .rest (g + i) (λ k p q r. off-g a i k l r (λ z. omega arith))
+
+    free′ : (i : ℕ) → from ≤ i → i < stop → i < w → Dec (i < mid) → getD t₂ (g + i) 0 ≡ 0
+    free′ i f s l (yes d) = y .rest (g + i) (λ k p q r. off-g a i k l r (λ z. omega arith)) ∙ x .free i f d l
+    free′ i f s l (no d) = y .free i (omega arith) s l
+
+-- the same rows, said otherwise
+pub taken-same : {b e g w from stop : ℕ} {t t′ : List ℕ} (w′ stop′ : ℕ) → ((i : ℕ) → from ≤ i → i < stop′ → i < w′ → (i < stop) × (i < w)) → ((i : ℕ) → from ≤ i → i < stop → i < w → (i < stop′) × (i < w′))
+    → Taken b e g w from stop t t′ → Taken b e g w′ from stop′ t t′
+taken-same w′ stop′ in′ out x =
+    record {
+      sums = λ i f s l. let z = in′ i f s l in x .sums i f (z .0) (z .1);
+      gone = λ i f s l. let z = in′ i f s l in x .gone i f (z .0) (z .1);
+      comes = λ i f s l. let z = in′ i f s l in x .comes i f (z .0) (z .1);
+      free = λ i f s l. let z = in′ i f s l in x .free i f (z .0) (z .1);
+      rest = λ j o. x .rest j (λ i f s l. let z = out i f s l in o i f (z .0) (z .1));
+    }
+
+-- the same of one block that is cleared
+module _ (a w : ℕ) (t : List ℕ) where
+  pub cleared-none : (from : ℕ) → Cleared a w from from t t
+  cleared-none from = record { gone = λ i x y z. absurd (omega arith); rest = λ j h. refl }
+
+  pub cleared-zero : (from stop : ℕ) → ((i : ℕ) → from ≤ i → i < stop → i < w → getD t (a + i) 0 ≡ 0) → Cleared a w from stop t t
+  cleared-zero from stop z = record { gone = z; rest = λ j h. refl }
+
+  pub cleared-one : (i : ℕ) → i < w → a + w ≤ length t → Cleared a w i (i + 1) t (set t (a + i) 0)
+  cleared-one i h room =
+      record {
+        gone = λ k x y l. let z : k ≡ i = omega arith in rw z (getD-set-same t (a + i) 0 0 (omega arith));
+        rest = λ j o. getD-set-other t (a + i) j 0 0 (o i (omega arith) (omega arith) h);
+      }
+
+  pub cleared-then : (from mid stop : ℕ) → from ≤ mid → mid ≤ stop → (t₁ t₂ : List ℕ) → Cleared a w from mid t t₁ → Cleared a w mid stop t₁ t₂ → Cleared a w from stop t t₂
+  cleared-then from mid stop fm ms t₁ t₂ x y =
+      record {
+        gone = λ i f s l. gone′ i f s l (decLt i mid);
+        rest = λ j o. y .rest j (λ i f s l. o i (omega arith) s l) ∙ x .rest j (λ i f s l. o i f (omega arith) l);
+      }
     where
-      other : (j : ℕ) → (j ≡ a + i → ⊥) → (j ≡ b + i → ⊥) → getD (set (set t (a + i) (getD t (a + i) 0 + getD t (b + i) 0)) (b + i) 0) j 0 ≡ getD t j 0
-      other j x y = getD-set-other (set t (a + i) (getD t (a + i) 0 + getD t (b + i) 0)) (b + i) j 0 0 y ∙ getD-set-other t (a + i) j (getD t (a + i) 0 + getD t (b + i) 0) 0 x
+      gone′ : (i : ℕ) → from ≤ i → i < stop → i < w → Dec (i < mid) → getD t₂ (a + i) 0 ≡ 0
+      gone′ i f s l (yes d) = y .rest (a + i) (λ k p q r z. omega arith) ∙ x .gone i f d l
+      gone′ i f s l (no d) = y .gone i (omega arith) s l
 
-      sums′ : (k : ℕ) → k < i + 1 → Dec (k < i) → getD (set (set t (a + i) (getD t (a + i) 0 + getD t (b + i) 0)) (b + i) 0) (a + k) 0 ≡ getD o (a + k) 0 + getD o (b + k) 0
-      sums′ k l (yes d) = other (a + k) (λ e. omega arith) (λ e. omega arith) ∙ h .sums k d
-      sums′ k l (no d) =
-          let e : k ≡ i = omega arith in
-          rw e (getD-set-other (set t (a + i) (getD t (a + i) 0 + getD t (b + i) 0)) (b + i) (a + i) 0 0 (λ e. omega arith) ∙ getD-set-same t (a + i) (getD t (a + i) 0 + getD t (b + i) 0) 0 (omega arith) ∙ omega (arith, added-here .0, added-here .1))
-
-      gone′ : (k : ℕ) → k < i + 1 → Dec (k < i) → getD (set (set t (a + i) (getD t (a + i) 0 + getD t (b + i) 0)) (b + i) 0) (b + k) 0 ≡ 0
-      gone′ k l (yes d) = other (b + k) (λ e. omega arith) (λ e. omega arith) ∙ h .gone k d
-      gone′ k l (no d) =
-          let e : k ≡ i = omega arith in
-          rw e (getD-set-same (set t (a + i) (getD t (a + i) 0 + getD t (b + i) 0)) (b + i) 0 0 (simp length-set (omega arith)))
-
-pub cleared-none : (a : ℕ) (t : List ℕ) → Cleared a 0 t t
-cleared-none a t = record { gone = λ k h. absurd (omega arith); rest = λ j x. refl }
-
-module _ (a i w : ℕ) (o t : List ℕ) (lt : i < w) (room : a + w ≤ length t) (h : Cleared a i o t) where
-  pub cleared-more : Cleared a (i + 1) o (set t (a + i) 0)
-  cleared-more = record { gone = λ k l. gone′ k l (decLt k i); rest = λ j x. getD-set-other t (a + i) j 0 0 (λ e. x (omega arith) (omega arith)) ∙ h .rest j (λ p q. x p (omega arith)) }
-    where
-      gone′ : (k : ℕ) → k < i + 1 → Dec (k < i) → getD (set t (a + i) 0) (a + k) 0 ≡ 0
-      gone′ k l (yes d) = getD-set-other t (a + i) (a + k) 0 0 (λ e. omega arith) ∙ h .gone k d
-      gone′ k l (no d) = let e : k ≡ i = omega arith in rw e (getD-set-same t (a + i) 0 0 (omega arith))
+pub cleared-same : {a w from stop : ℕ} {t t′ : List ℕ} (w′ stop′ : ℕ) → ((i : ℕ) → from ≤ i → i < stop′ → i < w′ → (i < stop) × (i < w)) → ((i : ℕ) → from ≤ i → i < stop → i < w → (i < stop′) × (i < w′))
+    → Cleared a w from stop t t′ → Cleared a w′ from stop′ t t′
+cleared-same w′ stop′ in′ out x =
+    record { gone = λ i f s l. let z = in′ i f s l in x .gone i f (z .0) (z .1); rest = λ j o. x .rest j (λ i f s l. let z = out i f s l in o i f (z .0) (z .1)) }

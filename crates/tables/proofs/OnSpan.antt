@@ -8,14 +8,14 @@ use lib.ListN.{length, getD, set}
 use lib.Seq.{getD-set-same, getD-set-other}
 use Rattle.trace.specs.Rows.{columns}
 use Rattle.trace.specs.Column.{Column, slot}
-use Rattle.tables.specs.Root.{Settled}
+use Rattle.tables.specs.Root.{Moved}
 
-pub settled-none : (t rows : List ℕ) → Settled 0 t rows t rows
-settled-none t rows = record { on-span = λ s h. absurd (omega arith); others = λ i h. refl; gone = λ s h. absurd (omega arith); rest = λ i h. refl }
+pub moved-none : (t rows : List ℕ) → Moved 0 t rows t rows
+moved-none t rows = record { on-span = λ s h. absurd (omega arith); others = λ i h. refl; gone = λ s h. absurd (omega arith); rest = λ i h. refl }
 
-module _ (i w : ℕ) (t₀ rows₀ t rows : List ℕ) (lt : i < w) (room : w ≤ length t) (long : columns * w ≤ length rows) (h : Settled i t₀ rows₀ t rows) where
-  pub settled-more : Settled (i + 1) t₀ rows₀ (set t i 0) (set rows (slot i Column.onSpan) (getD t i 0))
-  settled-more =
+module _ (i w : ℕ) (t₀ rows₀ t rows : List ℕ) (lt : i < w) (room : w ≤ length t) (long : columns * w ≤ length rows) (h : Moved i t₀ rows₀ t rows) where
+  pub moved-more : Moved (i + 1) t₀ rows₀ (set t i 0) (set rows (slot i Column.onSpan) (getD t i 0))
+  moved-more =
       record {
         on-span = λ s l. moved s l (decLt s i);
         others = λ j k. getD-set-other rows (slot i Column.onSpan) j (getD t i 0) 0 (λ e. k i (omega arith) e) ∙ h .others j (λ s l e. k s (omega arith) e);

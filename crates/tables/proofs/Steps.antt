@@ -3,310 +3,263 @@ use mathlib.Core.Path.{_≡_, refl, ap, _∙_, sym, subst}
 use mathlib.Core.Bool.{Bool, true, false, cond}
 use mathlib.Core.Logic.{_⊎_, inl, inr}
 use mathlib.Core.List.{List, [], _∷_, _++_, append-assoc}
-use Prim.Native.Nat.{ℕ, _+_, _*_, _^_, _≤_, _<_}
+use Prim.Native.Nat.{ℕ, _+_, _*_, _/_, _^_, _≤_, _<_}
 use native.Mathlib.Omega.{arith}
+use lib.Bits.{bitOr}
 use lib.Dec.{eqb, ltb}
-use lib.ListN.{length, getD, set}
+use lib.ListN.{length, getD, set, length-set}
 use lib.Seq.{getD-set-same, getD-set-other}
 use borrow.Author.Tests.{eqb-true, eqb-false}
 use Rattle.chain.specs.Plan.{CostLine, weight, choose}
-use Rattle.chain.proofs.Choose.{choose-cases, test}
-use Rattle.trace.specs.Fold.{costAt, Chains, spawned, onRow}
-use Rattle.trace.proofs.OnChain.{row-append, row-le}
+use Rattle.chain.proofs.Lists.{weight-append}
+use Rattle.chain.proofs.Choose.{test}
+use Rattle.trace.specs.Fold.{costAt, Chains, joined, spawned}
 use Rattle.walk.specs.declared.Open.{Open}
-use Rattle.walk.specs.Numbers.{spentN, laterHeavier, joinedN, calledN, childLonger, spawnedN}
-use Rattle.walk.proofs.Numbers.{spent-numbers, later-chosen, joined-numbers, called-numbers, child-chosen, spawned-numbers}
-use Rattle.tables.specs.Blocks.{Added, Cleared, Table, Weighed, sinceAt, partAt, Holds, Asks, Spent, Joined, Called, Spawned}
-use Rattle.tables.proofs.Held.{since-first, since-later, part-first, part-later, none-longest, some-longest, weightless, light, holds-two}
+use Rattle.walk.specs.Reader.{alone}
+use Rattle.walk.specs.Numbers.{spentN, laterHeavier, joinedN, childLonger, spawnedN, load}
+use Rattle.walk.proofs.Numbers.{spent-numbers, later-chosen, joined-numbers, child-chosen, spawned-numbers}
+use Rattle.tables.specs.Walks.{number, Table, IsTable, Out, TakesIn, TookIn, Cleared}
+use Rattle.tables.specs.Blocks.{Shows, sinceAt, Holds, behind, Asks, Spent, Joined, Spawned}
+use Rattle.tables.proofs.Number.{by-number, number-le, number-choose, row-spent, word-spent}
+use Rattle.tables.proofs.Held.{since-first, since-later, behind-joined, behind-spawned, none-longest, some-longest, light, holds-two}
+use Rattle.tables.proofs.Parts.{In, in-or-out, alone-is}
 
--- a table elsewhere is kept
-kept : (t t′ : List ℕ) (a w : ℕ) (c : List CostLine) → ((i : ℕ) → i < w → getD t′ (a + i) 0 ≡ getD t (a + i) 0) → Table t a w c → Table t′ a w c
-kept t t′ a w c e h i l = e i l ∙ h i l
+-- a cost of v in row s is put into the block at a: its number, and its bit in the word
+module _ (t : List ℕ) (a w s v : ℕ) where
+  abbrev added : List ℕ
+  added = set t (a + s) (getD t (a + s) 0 + v)
 
--- a table added to another is that of the two chains
-summed : (a b w : ℕ) (t t′ : List ℕ) (x y : List CostLine) → Added a b w t t′ → Table t a w x → Table t b w y → Table t′ a w (x ++ y)
-summed a b w t t′ x y d h g i l = omega (arith, d .sums i l, h i l, g i l, row-append i x y)
-
--- sums fit
-pub fits : (a b w : ℕ) (t : List ℕ) (x y : List CostLine) → Table t a w x → Table t b w y → weight x + weight y < 2 ^ 64 → (i : ℕ) → i < w → getD t (a + i) 0 + getD t (b + i) 0 < 2 ^ 64
-fits a b w t x y h g f i l = omega (arith, h i l, g i l, row-le i x, row-le i y)
-
--- where no child is the longest, whichever of the two the join takes, its rows are the continuation's
-row-choose : (i : ℕ) (l c : List CostLine) → weight l ≡ 0 → onRow i (choose l c) ≡ onRow i c
-row-choose i l c e = go (choose-cases l c)
-  where
-    go : ((weight l < weight c) × (choose l c ≡ c)) ⊎ ((weight c ≤ weight l) × (choose l c ≡ l)) → onRow i (choose l c) ≡ onRow i c
-    go (inl q) = ap (onRow i) (q .1)
-    go (inr q) = ap (onRow i) (q .1) ∙ omega (arith, weightless i l e, weightless i c (omega arith))
-
--- number s of the block at a, raised by a cost of v
-module _ (t : List ℕ) (a s v : ℕ) where
   abbrev raised : List ℕ
-  raised = set t (a + s) (getD t (a + s) 0 + v)
+  raised = set added (a + w) (bitOr (getD added (a + w) 0) (2 ^ (s / 4)))
 
   -- all other numbers are as they were
-  elsewhere : (j : ℕ) → (j ≡ a + s → ⊥) → getD raised j 0 ≡ getD t j 0
-  elsewhere j q = getD-set-other t (a + s) j (getD t (a + s) 0 + v) 0 q
+  elsewhere : (j : ℕ) → (j ≡ a + s → ⊥) → (j ≡ a + w → ⊥) → getD raised j 0 ≡ getD t j 0
+  elsewhere j q r = getD-set-other added (a + w) j (bitOr (getD added (a + w) 0) (2 ^ (s / 4))) 0 r ∙ getD-set-other t (a + s) j (getD t (a + s) 0 + v) 0 q
 
   -- a chain's table is then that of the chain and the cost
-  row-raised : (w line : ℕ) (c : List CostLine) → s < w → a + w ≤ length t → Table t a w c → Table raised a w (c ++ costAt line s v ∷ [])
-  row-raised w line c sw room h i l = here (eqb s i) refl ∙ sym (row-append i c (costAt line s v ∷ []))
+  table-raised : (line : ℕ) (c : List CostLine) → s < w → 1 ≤ v → a + w < length t → Table t a w c → Table raised a w (c ++ costAt line s v ∷ [])
+  table-raised line c sw some room h = by-number w (λ i. getD raised (a + i) 0 ≡ number w (c ++ costAt line s v ∷ []) i) (λ i l. row i l (eqb s i) refl) word
     where
-      here : (b : Bool) → eqb s i ≡ b → getD raised (a + i) 0 ≡ onRow i c + (cond b v 0 + 0)
-      here true q =
+      row : (i : ℕ) → i < w → (b : Bool) → eqb s i ≡ b → getD raised (a + i) 0 ≡ number w (c ++ costAt line s v ∷ []) i
+      row i l true q =
           let z = eqb-true s i q in
-          rw (← z) (getD-set-same t (a + s) (getD t (a + s) 0 + v) 0 (omega arith) ∙ omega (arith, h s sw))
-      here false q = elsewhere (a + i) (λ z. eqb-false s i q (omega arith)) ∙ omega (arith, h i l)
+          getD-set-other added (a + w) (a + i) (bitOr (getD added (a + w) 0) (2 ^ (s / 4))) 0 (λ z. omega arith)
+          ∙ ap (λ (k : ℕ). getD added (a + k) 0) (sym z)
+          ∙ getD-set-same t (a + s) (getD t (a + s) 0 + v) 0 (omega arith)
+          ∙ omega (arith, h s (omega arith), row-spent w c line s v i l, ap (λ (b : Bool). cond b v 0) q, ap (number w c) z)
+      row i l false q = elsewhere (a + i) (λ z. eqb-false s i q (omega arith)) (λ z. omega arith) ∙ omega (arith, h i (omega arith), row-spent w c line s v i l, ap (λ (b : Bool). cond b v 0) q)
 
-module _ (n w : ℕ) (wn : w ≤ n) (t : List ℕ) where
+      before : getD added (a + w) 0 ≡ number w c w
+      before = getD-set-other t (a + s) (a + w) (getD t (a + s) 0 + v) 0 (λ z. omega arith) ∙ h w (omega arith)
+
+      word : getD raised (a + w) 0 ≡ number w (c ++ costAt line s v ∷ []) w
+      word =
+          getD-set-same added (a + w) (bitOr (getD added (a + w) 0) (2 ^ (s / 4))) 0 (simp length-set room)
+          ∙ ap (λ (x : ℕ). bitOr x (2 ^ (s / 4))) before
+          ∙ sym (word-spent w c line s v some)
+
+-- behind a join one block holds all
+join-held : (n w : ℕ) (t : List ℕ) (q : List CostLine) (k : Chains) → Shows n w t (alone ((q ++ k .p) ++ choose (k .l) (k .c))) [] → Holds n w t (behind q (joined k)) []
+join-held n w t q k s = subst (λ (x : Chains). Holds n w t x []) (behind-joined q k) (holds-two n w t ((q ++ k .p) ++ choose (k .l) (k .c)) [] s)
+
+module _ (n w : ℕ) (wn : n ≡ w + 1) (t : List ℕ) where
   -- no child was the longest: the prefix's block has the continuation
   pub join-none : (f : Open) → f .longest ≡ 0 → (b : Bool) → b ≡ laterHeavier f → Joined n w t f (joinedN b f) t
-  join-none f m b q k e h =
+  join-none f m b is q k e h =
       let z = none-longest f k e m in
       let s = h .first z in (
-        joined-numbers f k e b q,
-        holds-two n w t (k .p ++ choose (k .l) (k .c)) []
-            (record {
-              P = λ i l. omega (arith, s .P i l, row-append i (k .p) (k .c), row-append i (k .p) (choose (k .l) (k .c)), row-choose i (k .l) (k .c) z);
-              L = s .L;
-              C = s .C;
-              G = s .G;
-              zero = s .zero;
-            }),
+        joined-numbers f k e b is,
+        join-held n w t q k (record { P = λ i l. s .P i l ∙ sym (number-choose w (q ++ k .p) (k .l) (k .c) z i l); L = s .L; C = s .C; G = s .G; zero = s .zero }),
       )
 
+  -- the fourth block is no chain's
+  pub third : (k : Chains) (g : List CostLine) → Shows n w t k g → Table t (3 * n) w []
+  third k g s i l = s .zero (3 * n + i) (λ x y. omega arith) (λ x y. omega arith) (λ x y. omega arith) (λ x y. omega arith)
+
+  -- the numbers that a step over the blocks at b, e and g leaves
+  left-out : {b e g : ℕ} {t′ : List ℕ} → TookIn b e g w t t′ → (j : ℕ) → Out 0 n j → Out b n j → Out e n j → Out g n j → getD t′ j 0 ≡ getD t j 0
+  left-out d j x y z u = d .rest j (λ p q. x p (omega arith)) (λ p q. y p (omega arith)) (λ p q. z p (omega arith)) (λ p q. u p (omega arith))
+
+  -- the prefix has taken the table at b, and nothing has come to the other at e
+  took-join : (b e : ℕ) (t′ : List ℕ) → TookIn b e (3 * n) w t t′ → (k : Chains) → Shows n w t k [] → (x : List CostLine) → Table t b w x
+      → ((j : ℕ) → Out b n j → Out e n j → Out n n j × Out (2 * n) n j) → Shows n w t′ (alone (k .p ++ x)) []
+  took-join b e t′ d k s x B both = alone-is n w wn t′ (k .p ++ x) (d .sums (k .p) x (s .P) B) (λ j h. go j h (in-or-out b n j) (in-or-out e n j) (in-or-out (3 * n) n j) (in-or-out (4 * n) n j))
+    where
+      go : (j : ℕ) → n ≤ j → (Out b n j ⊎ In b n j) → (Out e n j ⊎ In e n j) → (Out (3 * n) n j ⊎ In (3 * n) n j) → (Out (4 * n) n j ⊎ In (4 * n) n j) → getD t′ j 0 ≡ 0
+      go j h (inr i) y z u = ap (λ (m : ℕ). getD t′ m 0) (i .is) ∙ d .gone (i .index) (omega (arith, i .below))
+      go j h (inl o) (inr i) z u = ap (λ (m : ℕ). getD t′ m 0) (i .is) ∙ d .comes [] (third k [] s) (i .index) (omega (arith, i .below))
+      go j h (inl o) (inl y) (inr i) u = ap (λ (m : ℕ). getD t′ m 0) (i .is) ∙ d .free (i .index) (omega (arith, i .below))
+      go j h (inl o) (inl y) (inl z) (inr i) = left-out d j (λ p q. omega arith) o y z ∙ ap (λ (m : ℕ). getD t m 0) (i .is) ∙ s .G (i .index) (omega (arith, i .below))
+      go j h (inl o) (inl y) (inl z) (inl u) = left-out d j (λ p q. omega arith) o y z ∙ s .zero j (λ p q. omega arith) (both j o y .0) (both j o y .1) u
+
   -- the continuation was heavier
-  pub join-since : (f : Open) (t₁ t₂ : List ℕ) → Added 0 (2 * n) w t t₁ → Cleared n w t₁ t₂ → (f .longest ≡ 0 → ⊥) → (b : Bool) → b ≡ laterHeavier f → b ≡ true → Joined n w t f (joinedN b f) t₂
-  join-since f t₁ t₂ d z m b q wins k e h =
-      let s = h .later (some-longest f k e m) in
-      let taken : choose (k .l) (k .c) ≡ k .c = later-chosen f k e true (sym wins ∙ q) in (
-        joined-numbers f k e b q,
-        holds-two n w t₂ (k .p ++ choose (k .l) (k .c)) []
-            (record {
-              P = rw taken (kept t₁ t₂ 0 w (k .p ++ k .c) (λ i l. z .rest (0 + i) (λ x y. omega arith)) (summed 0 (2 * n) w t t₁ (k .p) (k .c) d (s .P) (s .C)));
-              L = z .gone;
-              C = kept t₁ t₂ (2 * n) w [] (λ i l. z .rest (2 * n + i) (λ x y. omega arith)) (d .gone);
-              G = λ i l. z .rest (4 * n + i) (λ x y. omega arith) ∙ d .rest (4 * n + i) (λ x y. omega arith) (λ x y. omega arith) ∙ s .G i l;
-              zero = λ j a b c g. z .rest j b ∙ d .rest j a c ∙ s .zero j a b c g;
-            }),
+  pub join-since : (f : Open) (t′ : List ℕ) → TookIn (2 * n) n (3 * n) w t t′ → (f .longest ≡ 0 → ⊥) → (b : Bool) → b ≡ laterHeavier f → b ≡ true → Joined n w t f (joinedN b f) t′
+  join-since f t′ d m b is wins q k e h =
+      let s = h .later (some-longest f k e m) in (
+        joined-numbers f k e b is,
+        join-held n w t′ q k
+            (subst (λ (x : List CostLine). Shows n w t′ (alone ((q ++ k .p) ++ x)) []) (sym (later-chosen f k e true (sym wins ∙ is)))
+            (took-join (2 * n) n t′ d (behind q k) s (k .c) (s .C) (λ j x y. (y, x)))),
       )
 
   -- the longest child was, or they weigh the same
-  pub join-longest : (f : Open) (t₁ t₂ : List ℕ) → Added 0 n w t t₁ → Cleared (2 * n) w t₁ t₂ → (f .longest ≡ 0 → ⊥) → (b : Bool) → b ≡ laterHeavier f → b ≡ false → Joined n w t f (joinedN b f) t₂
-  join-longest f t₁ t₂ d z m b q loses k e h =
-      let s = h .later (some-longest f k e m) in
-      let taken : choose (k .l) (k .c) ≡ k .l = later-chosen f k e false (sym loses ∙ q) in (
-        joined-numbers f k e b q,
-        holds-two n w t₂ (k .p ++ choose (k .l) (k .c)) []
-            (record {
-              P = rw taken (kept t₁ t₂ 0 w (k .p ++ k .l) (λ i l. z .rest (0 + i) (λ x y. omega arith)) (summed 0 n w t t₁ (k .p) (k .l) d (s .P) (s .L)));
-              L = kept t₁ t₂ n w [] (λ i l. z .rest (n + i) (λ x y. omega arith)) (d .gone);
-              C = z .gone;
-              G = λ i l. z .rest (4 * n + i) (λ x y. omega arith) ∙ d .rest (4 * n + i) (λ x y. omega arith) (λ x y. omega arith) ∙ s .G i l;
-              zero = λ j a b c g. z .rest j c ∙ d .rest j a b ∙ s .zero j a b c g;
-            }),
+  pub join-longest : (f : Open) (t′ : List ℕ) → TookIn n (2 * n) (3 * n) w t t′ → (f .longest ≡ 0 → ⊥) → (b : Bool) → b ≡ laterHeavier f → b ≡ false → Joined n w t f (joinedN b f) t′
+  join-longest f t′ d m b is loses q k e h =
+      let s = h .later (some-longest f k e m) in (
+        joined-numbers f k e b is,
+        join-held n w t′ q k
+            (subst (λ (x : List CostLine). Shows n w t′ (alone ((q ++ k .p) ++ x)) []) (sym (later-chosen f k e false (sym loses ∙ is)))
+            (took-join n (2 * n) t′ d (behind q k) s (k .l) (s .L) (λ j x y. (x, y)))),
       )
-
-  -- a called child, where no child is the longest
-  called-first : (f : Open) (c : Open) (t′ : List ℕ) → Added 0 n w t t′ → f .longest ≡ 0 → Called n w t f c (calledN c f) t′
-  called-first f c t′ d m k g e v h =
-      let z = none-longest f k e m in
-      let s = h .first z in (
-        ap (calledN c) e ∙ called-numbers (f .at) (f .work) k c g v,
-        record {
-          first = λ q.
-              record {
-                P = subst (Table t′ 0 w) (append-assoc (k .p) (k .c) g) (summed 0 n w t t′ (k .p ++ k .c) g d (s .P) (s .L));
-                L = d .gone;
-                C = λ i l. d .rest (2 * n + i) (λ x y. omega arith) (λ x y. omega arith) ∙ s .C i l;
-                G = λ i l. d .rest (4 * n + i) (λ x y. omega arith) (λ x y. omega arith) ∙ s .G i l;
-                zero = λ j a b x y. d .rest j a b ∙ s .zero j a b x y;
-              };
-          later = λ q. absurd (q z);
-        },
-      )
-
-  -- a called child, where another child is
-  called-later : (f : Open) (c : Open) (t′ : List ℕ) → Added (2 * n) (4 * n) w t t′ → (f .longest ≡ 0 → ⊥) → Called n w t f c (calledN c f) t′
-  called-later f c t′ d m k g e v h =
-      let z = some-longest f k e m in
-      let s = h .later z in (
-        ap (calledN c) e ∙ called-numbers (f .at) (f .work) k c g v,
-        record {
-          first = λ q. absurd (z q);
-          later = λ q.
-              record {
-                P = λ i l. d .rest (0 + i) (λ x y. omega arith) (λ x y. omega arith) ∙ s .P i l;
-                L = λ i l. d .rest (n + i) (λ x y. omega arith) (λ x y. omega arith) ∙ s .L i l;
-                C = summed (2 * n) (4 * n) w t t′ (k .c) g d (s .C) (s .G);
-                G = d .gone;
-                zero = λ j a b x y. d .rest j x y ∙ s .zero j a b x y;
-              };
-        },
-      )
-
-  -- a called child, wherever the tables are
-  pub called-done : (f : Open) (c : Open) (a b : ℕ) → a ≡ sinceAt n (f .longest) → b ≡ partAt n (f .longest) → (t′ : List ℕ) → Added a b w t t′ → (r : Open) → r ≡ calledN c f → Called n w t f c r t′
-  called-done f c a b ea eb t′ added r er = rw er (go (rw (ea, eb) at added) (eqb (f .longest) 0) refl)
-    where
-      go : Added (sinceAt n (f .longest)) (partAt n (f .longest)) w t t′ → (b : Bool) → eqb (f .longest) 0 ≡ b → Called n w t f c (calledN c f) t′
-      go d true q = let m = eqb-true (f .longest) 0 q in called-first f c t′ (rw (since-first n (f .longest) m, part-first n (f .longest) m) at d) m
-      go d false q = let m = eqb-false (f .longest) 0 q in called-later f c t′ (rw (since-later n (f .longest) m, part-later n (f .longest) m) at d) m
 
   -- no child was the longest before the spawned one: its table is in its place
   pub spawned-first : (f : Open) (c : Open) → f .longest ≡ 0 → (b : Bool) → b ≡ childLonger c f → Spawned n w t f c (spawnedN b c f) t
-  spawned-first f c m b q k g e v h =
+  spawned-first f c m b is q k g e v h =
       let z = none-longest f k e m in
-      (spawned-numbers f k e c g v b q, go z (test (weight (k .l)) (weight (k .c) + weight g)))
+      (spawned-numbers f k e c g v b is, subst (λ (x : Chains). Holds n w t x []) (behind-spawned q g k) (go z (test (weight (k .l)) (weight (k .c) + weight g))))
     where
       go : weight (k .l) ≡ 0 → ((weight (k .l) < weight (k .c) + weight g) × (ltb (weight (k .l)) (weight (k .c) + weight g) ≡ true)) ⊎ ((weight (k .c) + weight g ≤ weight (k .l)) × (ltb (weight (k .l)) (weight (k .c) + weight g) ≡ false))
-          → Holds n w t (spawned g k) []
-      go z (inl q) = simp (q .1) (holds-two n w t (k .p ++ k .c) g (h .first z))
-      go z (inr q) = simp (q .1) (record { first = λ x. light n w t (k .p ++ k .c) g (omega (arith, q .0)) (h .first z); later = λ x. absurd (x z) })
-
-  -- the spawned child's table, behind what is done to the other blocks
-  pub child-table : (t₁ t₂ : List ℕ) → Added 0 (2 * n) w t t₁ → Cleared n w t₁ t₂ → (g : List CostLine) → Table t (4 * n) w g → Table t₂ (4 * n) w g
-  child-table t₁ t₂ d z g h = kept t t₂ (4 * n) w g (λ i l. z .rest (4 * n + i) (λ x y. omega arith) ∙ d .rest (4 * n + i) (λ x y. omega arith) (λ x y. omega arith)) h
-
-  -- what it is added to is clear
-  pub child-fits : (t₁ t₂ : List ℕ) → Added 0 (2 * n) w t t₁ → Cleared n w t₁ t₂ → (g : List CostLine) → Table t (4 * n) w g → weight g < 2 ^ 64 → (i : ℕ) → i < w → getD t₂ (n + i) 0 + getD t₂ (4 * n + i) 0 < 2 ^ 64
-  child-fits t₁ t₂ d z g h v i l = omega (arith, z .gone i l, child-table t₁ t₂ d z g h i l, row-le i g)
+          → Holds n w t (spawned g (behind q k)) []
+      go z (inl c) = simp (c .1) (holds-two n w t ((q ++ k .p) ++ k .c) g (h .first z))
+      go z (inr c) = simp (c .1) (record { first = λ x. light n w t ((q ++ k .p) ++ k .c) g (omega (arith, c .0)) (h .first z); later = λ x. absurd (x z) })
 
   -- the spawned child is the longest from now on
-  pub spawned-longer : (f : Open) (c : Open) (t₁ t₂ t₃ : List ℕ) → Added 0 (2 * n) w t t₁ → Cleared n w t₁ t₂ → Added n (4 * n) w t₂ t₃ → (f .longest ≡ 0 → ⊥) → (b : Bool) → b ≡ childLonger c f → b ≡ true → Spawned n w t f c (spawnedN b c f) t₃
-  spawned-longer f c t₁ t₂ t₃ d z d₂ m b q wins k g e v h =
+  pub spawned-longer : (f : Open) (c : Open) (t′ : List ℕ) → TookIn (2 * n) n (4 * n) w t t′ → (f .longest ≡ 0 → ⊥) → (b : Bool) → b ≡ childLonger c f → b ≡ true → Spawned n w t f c (spawnedN b c f) t′
+  spawned-longer f c t′ d m b is wins q k g e v h =
       let s = h .later (some-longest f k e m) in
-      let p₂ : Table t₂ 0 w (k .p ++ k .c) = kept t₁ t₂ 0 w (k .p ++ k .c) (λ i l. z .rest (0 + i) (λ x y. omega arith)) (summed 0 (2 * n) w t t₁ (k .p) (k .c) d (s .P) (s .C)) in
-      let c₂ : Table t₂ (2 * n) w [] = kept t₁ t₂ (2 * n) w [] (λ i l. z .rest (2 * n + i) (λ x y. omega arith)) (d .gone) in (
-        spawned-numbers f k e c g v b q,
-        subst (λ (x : Chains). Holds n w t₃ x []) (sym (child-chosen f k e c g v true (sym wins ∙ q)))
-            (holds-two n w t₃ (k .p ++ k .c) g
-            (record {
-              P = kept t₂ t₃ 0 w (k .p ++ k .c) (λ i l. d₂ .rest (0 + i) (λ x y. omega arith) (λ x y. omega arith)) p₂;
-              L = summed n (4 * n) w t₂ t₃ [] g d₂ (z .gone) (child-table t₁ t₂ d z g (s .G));
-              C = kept t₂ t₃ (2 * n) w [] (λ i l. d₂ .rest (2 * n + i) (λ x y. omega arith) (λ x y. omega arith)) c₂;
-              G = d₂ .gone;
-              zero = λ j a b x y. d₂ .rest j b y ∙ z .rest j b ∙ d .rest j a x ∙ s .zero j a b x y;
-            })),
+      let p = q ++ k .p in (
+        spawned-numbers f k e c g v b is,
+        subst (λ (x : Chains). Holds n w t′ x []) (ap (λ (x : List CostLine). record { p = x; l = g; c = [] }) (append-assoc q (k .p) (k .c)) ∙ ap (behind q) (sym (child-chosen f k e c g v true (sym wins ∙ is))))
+            (holds-two n w t′ (p ++ k .c) g
+            (record { P = d .sums p (k .c) (s .P) (s .C); L = d .comes g (s .G); C = d .gone; G = d .free; zero = λ j a b x y. left-out d j a x b y ∙ s .zero j a b x y })),
       )
 
   -- it is not
-  pub spawned-shorter : (f : Open) (c : Open) (t₁ : List ℕ) → Cleared (4 * n) w t t₁ → (f .longest ≡ 0 → ⊥) → (b : Bool) → b ≡ childLonger c f → b ≡ false → Spawned n w t f c (spawnedN b c f) t₁
-  spawned-shorter f c t₁ z m b q loses k g e v h =
+  pub spawned-shorter : (f : Open) (c : Open) (t₁ : List ℕ) → Cleared (4 * n) (w + 1) 0 (w + 1) t t₁ → (f .longest ≡ 0 → ⊥) → (b : Bool) → b ≡ childLonger c f → b ≡ false → Spawned n w t f c (spawnedN b c f) t₁
+  spawned-shorter f c t₁ z m b is loses q k g e v h =
       let x = some-longest f k e m in
       let s = h .later x in (
-        spawned-numbers f k e c g v b q,
-        subst (λ (x : Chains). Holds n w t₁ x []) (sym (child-chosen f k e c g v false (sym loses ∙ q)))
+        spawned-numbers f k e c g v b is,
+        subst (λ (x : Chains). Holds n w t₁ (behind q x) []) (sym (child-chosen f k e c g v false (sym loses ∙ is)))
             (record {
               first = λ o. absurd (x o);
               later = λ o.
                   record {
-                    P = λ i l. z .rest (0 + i) (λ x y. omega arith) ∙ s .P i l;
-                    L = λ i l. z .rest (n + i) (λ x y. omega arith) ∙ s .L i l;
-                    C = λ i l. z .rest (2 * n + i) (λ x y. omega arith) ∙ s .C i l;
-                    G = z .gone;
-                    zero = λ j a b x y. z .rest j y ∙ s .zero j a b x y;
+                    P = λ i l. z .rest (0 + i) (λ j a b c d. omega arith) ∙ s .P i l;
+                    L = λ i l. z .rest (n + i) (λ j a b c d. omega arith) ∙ s .L i l;
+                    C = λ i l. z .rest (2 * n + i) (λ j a b c d. omega arith) ∙ s .C i l;
+                    G = λ i l. z .gone i (omega arith) (omega arith) (omega arith);
+                    zero = λ j a b x y. z .rest j (λ i p q r e. y (omega arith) (omega arith)) ∙ s .zero j a b x y;
                   };
             }),
       )
 
+  -- what the steps ask for where a child is the longest: the continuation is taken in, and what is at g comes to the
+  -- longest child's place,
+  pub since-takes : (g : ℕ) → 3 * n ≤ g → g + n ≤ length t → (k : Chains) (c : List CostLine) → Shows n w t k c → IsTable t g w → weight (k .p) + weight (k .c) < 2 ^ 64 → TakesIn (2 * n) n g w t
+  since-takes g low room k c s G fits =
+      record {
+        apart = record { at-b = omega arith; at-e = omega arith; b-g = omega arith; e-g = omega arith; b-e = λ i j x y e. omega arith; room = omega arith };
+        p = k .p;
+        x = k .c;
+        P = s .P;
+        B = s .C;
+        E = (k .l, s .L);
+        G = G;
+        fits = fits;
+      }
+
+  -- or the longest child is
+  pub longest-takes : 4 * n ≤ length t → (k : Chains) (c : List CostLine) → Shows n w t k c → weight (k .p) + weight (k .l) < 2 ^ 64 → TakesIn n (2 * n) (3 * n) w t
+  longest-takes room k c s fits =
+      record {
+        apart = record { at-b = omega arith; at-e = omega arith; b-g = omega arith; e-g = omega arith; b-e = λ i j x y e. omega arith; room = omega arith };
+        p = k .p;
+        x = k .l;
+        P = s .P;
+        B = s .L;
+        E = (k .c, s .C);
+        G = ([], third k c s);
+        fits = fits;
+      }
+
   -- a cost, where no child is the longest
-  spent-first : (f : Open) (s v : ℕ) → s < w → 4 * n ≤ length t → f .longest ≡ 0 → Spent n w s v t f (spentN v f) (raised t 0 s v)
-  spent-first f s v sw room m k e h =
+  spent-first : (f : Open) (s v : ℕ) → s < w → 1 ≤ v → 4 * n ≤ length t → f .longest ≡ 0 → Spent n w s v t f (spentN v f) (raised t 0 w s v)
+  spent-first f s v sw some room m q k e h =
       let z = none-longest f k e m in
       let o = h .first z in
-      let other = elsewhere t 0 s v in (
+      let other = elsewhere t 0 w s v in (
         ap (spentN v) e ∙ spent-numbers (f .at) (f .work) s v k,
         record {
-          first = λ q.
+          first = λ x.
               record {
-                P = subst (Table (raised t 0 s v) 0 w) (append-assoc (k .p) (k .c) (costAt (f .at) s v ∷ [])) (row-raised t 0 s v w (f .at) (k .p ++ k .c) sw (omega arith) (o .P));
-                L = λ i l. other (n + i) (λ q. omega arith) ∙ o .L i l;
-                C = λ i l. other (2 * n + i) (λ q. omega arith) ∙ o .C i l;
-                G = λ i l. other (4 * n + i) (λ q. omega arith) ∙ o .G i l;
-                zero = λ j a b x y. other j (λ q. a (omega arith) (omega arith)) ∙ o .zero j a b x y;
+                P = subst (Table (raised t 0 w s v) 0 w) (append-assoc (q ++ k .p) (k .c) (costAt (f .at) s v ∷ [])) (table-raised t 0 w s v (f .at) ((q ++ k .p) ++ k .c) sw some (omega arith) (o .P));
+                L = λ i l. other (n + i) (λ e. omega arith) (λ e. omega arith) ∙ o .L i l;
+                C = λ i l. other (2 * n + i) (λ e. omega arith) (λ e. omega arith) ∙ o .C i l;
+                G = λ i l. other (4 * n + i) (λ e. omega arith) (λ e. omega arith) ∙ o .G i l;
+                zero = λ j a b x y. other j (λ e. a (omega arith) (omega arith)) (λ e. a (omega arith) (omega arith)) ∙ o .zero j a b x y;
               };
-          later = λ q. absurd (q z);
+          later = λ x. absurd (x z);
         },
       )
 
   -- a cost, where a child is
-  spent-later : (f : Open) (s v : ℕ) → s < w → 4 * n ≤ length t → (f .longest ≡ 0 → ⊥) → Spent n w s v t f (spentN v f) (raised t (2 * n) s v)
-  spent-later f s v sw room m k e h =
+  spent-later : (f : Open) (s v : ℕ) → s < w → 1 ≤ v → 4 * n ≤ length t → (f .longest ≡ 0 → ⊥) → Spent n w s v t f (spentN v f) (raised t (2 * n) w s v)
+  spent-later f s v sw some room m q k e h =
       let z = some-longest f k e m in
       let o = h .later z in
-      let other = elsewhere t (2 * n) s v in (
+      let other = elsewhere t (2 * n) w s v in (
         ap (spentN v) e ∙ spent-numbers (f .at) (f .work) s v k,
         record {
-          first = λ q. absurd (z q);
-          later = λ q.
+          first = λ x. absurd (z x);
+          later = λ x.
               record {
-                P = λ i l. other (0 + i) (λ q. omega arith) ∙ o .P i l;
-                L = λ i l. other (n + i) (λ q. omega arith) ∙ o .L i l;
-                C = row-raised t (2 * n) s v w (f .at) (k .c) sw (omega arith) (o .C);
-                G = λ i l. other (4 * n + i) (λ q. omega arith) ∙ o .G i l;
-                zero = λ j a b x y. other j (λ q. x (omega arith) (omega arith)) ∙ o .zero j a b x y;
+                P = λ i l. other (0 + i) (λ e. omega arith) (λ e. omega arith) ∙ o .P i l;
+                L = λ i l. other (n + i) (λ e. omega arith) (λ e. omega arith) ∙ o .L i l;
+                C = table-raised t (2 * n) w s v (f .at) (k .c) sw some (omega arith) (o .C);
+                G = λ i l. other (4 * n + i) (λ e. omega arith) (λ e. omega arith) ∙ o .G i l;
+                zero = λ j a b x y. other j (λ e. x (omega arith) (omega arith)) (λ e. x (omega arith) (omega arith)) ∙ o .zero j a b x y;
               };
         },
       )
 
   -- a cost, wherever the continuation's table is
-  pub spent-done : (f : Open) (s v : ℕ) → s < w → 4 * n ≤ length t → (a : ℕ) → a ≡ sinceAt n (f .longest) → (t′ : List ℕ) → t′ ≡ raised t a s v → (r : Open) → r ≡ spentN v f → Spent n w s v t f r t′
-  spent-done f s v sw room a ea t′ et r er = rw (er, et, ea) (go (eqb (f .longest) 0) refl)
+  pub spent-done : (f : Open) (s v : ℕ) → s < w → 1 ≤ v → 4 * n ≤ length t → (a : ℕ) → a ≡ sinceAt n (f .longest) → (t₁ : List ℕ) → t₁ ≡ added t a w s v → (t′ : List ℕ) → t′ ≡ set t₁ (a + w) (bitOr (getD t₁ (a + w) 0) (2 ^ (s / 4))) → (r : Open) → r ≡ spentN v f → Spent n w s v t f r t′
+  spent-done f s v sw some room a ea t₁ e₁ t′ et r er = rw (er, et, e₁, ea) (go (eqb (f .longest) 0) refl)
     where
-      go : (b : Bool) → eqb (f .longest) 0 ≡ b → Spent n w s v t f (spentN v f) (raised t (sinceAt n (f .longest)) s v)
-      go true q = let m = eqb-true (f .longest) 0 q in rw (since-first n (f .longest) m) (spent-first f s v sw room m)
-      go false q = let m = eqb-false (f .longest) 0 q in rw (since-later n (f .longest) m) (spent-later f s v sw room m)
+      go : (b : Bool) → eqb (f .longest) 0 ≡ b → Spent n w s v t f (spentN v f) (raised t (sinceAt n (f .longest)) w s v)
+      go true q = let m = eqb-true (f .longest) 0 q in rw (since-first n (f .longest) m) (spent-first f s v sw some room m)
+      go false q = let m = eqb-false (f .longest) 0 q in rw (since-later n (f .longest) m) (spent-later f s v sw some room m)
 
 -- what a step may rely on
-module _ {n w : ℕ} {t : List ℕ} {f : Open} {v : ℕ} (r : Asks n w t f v) where
-  -- the invocation's numbers and the child's fit together
-  pub load-fits : f .prefix + (f .longest + f .since) + v < 2 ^ 64
+module _ {n w : ℕ} {t : List ℕ} {f : Open} {u v : ℕ} (r : Asks n w t f u v) where
+  -- the invocation's numbers, the child's and what is to come fit together
+  pub load-fits : f .prefix + (f .longest + f .since) + (u + v) < 2 ^ 64
   load-fits = omega (arith, r .fits, ap (λ (x : Open). x .prefix) (r .weighs), ap (λ (x : Open). x .longest) (r .weighs), ap (λ (x : Open). x .since) (r .weighs))
 
+  -- so do the tables
+  pub prefix-fits : weight (r .q ++ r .k .p) + (weight (r .k .l) + weight (r .k .c)) + (u + v) < 2 ^ 64
+  prefix-fits = omega (arith, r .fits, weight-append (r .q) (r .k .p))
+
   -- a number of the block with the continuation
-  pub since-le : (i : ℕ) → i < w → getD t (sinceAt n (f .longest) + i) 0 ≤ f .prefix + f .since
+  pub since-le : (i : ℕ) → i < w → getD t (sinceAt n (f .longest) + i) 0 ≤ weight (r .q) + load (r .k)
   since-le i l = go (eqb (f .longest) 0) refl
     where
-      go : (b : Bool) → eqb (f .longest) 0 ≡ b → getD t (sinceAt n (f .longest) + i) 0 ≤ f .prefix + f .since
-      go true q =
-          let m = eqb-true (f .longest) 0 q in
+      go : (b : Bool) → eqb (f .longest) 0 ≡ b → getD t (sinceAt n (f .longest) + i) 0 ≤ weight (r .q) + load (r .k)
+      go true x =
+          let m = eqb-true (f .longest) 0 x in
           let s = r .holds .first (none-longest f (r .k) (r .weighs) m) in
           rw (since-first n (f .longest) m)
-          (omega (arith, s .P i l, row-append i (r .k .p) (r .k .c), row-le i (r .k .p), row-le i (r .k .c), ap (λ (x : Open). x .prefix) (r .weighs), ap (λ (x : Open). x .since) (r .weighs)))
-      go false q =
-          let m = eqb-false (f .longest) 0 q in
+          (omega (arith, s .P i (omega arith), number-le w ((r .q ++ r .k .p) ++ r .k .c) i l, weight-append (r .q ++ r .k .p) (r .k .c), weight-append (r .q) (r .k .p)))
+      go false x =
+          let m = eqb-false (f .longest) 0 x in
           let s = r .holds .later (some-longest f (r .k) (r .weighs) m) in
-          rw (since-later n (f .longest) m) (omega (arith, s .C i l, row-le i (r .k .c), ap (λ (x : Open). x .since) (r .weighs)))
-
-  -- the block that the child left
-  pub part-weighed : Weighed t (partAt n (f .longest)) w v
-  part-weighed = go (eqb (f .longest) 0) refl
-    where
-      go : (b : Bool) → eqb (f .longest) 0 ≡ b → Weighed t (partAt n (f .longest)) w v
-      go true q =
-          let m = eqb-true (f .longest) 0 q in
-          rw (part-first n (f .longest) m) (record { g = r .g; weighs = r .child; table = r .holds .first (none-longest f (r .k) (r .weighs) m) .L })
-      go false q =
-          let m = eqb-false (f .longest) 0 q in
-          rw (part-later n (f .longest) m) (record { g = r .g; weighs = r .child; table = r .holds .later (some-longest f (r .k) (r .weighs) m) .G })
-
-  -- the two can be added
-  pub take-fits : (i : ℕ) → i < w → getD t (sinceAt n (f .longest) + i) 0 + getD t (partAt n (f .longest) + i) 0 < 2 ^ 64
-  take-fits i l = let g = part-weighed in omega (arith, load-fits, since-le i l, g .table i l, row-le i (g .g), g .weighs)
-
-  -- and they lie one behind the other
-  pub take-room : 5 * n ≤ length t → (sinceAt n (f .longest) + w ≤ partAt n (f .longest)) × (partAt n (f .longest) + w ≤ length t)
-  take-room room = go (eqb (f .longest) 0)
-    where
-      go : (b : Bool) → (cond b 0 (2 * n) + w ≤ cond b n (4 * n)) × (cond b n (4 * n) + w ≤ length t)
-      go true = (omega (arith, r .blocks), omega (arith, r .blocks))
-      go false = (omega (arith, r .blocks), omega (arith, r .blocks))
+          rw (since-later n (f .longest) m) (omega (arith, s .C i (omega arith), number-le w (r .k .c) i l))
 
   -- the block with the continuation is in the scratch
-  pub since-room : sinceAt n (f .longest) + w ≤ length t
+  pub since-room : sinceAt n (f .longest) + w < length t
   since-room = go (eqb (f .longest) 0)
     where
-      go : (b : Bool) → cond b 0 (2 * n) + w ≤ length t
+      go : (b : Bool) → cond b 0 (2 * n) + w < length t
       go true = omega (arith, r .blocks, r .room)
       go false = omega (arith, r .blocks, r .room)

@@ -3,10 +3,10 @@ use mathlib.Core.Path.{_≡_, refl, ap, _∙_, sym, subst}
 use mathlib.Core.List.{List, [], _∷_, _++_}
 use Prim.Native.Nat.{ℕ, suc, _+_, _*_, _-_, _≤_, _<_}
 use native.Mathlib.Nat.{suc-mul, mul-comm, mul-assoc, mul-le-mul-left}
-use native.Mathlib.Decide.{decLt}
+use native.Mathlib.Decide.{decLt, ℕ-discrete}
 use native.Mathlib.Omega.{arith}
-use lib.ListN.{length, getD, drop, replicate, length-replicate, List·getD-eq-default}
-use lib.Seq.{ext-getD}
+use lib.ListN.{length, getD, set, drop, replicate, length-set, length-replicate, List·getD-eq-default}
+use lib.Seq.{ext-getD, getD-set-same, getD-set-other}
 use Rattle.line.specs.declared.Frame.{Frame}
 use Rattle.trace.specs.declared.Answer.{Answer}
 use Rattle.trace.specs.declared.Answer.the-variants.{Accepted, Refused}
@@ -37,8 +37,9 @@ use Rattle.walk.proofs.Zeros.{zeros-at}
 use Rattle.walk.proofs.Accepted as root
 use Rattle.tables.specs.Blocks.{Shows}
 use Rattle.tables.specs.Reader.{BodyAsks, BodyLeaves}
-use Rattle.tables.specs.Root.{lent, Admitted, Settled}
-use Rattle.tables.proofs.Held.{holds-two}
+use Rattle.tables.specs.Root.{lent, Admitted, Moved, Settled}
+use Rattle.tables.proofs.Number.{number-row}
+use Rattle.tables.proofs.Held.{opens}
 use Rattle.tables.proofs.Parts.{own-only}
 
 zeros-show : (n w l : ℕ) → Shows n w (replicate l 0) nothing []
@@ -61,14 +62,14 @@ module _ {s : List ℕ} {D M : ℕ} {scratch rows : List ℕ} {count lines : ℕ
   scratch-long : 4 * D * (M + 3) ≤ length scratch
   scratch-long = root.rooms tables s D M (lent scratch rows) (a .t) (a .is) count (a .count-is) .0
 
-  -- four blocks of a number a row for each invocation that may be open
-  blocks-long : 4 * D * (count + 1) ≤ length scratch
+  -- four blocks of a number a row and a word for each invocation that may be open
+  blocks-long : 4 * D * (count + 1 + 1) ≤ length scratch
   blocks-long =
-      let few : count + 1 ≤ M + 3 = omega (arith, limits .3) in
+      let few : count + 1 + 1 ≤ M + 3 = omega (arith, limits .3) in
       omega (arith, scratch-long, mul-le-mul-left (4 * D) few)
 
-  pub table-room : count + 1 ≤ length scratch
-  table-room = omega (arith, blocks-long, room-is D (count + 1) (limits .0))
+  pub table-room : count + 1 < length scratch
+  table-room = omega (arith, blocks-long, room-is D (count + 1 + 1) (limits .0))
 
   -- the line at which the root's body begins
   abbrev first : ℕ
@@ -88,19 +89,22 @@ module _ {s : List ℕ} {D M : ℕ} {scratch rows : List ℕ} {count lines : ℕ
 
   -- its cost lines weigh so
   module _ (how : Weigh) (tabled : Tabled how) where
-    pub root-asks : {t₁ r₁ : List ℕ} → Blank t₁ r₁ → BodyAsks how s first 0 (D - 1) t₁ r₁ (count + 1) (count + 1)
+    pub root-asks : {t₁ r₁ : List ℕ} → Blank t₁ r₁ → BodyAsks how s first 0 (D - 1) t₁ r₁ (count + 1 + 1) (count + 1)
     root-asks {t₁} {r₁} z =
-        subst (λ (x : List ℕ). BodyAsks how s first 0 (D - 1) x r₁ (count + 1) (count + 1)) (sym (z .scratch-is))
-        (subst (λ (y : List ℕ). BodyAsks how s first 0 (D - 1) (replicate (length scratch) 0) y (count + 1) (count + 1)) (sym (z .rows-are))
+        subst (λ (x : List ℕ). BodyAsks how s first 0 (D - 1) x r₁ (count + 1 + 1) (count + 1)) (sym (z .scratch-is))
+        (subst (λ (y : List ℕ). BodyAsks how s first 0 (D - 1) (replicate (length scratch) 0) y (count + 1 + 1) (count + 1)) (sym (z .rows-are))
         (record {
           m = count;
           ready = root.ready tables s D M (lent scratch rows) (a .t) (a .is) count (a .count-is) how tabled;
           blocks = omega arith;
           wide = omega arith;
-          room = omega (arith, blocks-long, room-is D (count + 1) (limits .0), length-replicate {A = ℕ} (length scratch) 0);
+          few = omega (arith, limits .2, limits .3);
+          room = omega (arith, blocks-long, room-is D (count + 1 + 1) (limits .0), length-replicate {A = ℕ} (length scratch) 0);
+          q = [];
           k = nothing;
           weighs = refl;
-          holds = holds-two (count + 1) (count + 1) (replicate (length scratch) 0) [] [] (zeros-show (count + 1) (count + 1) (length scratch));
+          holds = opens (count + 1 + 1) (count + 1) (replicate (length scratch) 0) [] (zeros-show (count + 1 + 1) (count + 1) (length scratch));
+          fits = omega (arith, root.ready tables s D M (lent scratch rows) (a .t) (a .is) count (a .count-is) how tabled .load-fits);
         }))
 
     -- The root was read: its numbers are c, and it left the scratch t₂ and the rows rows₂. Before it, columns 2 and 3 of its
@@ -112,7 +116,7 @@ module _ {s : List ℕ} {D M : ℕ} {scratch rows : List ℕ} {count lines : ℕ
       pub taken : before ≡ creditOf r₁ 0
       pub scratch-same : length t₂ ≡ length scratch
       pub rows-same : length rows₂ ≡ length rows
-      pub leaves : BodyLeaves how s first 0 t₁ r₁ (count + 1) (count + 1) c t₂ rows₂
+      pub leaves : BodyLeaves how s first 0 t₁ r₁ (count + 1 + 1) (count + 1) c t₂ rows₂
 
     -- what its reading comes to
     module _ {before : Credit} {c : Open} {t₂ rows₂ : List ℕ} (u : Read before c t₂ rows₂) where
@@ -122,9 +126,9 @@ module _ {s : List ℕ} {D M : ℕ} {scratch rows : List ℕ} {count lines : ℕ
       abbrev b : Body
       b = root.body tables s D M (lent scratch rows) (a .t) (a .is) count (a .count-is) how tabled
 
-      left : BodyDone first 0 rows₁ b c rows₂ × Shows (count + 1) (count + 1) t₂ (alone (chainOf first 0 b)) []
+      left : BodyDone first 0 rows₁ b c rows₂ × Shows (count + 1 + 1) (count + 1) t₂ (alone (chainOf first 0 b)) []
       left =
-          let h = u .leaves b (root.reads tables s D M (lent scratch rows) (a .t) (a .is) count (a .count-is) how tabled) (subst (λ (x : List ℕ). Shows (count + 1) (count + 1) x nothing []) (sym (u .blank .scratch-is)) (zeros-show (count + 1) (count + 1) (length scratch))) in
+          let h = u .leaves b [] (root.reads tables s D M (lent scratch rows) (a .t) (a .is) count (a .count-is) how tabled) (subst (λ (x : List ℕ). Shows (count + 1 + 1) (count + 1) x nothing []) (sym (u .blank .scratch-is)) (zeros-show (count + 1 + 1) (count + 1) (length scratch))) in
           (subst (λ (y : List ℕ). BodyDone first 0 y b c rows₂) (u .blank .rows-are) (h .0), h .1)
 
       pub root-counts : ReturnFits before rows₂ 0 (c .work) (c .prefix)
@@ -132,6 +136,10 @@ module _ {s : List ℕ} {D M : ℕ} {scratch rows : List ℕ} {count lines : ℕ
 
       -- the root itself, and its table
       module _ {rows₃ : List ℕ} (counts : Returned before 0 (c .work) (c .prefix) rows₂ rows₃) {t₃ rows₄ : List ℕ} (settled : Settled (count + 1) t₂ rows₃ t₃ rows₄) (l₃ : length t₃ ≡ length scratch) (l₄ : length rows₄ ≡ length rows) where
+        -- its rows are moved out, the word behind them cleared
+        abbrev moved : Moved (count + 1) t₂ rows₃ (settled .0) rows₄
+        moved = settled .1
+
         abbrev answer : Answer
         answer = Accepted (c .work) (c .prefix) count lines
 
@@ -140,26 +148,30 @@ module _ {s : List ℕ} {D M : ℕ} {scratch rows : List ℕ} {count lines : ℕ
           where
             go : Dec (j ≡ Column.onSpan) → getD rows₄ (slot k j) 0 ≡ cell count b k j
             go (no q) =
-                settled .others (slot k j) (λ x y e. q (slot-apart k x j Column.onSpan e .1))
+                moved .others (slot k j) (λ x y e. q (slot-apart k x j Column.onSpan e .1))
                 ∙ root.cells tables s D M (lent scratch rows) (a .t) (a .is) count (a .count-is) how tabled before took c rows₂ (u .rows-same) (left .0) rows₃ counts k j h q
             go (yes e) =
                 let z : k ≡ 0 + k = omega arith in
-                rw e (settled .on-span k (omega arith) ∙ ap (λ (x : ℕ). getD t₂ x 0) z ∙ left .1 .P k (omega arith))
+                rw e (moved .on-span k (omega arith) ∙ ap (λ (x : ℕ). getD t₂ x 0) z ∙ left .1 .P k (omega arith) ∙ number-row (count + 1) (chainOf first 0 b) k (omega arith))
 
         rest : (i : ℕ) → columns * (count + 1) ≤ i → getD rows₄ i 0 ≡ getD rows i 0
         rest i h = go (decLt i (length rows))
           where
             go : Dec (i < length rows) → getD rows₄ i 0 ≡ getD rows i 0
             go (yes q) =
-                settled .others i (λ x y e. omega arith) ∙ root.rest tables s D M (lent scratch rows) (a .t) (a .is) count (a .count-is) how tabled before took c rows₂ (u .rows-same) (left .0) rows₃ counts i h q
+                moved .others i (λ x y e. omega arith) ∙ root.rest tables s D M (lent scratch rows) (a .t) (a .is) count (a .count-is) how tabled before took c rows₂ (u .rows-same) (left .0) rows₃ counts i h q
             go (no q) = List·getD-eq-default rows₄ 0 {n = i} (omega arith) ∙ sym (List·getD-eq-default rows 0 {n = i} (omega arith))
 
         scratch-zero : t₃ ≡ replicate (length scratch) 0
-        scratch-zero = ext-getD 0 t₃ (replicate (length scratch) 0) (l₃ ∙ sym (length-replicate {A = ℕ} (length scratch) 0)) (λ i l. go i (decLt i (count + 1)) ∙ sym (zeros-at (length scratch) i))
+        scratch-zero = ext-getD 0 t₃ (replicate (length scratch) 0) (l₃ ∙ sym (length-replicate {A = ℕ} (length scratch) 0)) (λ i l. ap (λ (x : List ℕ). getD x i 0) (settled .2) ∙ go i (decLt i (count + 1)) (ℕ-discrete i (count + 1)) ∙ sym (zeros-at (length scratch) i))
           where
-            go : (i : ℕ) → Dec (i < count + 1) → getD t₃ i 0 ≡ 0
-            go i (yes q) = settled .gone i q
-            go i (no q) = settled .rest i (omega arith) ∙ own-only (count + 1) (count + 1) t₂ (chainOf first 0 b) (left .1) i (λ x y. omega arith)
+            elsewhere : (i : ℕ) → (i ≡ count + 1 → ⊥) → getD (set (settled .0) (count + 1) 0) i 0 ≡ getD (settled .0) i 0
+            elsewhere i q = getD-set-other (settled .0) (count + 1) i 0 0 q
+
+            go : (i : ℕ) → Dec (i < count + 1) → Dec (i ≡ count + 1) → getD (set (settled .0) (count + 1) 0) i 0 ≡ 0
+            go i (yes q) d = elsewhere i (λ e. omega arith) ∙ moved .gone i q
+            go i (no q) (yes e) = rw e (getD-set-same (settled .0) (count + 1) 0 0 (omega (arith, table-room, l₃, ap length (settled .2), length-set (settled .0) (count + 1) 0)))
+            go i (no q) (no d) = elsewhere i d ∙ moved .rest i (omega arith) ∙ own-only (count + 1 + 1) (count + 1) refl t₂ (chainOf first 0 b) (left .1) i (λ x y. omega arith)
 
         by-tree : ProfileBy tables count first b (lent scratch rows) answer (lent t₃ rows₄)
         by-tree =

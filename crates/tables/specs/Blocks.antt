@@ -1,6 +1,7 @@
 -- For proofs and engines, not for the reader of document 01: what an open invocation's part of the scratch holds, and its
--- child's behind it. A block is n numbers, its first w a table. One block is in use as long as no child is the
--- longest, then four, the last of them zero; all that lies behind the blocks in use is lent to a child.
+-- child's behind it. A block is n numbers, a table of w rows and its word. One block is in use as long as no child is the
+-- longest, then four, the last of them zero. A called child is lent all from the continuation's table on, a spawned
+-- child all that lies behind the blocks in use.
 use Prim.Native.Nat.{ℕ, _+_, _*_, _^_, _≤_, _<_}
 use mathlib.Core.Path.{_≡_}
 use mathlib.Core.Bool.{cond}
@@ -8,34 +9,10 @@ use mathlib.Core.List.{List, [], _++_}
 use lib.Dec.{eqb}
 use lib.ListN.{length, getD}
 use Rattle.chain.specs.Plan.{CostLine, weight}
-use Rattle.trace.specs.Fold.{costAt, Chains, spent, joined, called, spawned, onRow}
+use Rattle.trace.specs.Fold.{costAt, Chains, spent, joined, spawned}
 use Rattle.walk.specs.declared.Open.{Open}
 use Rattle.walk.specs.Numbers.{numbers, load}
-
--- j is not among the w numbers from a on
-abbrev pub Out : ℕ → ℕ → ℕ → Type 0
-Out a w j = a ≤ j → j < a + w → ⊥
-
--- the block at b was added to the block at a, and cleared
-pub record Added (a b w : ℕ) (t t′ : List ℕ) : Type 0 where
-  pub sums : (i : ℕ) → i < w → getD t′ (a + i) 0 ≡ getD t (a + i) 0 + getD t (b + i) 0
-  pub gone : (i : ℕ) → i < w → getD t′ (b + i) 0 ≡ 0
-  pub rest : (j : ℕ) → Out a w j → Out b w j → getD t′ j 0 ≡ getD t j 0
-
--- the block at a was cleared
-pub record Cleared (a w : ℕ) (t t′ : List ℕ) : Type 0 where
-  pub gone : (i : ℕ) → i < w → getD t′ (a + i) 0 ≡ 0
-  pub rest : (j : ℕ) → Out a w j → getD t′ j 0 ≡ getD t j 0
-
--- the block at a is a chain's table: what of the chain stands in each row below w
-abbrev pub Table : List ℕ → ℕ → ℕ → List CostLine → Type 0
-Table t a w c = (i : ℕ) → i < w → getD t (a + i) 0 ≡ onRow i c
-
--- the block at b is the table of a chain that weighs v
-pub record Weighed (t : List ℕ) (b w v : ℕ) : Type 0 where
-  pub g : List CostLine
-  pub weighs : weight g ≡ v
-  pub table : Table t b w g
+use Rattle.tables.specs.Walks.{Table, Out}
 
 -- the tables of the three chains, that of a child's chain g at the front of its own scratch, and zeros everywhere else
 pub record Shows (n w : ℕ) (t : List ℕ) (k : Chains) (g : List CostLine) : Type 0 where
@@ -43,16 +20,21 @@ pub record Shows (n w : ℕ) (t : List ℕ) (k : Chains) (g : List CostLine) : T
   pub L : Table t n w (k .l)
   pub C : Table t (2 * n) w (k .c)
   pub G : Table t (4 * n) w g
-  pub zero : (j : ℕ) → Out 0 w j → Out n w j → Out (2 * n) w j → Out (4 * n) w j → getD t j 0 ≡ 0
+  pub zero : (j : ℕ) → Out 0 n j → Out n n j → Out (2 * n) n j → Out (4 * n) n j → getD t j 0 ≡ 0
 
 -- where the continuation's table is, by what the longest child weighs: in the prefix's block as long as no child is
 -- the longest
 abbrev pub sinceAt : ℕ → ℕ → ℕ
 sinceAt n longest = cond (eqb longest 0) 0 (2 * n)
 
--- where a child's part of the scratch begins: behind the blocks in use, one as long as no child is the longest, else four
+-- where a spawned child's part of the scratch begins: behind the blocks in use, one as long as no child is the longest,
+-- else four
 abbrev pub partAt : ℕ → ℕ → ℕ
 partAt n longest = cond (eqb longest 0) n (4 * n)
+
+-- where the part of a child begins whose line is of this kind: a called child's at the continuation's table
+abbrev pub childAt : ℕ → ℕ → ℕ → ℕ
+childAt kind n longest = cond (eqb kind 2) (sinceAt n longest) (partAt n longest)
 
 -- The scratch of an invocation that has come to the chains k, with a child's chain g at the front of the child's part. As
 -- long as no child is the longest, the prefix's block is the table of the prefix and the continuation together, and the
@@ -61,34 +43,35 @@ pub record Holds (n w : ℕ) (t : List ℕ) (k : Chains) (g : List CostLine) : T
   pub first : weight (k .l) ≡ 0 → Shows n w t (record { p = k .p ++ k .c; l = g; c = [] }) []
   pub later : (weight (k .l) ≡ 0 → ⊥) → Shows n w t k g
 
--- What a step asks of the scratch t of an invocation with the numbers f: it holds the chains that weigh so, with a
--- child's chain of weight v beside them.
-pub record Asks (n w : ℕ) (t : List ℕ) (f : Open) (v : ℕ) : Type 0 where
-  pub blocks : w ≤ n
+-- The chains of an invocation that has come to k itself, behind the chain q whose table was at the front of its part when
+-- it was opened: none for the root and a spawned child, what the caller has come to for a called child.
+abbrev pub behind : List CostLine → Chains → Chains
+behind q k = record { p = q ++ k .p; l = k .l; c = k .c }
+
+-- What a step asks of the scratch t of an invocation with the numbers f: it holds the chains that weigh so, behind some
+-- chain, with a child's chain of weight u beside them, and v more fits.
+pub record Asks (n w : ℕ) (t : List ℕ) (f : Open) (u v : ℕ) : Type 0 where
+  pub blocks : n ≡ w + 1
   pub room : 4 * n ≤ length t
+  pub q : List CostLine
   pub k : Chains
   pub g : List CostLine
   pub weighs : f ≡ numbers (f .at) (f .work) k
-  pub child : weight g ≡ v
-  pub holds : Holds n w t k g
-  pub fits : load k + v < 2 ^ 64
+  pub child : weight g ≡ u
+  pub holds : Holds n w t (behind q k) g
+  pub fits : weight q + load k + (u + v) < 2 ^ 64
 
 -- behind a cost of v in row s
 abbrev pub Spent : (n w s v : ℕ) (t : List ℕ) (f r : Open) (t′ : List ℕ) → Type 0
-Spent n w s v t f r t′ = (k : Chains) → f ≡ numbers (f .at) (f .work) k → Holds n w t k []
-    → (r ≡ numbers (f .at + 1) (f .work + v) (spent (costAt (f .at) s v) k)) × Holds n w t′ (spent (costAt (f .at) s v) k) []
+Spent n w s v t f r t′ = (q : List CostLine) (k : Chains) → f ≡ numbers (f .at) (f .work) k → Holds n w t (behind q k) []
+    → (r ≡ numbers (f .at + 1) (f .work + v) (spent (costAt (f .at) s v) k)) × Holds n w t′ (behind q (spent (costAt (f .at) s v) k)) []
 
 -- behind a sync or the return
 abbrev pub Joined : (n w : ℕ) (t : List ℕ) (f r : Open) (t′ : List ℕ) → Type 0
-Joined n w t f r t′ = (k : Chains) → f ≡ numbers (f .at) (f .work) k → Holds n w t k []
-    → (r ≡ numbers (f .at + 1) (f .work) (joined k)) × Holds n w t′ (joined k) []
-
--- behind a called child with the numbers c
-abbrev pub Called : (n w : ℕ) (t : List ℕ) (f c r : Open) (t′ : List ℕ) → Type 0
-Called n w t f c r t′ = (k : Chains) (g : List CostLine) → f ≡ numbers (f .at) (f .work) k → weight g ≡ c .prefix → Holds n w t k g
-    → (r ≡ numbers (c .at) (f .work + c .work) (called g k)) × Holds n w t′ (called g k) []
+Joined n w t f r t′ = (q : List CostLine) (k : Chains) → f ≡ numbers (f .at) (f .work) k → Holds n w t (behind q k) []
+    → (r ≡ numbers (f .at + 1) (f .work) (joined k)) × Holds n w t′ (behind q (joined k)) []
 
 -- behind a spawned child with the numbers c
 abbrev pub Spawned : (n w : ℕ) (t : List ℕ) (f c r : Open) (t′ : List ℕ) → Type 0
-Spawned n w t f c r t′ = (k : Chains) (g : List CostLine) → f ≡ numbers (f .at) (f .work) k → weight g ≡ c .prefix → Holds n w t k g
-    → (r ≡ numbers (c .at) (f .work + c .work) (spawned g k)) × Holds n w t′ (spawned g k) []
+Spawned n w t f c r t′ = (q : List CostLine) (k : Chains) (g : List CostLine) → f ≡ numbers (f .at) (f .work) k → weight g ≡ c .prefix → Holds n w t (behind q k) g
+    → (r ≡ numbers (c .at) (f .work + c .work) (spawned g k)) × Holds n w t′ (behind q (spawned g k)) []

@@ -1,3 +1,4 @@
+pub mod Walks
 pub mod Blocks
 pub mod Reader
 pub mod Root

@@ -1,30 +1,35 @@
 -- For proofs and engines, not for the reader of document 01: what the three readers of the table engine ask for and
 -- leave. t is what their invocation was lent of the scratch, and how is what a cost line weighs.
-use Prim.Native.Nat.{ℕ, _+_, _*_, _≤_, _<_}
+use Prim.Native.Nat.{ℕ, _+_, _*_, _^_, _≤_, _<_}
 use mathlib.Core.Path.{_≡_}
-use mathlib.Core.List.{List, []}
+use mathlib.Core.List.{List, [], _++_}
 use lib.ListN.{length}
+use Rattle.chain.specs.Plan.{CostLine, weight}
 use Rattle.line.specs.At.{kindAt}
-use Rattle.trace.specs.Tree.{Body}
+use Rattle.trace.specs.Tree.{Body, workOf}
 use Rattle.trace.specs.Fold.{Chains, nothing, chainOf, run}
 use Rattle.weigh.specs.Weighed.{Weigh}
 use Rattle.walk.specs.declared.Open.{Open}
 use Rattle.walk.specs.Reads.{Reads}
-use Rattle.walk.specs.Numbers.{numbers}
+use Rattle.walk.specs.Numbers.{numbers, load}
 use Rattle.walk.specs.Item.{More, itemChains}
 use Rattle.walk.specs.Reader.{Ready, ItemDone, ItemsDone, alone, BodyDone}
-use Rattle.tables.specs.Blocks.{Shows, Holds}
+use Rattle.tables.specs.Blocks.{Shows, Holds, behind}
 
--- the scratch holds the chains that the numbers f weigh, and has room for deep invocations more
+-- The scratch holds the chains that the numbers f weigh, behind some chain, and has room for deep invocations more. Whatever
+-- number a table comes to fits.
 pub record Lent (how : Weigh) (s : List ℕ) (row deep : ℕ) (f : Open) (t rows : List ℕ) (n w : ℕ) : Type 0 where
   pub m : ℕ
   pub ready : Ready how s row m deep f rows
-  pub blocks : w ≤ n
+  pub blocks : n ≡ w + 1
   pub wide : m < w
+  pub few : w ≤ 256
   pub room : 4 * n + deep * (4 * n) ≤ length t
+  pub q : List CostLine
   pub k : Chains
   pub weighs : f ≡ numbers (f .at) (f .work) k
-  pub holds : Holds n w t k []
+  pub holds : Holds n w t (behind q k) []
+  pub fits : weight q + load k + workOf (ready .body) < 2 ^ 64
 
 -- the item reader: there is an item, whose first line is of this kind
 pub record ItemAsks (how : Weigh) (s : List ℕ) (kind row deep : ℕ) (f : Open) (t rows : List ℕ) (n w : ℕ) : Type 0 where
@@ -32,22 +37,23 @@ pub record ItemAsks (how : Weigh) (s : List ℕ) (kind row deep : ℕ) (f : Open
   pub kind-is : kind ≡ kindAt s (f .at)
   pub more : More (lent .ready .body)
 
--- whatever body stands here, and whatever chains its invocation has come to
+-- whatever body stands here, and whatever chains its invocation has come to, behind whatever chain
 abbrev pub ItemLeaves : (how : Weigh) (s : List ℕ) (row : ℕ) (f : Open) (t rows : List ℕ) (n w : ℕ) (r : Open) (t′ rows′ : List ℕ) → Type 0
-ItemLeaves how s row f t rows n w r t′ rows′ = (b : Body) (k : Chains) → More b → Reads how s (f .at) row b → f ≡ numbers (f .at) (f .work) k → Holds n w t k []
-    → ItemDone row f rows b k r rows′ × Holds n w t′ (itemChains (f .at) row b k) []
+ItemLeaves how s row f t rows n w r t′ rows′ = (b : Body) (q : List CostLine) (k : Chains) → More b → Reads how s (f .at) row b → f ≡ numbers (f .at) (f .work) k → Holds n w t (behind q k) []
+    → ItemDone row f rows b k r rows′ × Holds n w t′ (behind q (itemChains (f .at) row b k)) []
 
 -- The reader of an invocation's items up to its return: whatever body stands here, and whatever chains its invocation has
--- come to. At the return the scratch holds what they come to, and a join may follow.
+-- come to, behind whatever chain. At the return the scratch holds what they come to, and a join may follow.
 pub record ItemsLeave (how : Weigh) (s : List ℕ) (row deep : ℕ) (f : Open) (t rows : List ℕ) (n w : ℕ) (r : Open) (t′ rows′ : List ℕ) : Type 0 where
   pub lent : Lent how s row deep r t′ rows′ n w
-  pub leaves : (b : Body) (k : Chains) → Reads how s (f .at) row b → f ≡ numbers (f .at) (f .work) k → Holds n w t k []
-      → ItemsDone row f rows b k r rows′ × Holds n w t′ (run (f .at) row b k) []
+  pub leaves : (b : Body) (q : List CostLine) (k : Chains) → Reads how s (f .at) row b → f ≡ numbers (f .at) (f .work) k → Holds n w t (behind q k) []
+      → ItemsDone row f rows b k r rows′ × Holds n w t′ (behind q (run (f .at) row b k)) []
 
 -- the body reader
 abbrev pub BodyAsks : (how : Weigh) (s : List ℕ) (from row deep : ℕ) (t rows : List ℕ) (n w : ℕ) → Type 0
 BodyAsks how s from row deep t rows n w = Lent how s row deep (numbers from 0 nothing) t rows n w
 
+-- its chain's table is added to what stood at the front of its part
 abbrev pub BodyLeaves : (how : Weigh) (s : List ℕ) (from row : ℕ) (t rows : List ℕ) (n w : ℕ) (r : Open) (t′ rows′ : List ℕ) → Type 0
-BodyLeaves how s from row t rows n w r t′ rows′ = (b : Body) → Reads how s from row b → Shows n w t nothing []
-    → BodyDone from row rows b r rows′ × Shows n w t′ (alone (chainOf from row b)) []
+BodyLeaves how s from row t rows n w r t′ rows′ = (b : Body) (q : List CostLine) → Reads how s from row b → Shows n w t (alone q) []
+    → BodyDone from row rows b r rows′ × Shows n w t′ (alone (q ++ chainOf from row b)) []

@@ -3,7 +3,7 @@
 use Prim.Native.Nat.{ℕ, _≤_, _<_}
 use mathlib.Core.Path.{_≡_}
 use mathlib.Core.List.{List, []}
-use lib.ListN.{length, getD}
+use lib.ListN.{length, getD, set}
 use Rattle.line.specs.declared.Frame.{Frame}
 use Rattle.trace.specs.Shape.{sites}
 use Rattle.trace.specs.Column.{Column, slot}
@@ -22,8 +22,12 @@ pub record Admitted (s : List ℕ) (D M : ℕ) (scratch rows : List ℕ) (count 
   pub lines-is : length t ≡ lines
 
 -- the first w numbers of t were moved to column 5
-pub record Settled (w : ℕ) (t rows t′ rows′ : List ℕ) : Type 0 where
+pub record Moved (w : ℕ) (t rows t′ rows′ : List ℕ) : Type 0 where
   pub on-span : (s : ℕ) → s < w → getD rows′ (slot s Column.onSpan) 0 ≡ getD t s 0
   pub others : (i : ℕ) → ((s : ℕ) → s < w → i ≡ slot s Column.onSpan → ⊥) → getD rows′ i 0 ≡ getD rows i 0
   pub gone : (s : ℕ) → s < w → getD t′ s 0 ≡ 0
   pub rest : (i : ℕ) → w ≤ i → getD t′ i 0 ≡ getD t i 0
+
+-- and the word behind them was cleared
+abbrev pub Settled : ℕ → List ℕ → List ℕ → List ℕ → List ℕ → Type 0
+Settled w t rows t′ rows′ = (t₁ : List ℕ) × Moved w t rows t₁ rows′ × (t′ ≡ set t₁ w 0)

@@ -1,77 +1,150 @@
-// The table engine. The scratch is blocks of n numbers; the first w numbers of a block are a table: what of a chain
-// stands in each row. The readers take both alike, a number a row. The root is lent the whole scratch. An open
-// invocation lends a child all that lies behind the blocks that it has in use itself, and has it back when the child
-// returns. Its part is at each moment what it was
-// lent, without what it has lent on: so each open invocation works in its own part of the scratch, and no two parts
-// share a number. As long as no child is the longest, one block is in use: the table of the prefix and the
-// continuation together. The table that a child leaves at the front of its part is then in the next block, that of
-// the longest child. Once a child is the longest, four blocks are in use: the prefix's, the longest child's, the
-// continuation's, and one that stays zero.
+// The table engine. The scratch is blocks of n numbers. A block is a chain's table: w numbers, what of the chain stands
+// in each row, and behind them a word that says which rows these are, by fours. The walks over tables pass over the fours
+// that are not in the word. The root is lent the whole scratch. An open invocation lends a called child what lies from
+// the table of its continuation on, for the continuation always takes the child's chain: the child adds that to the
+// table. It lends a spawned child what lies behind the blocks that it has in use itself. It has what it lent back when
+// the child returns. Its part is at each moment what it was lent, without what it has lent on: so each open invocation
+// works in its own part of the scratch, and no two parts share a number. As long as no child is the longest, one block
+// is in use: the table of the prefix and the continuation together, behind what stood there when the invocation was
+// opened. The table that a spawned child leaves at the front of its part is then in the next block, that of the longest
+// child. Once a child is the longest, four blocks are in use: the prefix's, the longest child's, the continuation's, and
+// one that stays zero: the table of no chain, which takes the place of one that goes.
 ghost use mathlib.Core.Path.{_≡_};
-ghost use Prim.Native.Nat.{ℕ, _+_, _*_, _^_, _≤_, _<_};
-ghost use lib.ListN.{length, getD};
+ghost use Prim.Native.Nat.{_+_, _*_, _/_, _^_, _≤_, _<_};
+ghost use lib.Bits.{bitOr};
+ghost use lib.ListN.{length, getD, set};
 ghost use Rattle.trace.specs.Rows.{columns};
 ghost use Rattle.trace.specs.Promise.{tables, Promise};
 ghost use Rattle.forecast.specs.OfList.{ForecastOf};
 ghost use Rattle.walk.specs.Weight.{byFactors, Factors};
 ghost use Rattle.walk.specs.Profiled.{Profiled};
-ghost use Rattle.tables.specs.Blocks.{Added, Cleared, Weighed, sinceAt, partAt, Asks, Spent, Joined, Called, Spawned};
+ghost use Rattle.tables.specs.Blocks.{sinceAt, partAt, childAt, Asks, Spent, Joined, Spawned};
+ghost use Rattle.tables.specs.Walks.{IsTable, Idles, Apart, SumsFit, Taken, inUse, worded, TakesIn, TookIn, Cleared};
 ghost use Rattle.tables.specs.Root.{lent, Admitted, Settled};
 ghost use Rattle.tables.specs.Reader.{Lent, ItemAsks, ItemLeaves, ItemsLeave, BodyAsks, BodyLeaves};
 
-// Adds the block at b to the block at a, and clears it.
-fn add_from(t: &mut [u64], a: usize, b: usize, w: usize)
-    requires { ⌜ (a + w ≤ b) × (b + w ≤ length (now t)) ⌝ }
-    requires { ⌜ ((i : ℕ) → i < w → getD (now t) (a + i) 0 + getD (now t) (b + i) 0 < 2 ^ 64) ⌝ }
-    ensures { λ _. ⌜ Added a b w (now (t .entry)) (now (t .exit)) ⌝ }
+// Rows from to stop - 1: those of the block at b are added to the prefix's and cleared, and those of the block at g are
+// moved to the block at e.
+fn take_rows(t: &mut [u64], b: usize, e: usize, g: usize, from: usize, stop: usize)
+    requires { ⌜ Apart stop b e g (now t) ⌝ }
+    requires { ⌜ SumsFit stop b (now t) ⌝ }
+    ensures { λ _. ⌜ Taken b e g stop from stop (now (t .entry)) (now (t .exit)) ⌝ }
 {
-    let mut i = 0;
-    while i < w {
-        t[a + i] = t[a + i] + t[b + i];
+    let mut i = from;
+    while i < stop {
+        t[i] = t[i] + t[b + i];
         t[b + i] = 0;
+        t[e + i] = t[g + i];
+        t[g + i] = 0;
         i += 1;
     }
 }
 
-// Clears the block at a.
-fn clear(t: &mut [u64], a: usize, w: usize)
-    requires { ⌜ a + w ≤ length (now t) ⌝ }
-    ensures { λ _. ⌜ Cleared a w (now (t .entry)) (now (t .exit)) ⌝ }
+// Takes the four rows from a row on, as far as there are w.
+fn take_four(t: &mut [u64], b: usize, e: usize, g: usize, w: usize, from: usize)
+    requires { ⌜ Apart w b e g (now t) ⌝ }
+    requires { ⌜ SumsFit w b (now t) ⌝ }
+    requires { ⌜ from + 4 < 2 ^ 64 ⌝ }
+    ensures { λ _. ⌜ Taken b e g w from (from + 4) (now (t .entry)) (now (t .exit)) ⌝ }
 {
-    let mut i = 0;
-    while i < w {
+    if from + 4 <= w {
+        take_rows(t, b, e, g, from, from + 4);
+        return;
+    }
+    take_rows(t, b, e, g, from, w);
+}
+
+// Takes all w rows, in one walk over the fours that are in the word: the others are zero in the three blocks.
+fn take_fours(t: &mut [u64], b: usize, e: usize, g: usize, w: usize, word: u64)
+    requires { ⌜ Apart w b e g (now t) ⌝ }
+    requires { ⌜ SumsFit w b (now t) ⌝ }
+    requires { ⌜ Idles word w b (now t) × (Idles word w e (now t) × Idles word w g (now t)) ⌝ }
+    ensures { λ _. ⌜ Taken b e g w 0 w (now (t .entry)) (now (t .exit)) ⌝ }
+{
+    let mut left = word;
+    let mut c = 0;
+    while left != 0 {
+        let z = u64::trailing_zeros(left);
+        c += z as usize;
+        take_four(t, b, e, g, w, 4 * c);
+        left = (left >> z) >> 1;
+        c += 1;
+    }
+}
+
+// Takes the words as the rows are taken; the answer is the fours in use in any of the three.
+fn take_words(t: &mut [u64], b: usize, e: usize, g: usize, w: usize) -> u64
+    requires { ⌜ Apart (w + 1) b e g (now t) ⌝ }
+    ensures { λ r. ⌜ (r ≡ inUse b e g w (now (t .entry))) × (now (t .exit) ≡ worded b e g w (now (t .entry))) ⌝ }
+{
+    let x = t[b + w];
+    let y = t[e + w];
+    let z = t[g + w];
+    t[w] = t[w] | x;
+    t[b + w] = 0;
+    t[e + w] = z;
+    t[g + w] = 0;
+    x | y | z
+}
+
+// The prefix's table takes in the one at b, which is cleared, and the table at g is moved to e, where what stood there
+// goes.
+fn take_in(t: &mut [u64], b: usize, e: usize, g: usize, w: usize)
+    requires { ⌜ TakesIn b e g w (now t) ⌝ }
+    ensures { λ _. ⌜ TookIn b e g w (now (t .entry)) (now (t .exit)) ⌝ }
+{
+    let word = take_words(t, b, e, g, w);
+    take_fours(t, b, e, g, w, word);
+}
+
+// Clears rows from to stop - 1 of the block at a.
+fn clear_rows(t: &mut [u64], a: usize, from: usize, stop: usize)
+    requires { ⌜ a + stop ≤ length (now t) ⌝ }
+    ensures { λ _. ⌜ Cleared a stop from stop (now (t .entry)) (now (t .exit)) ⌝ }
+{
+    let mut i = from;
+    while i < stop {
         t[a + i] = 0;
         i += 1;
     }
 }
 
-// Adds the block at b, the table of a chain that weighs v, to the block at a, and clears it: only number s where this
-// is v, for then all others are zero.
-fn take_child(t: &mut [u64], a: usize, b: usize, w: usize, s: usize, v: u64)
-    requires { ⌜ (a + w ≤ b) × (b + w ≤ length (now t)) ⌝ }
-    requires { ⌜ ((i : ℕ) → i < w → getD (now t) (a + i) 0 + getD (now t) (b + i) 0 < 2 ^ 64) ⌝ }
-    requires { ⌜ (s < w) × Weighed (now t) b w v ⌝ }
-    ensures { λ _. ⌜ Added a b w (now (t .entry)) (now (t .exit)) ⌝ }
+// Clears four rows from a row on, as far as there are w.
+fn clear_four(t: &mut [u64], a: usize, w: usize, from: usize)
+    requires { ⌜ (a + w ≤ length (now t)) × (from + 4 < 2 ^ 64) ⌝ }
+    ensures { λ _. ⌜ Cleared a w from (from + 4) (now (t .entry)) (now (t .exit)) ⌝ }
 {
-    if t[b + s] == v {
-        t[a + s] = t[a + s] + v;
-        t[b + s] = 0;
+    if from + 4 <= w {
+        clear_rows(t, a, from, from + 4);
         return;
     }
-    add_from(t, a, b, w);
+    clear_rows(t, a, from, w);
 }
 
-// Clears the block at a, the table of a chain that weighs v: only number s where this is v, for then all others are zero.
-fn clear_child(t: &mut [u64], a: usize, w: usize, s: usize, v: u64)
-    requires { ⌜ a + w ≤ length (now t) ⌝ }
-    requires { ⌜ (s < w) × Weighed (now t) a w v ⌝ }
-    ensures { λ _. ⌜ Cleared a w (now (t .entry)) (now (t .exit)) ⌝ }
+// Clears all w rows of the block at a, in one walk over the fours that are in the word: the others are zero.
+fn clear_fours(t: &mut [u64], a: usize, w: usize, word: u64)
+    requires { ⌜ (a + w ≤ length (now t)) × Idles word w a (now t) ⌝ }
+    ensures { λ _. ⌜ Cleared a w 0 w (now (t .entry)) (now (t .exit)) ⌝ }
 {
-    if t[a + s] == v {
-        t[a + s] = 0;
-        return;
+    let mut left = word;
+    let mut c = 0;
+    while left != 0 {
+        let z = u64::trailing_zeros(left);
+        c += z as usize;
+        clear_four(t, a, w, 4 * c);
+        left = (left >> z) >> 1;
+        c += 1;
     }
-    clear(t, a, w);
+}
+
+// Clears the table at a: its word, and the rows that are in it.
+fn clear(t: &mut [u64], a: usize, w: usize)
+    requires { ⌜ (a + w < length (now t)) × IsTable (now t) a w ⌝ }
+    ensures { λ _. ⌜ Cleared a (w + 1) 0 (w + 1) (now (t .entry)) (now (t .exit)) ⌝ }
+{
+    let word = t[a + w];
+    t[a + w] = 0;
+    clear_fours(t, a, w, word);
 }
 
 // Where the continuation's table is: in the prefix's block as long as no child is the longest.
@@ -85,8 +158,8 @@ fn since(n: usize, f: walk::Open) -> usize
     2 * n
 }
 
-// Where a child's part of the scratch begins: behind the blocks in use, one as long as no child is the longest, else
-// four.
+// Where a spawned child's part of the scratch begins: behind the blocks in use, one as long as no child is the longest,
+// else four.
 fn part(n: usize, f: walk::Open) -> usize
     requires { ⌜ 4 * n < 2 ^ 64 ⌝ }
     ensures { λ r. ⌜ r ≡ partAt n (f .longest) ⌝ }
@@ -97,22 +170,43 @@ fn part(n: usize, f: walk::Open) -> usize
     4 * n
 }
 
+// Where a child's part of the scratch begins: a called child goes on in the continuation's table, a spawned child begins
+// behind the blocks in use.
+fn child_part(kind: u8, n: usize, f: walk::Open) -> usize
+    requires { ⌜ 4 * n < 2 ^ 64 ⌝ }
+    ensures { λ r. ⌜ r ≡ childAt kind n (f .longest) ⌝ }
+{
+    if kind != 2 {
+        return part(n, f);
+    }
+    since(n, f)
+}
+
+// Puts row s into the word that is number i.
+fn put_row(t: &mut [u64], i: usize, s: usize)
+    requires { ⌜ (i < length (now t)) × (s < 256) ⌝ }
+    ensures { λ _. ⌜ now (t .exit) ≡ set (now (t .entry)) i (bitOr (getD (now (t .entry)) i 0) (2 ^ (s / 4))) ⌝ }
+{
+    t[i] = t[i] | (1 << (s / 4));
+}
+
 // A cost of v in row s: the continuation's.
 fn spend(t: &mut [u64], n: usize, w: usize, f: walk::Open, s: usize, v: u64) -> walk::Open
-    requires { ⌜ Asks n w (now t) f 0 ⌝ }
-    requires { ⌜ (s < w)
-        × ((f .at + 1 < 2 ^ 64) × ((f .work + v < 2 ^ 64) × (f .prefix + (f .longest + f .since) + v < 2 ^ 64))) ⌝ }
+    requires { ⌜ Asks n w (now t) f 0 v ⌝ }
+    requires { ⌜ (s < w) × ((w ≤ 256) × ((1 ≤ v) × ((f .at + 1 < 2 ^ 64) × (f .work + v < 2 ^ 64)))) ⌝ }
     ensures { λ r. ⌜ Spent n w s v (now (t .entry)) f r (now (t .exit)) ⌝ }
 {
-    let i = since(n, f) + s;
-    walk::add(t, i, v);
+    let o = since(n, f);
+    walk::add(t, o + s, v);
+    put_row(t, o + w, s);
     f.spent(v)
 }
 
 // A sync, or the join at a return: the prefix takes the longest child or, where it is heavier, the continuation. Its
-// block has the continuation already where no child is the longest.
+// block has the continuation already where no child is the longest. To the place of the table that loses comes the one
+// of no chain.
 fn join(t: &mut [u64], n: usize, w: usize, f: walk::Open) -> walk::Open
-    requires { ⌜ Asks n w (now t) f 0 ⌝ }
+    requires { ⌜ Asks n w (now t) f 0 0 ⌝ }
     requires { ⌜ f .at + 1 < 2 ^ 64 ⌝ }
     ensures { λ r. ⌜ Joined n w (now (t .entry)) f r (now (t .exit)) ⌝ }
 {
@@ -120,32 +214,21 @@ fn join(t: &mut [u64], n: usize, w: usize, f: walk::Open) -> walk::Open
         return f.joined(f.later_heavier());
     }
     let k = 2 * n;
+    let none = 3 * n;
     let later = f.later_heavier();
     if later {
-        add_from(t, 0, k, w);
-        clear(t, n, w);
+        take_in(t, k, n, none, w);
         return f.joined(later);
     }
-    add_from(t, 0, n, w);
-    clear(t, k, w);
+    take_in(t, n, k, none, w);
     f.joined(later)
 }
 
-// A called child of row s has returned: the continuation takes its chain.
-fn called(t: &mut [u64], n: usize, w: usize, f: walk::Open, s: usize, c: walk::Open) -> walk::Open
-    requires { ⌜ Asks n w (now t) f (c .prefix) ⌝ }
-    requires { ⌜ (s < w) × ((5 * n ≤ length (now t)) × (f .work + c .work < 2 ^ 64)) ⌝ }
-    ensures { λ r. ⌜ Called n w (now (t .entry)) f c r (now (t .exit)) ⌝ }
-{
-    take_child(t, since(n, f), part(n, f), w, s, c.prefix);
-    f.called(c)
-}
-
-// A spawned child of row s has returned: it is the longest from now on where it is longer, and the prefix takes the
+// A spawned child has returned: it is the longest from now on where it is longer, and the prefix takes the
 // continuation up to it. Where no child was the longest before, each table is in its place already.
-fn spawned(t: &mut [u64], n: usize, w: usize, f: walk::Open, s: usize, c: walk::Open) -> walk::Open
-    requires { ⌜ Asks n w (now t) f (c .prefix) ⌝ }
-    requires { ⌜ (s < w) × ((5 * n ≤ length (now t)) × (f .work + c .work < 2 ^ 64)) ⌝ }
+fn spawned(t: &mut [u64], n: usize, w: usize, f: walk::Open, c: walk::Open) -> walk::Open
+    requires { ⌜ Asks n w (now t) f (c .prefix) 0 ⌝ }
+    requires { ⌜ (5 * n ≤ length (now t)) × (f .work + c .work < 2 ^ 64) ⌝ }
     ensures { λ r. ⌜ Spawned n w (now (t .entry)) f c r (now (t .exit)) ⌝ }
 {
     if f.longest == 0 {
@@ -155,12 +238,10 @@ fn spawned(t: &mut [u64], n: usize, w: usize, f: walk::Open, s: usize, c: walk::
     let g = 4 * n;
     let longer = f.child_longer(c);
     if longer {
-        add_from(t, 0, k, w);
-        clear(t, n, w);
-        take_child(t, n, g, w, s, c.prefix);
+        take_in(t, k, n, g, w);
         return f.spawned(c, longer);
     }
-    clear_child(t, g, w, s, c.prefix);
+    clear(t, g, w);
     f.spawned(c, longer)
 }
 
@@ -176,9 +257,9 @@ fn read_items(
     w: usize,
     factors: &[u64],
 ) -> walk::Open
-    requires { ⌜ Lent (byFactors (now factors)) (now trace) row deep f (now t) (now rows) w w ⌝ }
+    requires { ⌜ Lent (byFactors (now factors)) (now trace) row deep f (now t) (now rows) (w + 1) w ⌝ }
     ensures { λ r. ⌜ ItemsLeave (byFactors (now (factors .entry))) (now (trace .entry)) row deep f (now (t .entry))
-        (now (rows .entry)) w w r (now (t .exit)) (now (rows .exit)) ⌝ }
+        (now (rows .entry)) (w + 1) w r (now (t .exit)) (now (rows .exit)) ⌝ }
 {
     let mut g = f;
     let mut kind = line::kind_at(trace, f.at);
@@ -200,12 +281,12 @@ fn body(
     w: usize,
     factors: &[u64],
 ) -> walk::Open
-    requires { ⌜ BodyAsks (byFactors (now factors)) (now trace) from row deep (now t) (now rows) w w ⌝ }
+    requires { ⌜ BodyAsks (byFactors (now factors)) (now trace) from row deep (now t) (now rows) (w + 1) w ⌝ }
     ensures { λ r. ⌜ BodyLeaves (byFactors (now (factors .entry))) (now (trace .entry)) from row (now (t .entry))
-        (now (rows .entry)) w w r (now (t .exit)) (now (rows .exit)) ⌝ }
+        (now (rows .entry)) (w + 1) w r (now (t .exit)) (now (rows .exit)) ⌝ }
 {
     let f = read_items(trace, walk::Open::new(from), row, deep, t, rows, w, factors);
-    join(t, w, w, f)
+    join(t, w + 1, w, f)
 }
 
 // Reads one item, whose first line is of this kind, with the whole body of a call or a spawn.
@@ -220,33 +301,34 @@ fn item(
     w: usize,
     factors: &[u64],
 ) -> walk::Open
-    requires { ⌜ ItemAsks (byFactors (now factors)) (now trace) kind row deep f (now t) (now rows) w w ⌝ }
+    requires { ⌜ ItemAsks (byFactors (now factors)) (now trace) kind row deep f (now t) (now rows) (w + 1) w ⌝ }
     ensures { λ r. ⌜ ItemLeaves (byFactors (now (factors .entry))) (now (trace .entry)) row f (now (t .entry))
-        (now (rows .entry)) w w r (now (t .exit)) (now (rows .exit)) ⌝ }
+        (now (rows .entry)) (w + 1) w r (now (t .exit)) (now (rows .exit)) ⌝ }
 {
     let at = f.at;
+    let n = w + 1;
     if kind == 6 {
         let v = walk::weight_at(trace, at, row, factors);
         walk::spend(rows, row, v);
-        return spend(t, w, w, f, row, v);
+        return spend(t, n, w, f, row, v);
     }
     if kind == 4 {
-        return join(t, w, w, f);
+        return join(t, n, w, f);
     }
     let site = line::site_at(trace, at) as usize;
-    let o = part(w, f);
+    let o = child_part(kind, n, f);
     let before = walk::credit_of(rows, site);
     let c = body(trace, at + 1, site, deep - 1, &mut t[o..], rows, w, factors);
     walk::returned(rows, site, c.work, c.prefix, before);
     if kind == 2 {
-        return called(t, w, w, f, site, c);
+        return f.called(c);
     }
-    spawned(t, w, w, f, site, c)
+    spawned(t, n, w, f, c)
 }
 
-// Column 5: each row's number is moved out of the root's table.
+// Column 5: each row's number is moved out of the root's table, and its word is cleared.
 fn settle(t: &mut [u64], rows: &mut [u64], w: usize)
-    requires { ⌜ (w ≤ length (now t)) × (columns * w ≤ length (now rows)) ⌝ }
+    requires { ⌜ (w < length (now t)) × (columns * w ≤ length (now rows)) ⌝ }
     ensures { λ _. ⌜ Settled w (now (t .entry)) (now (rows .entry)) (now (t .exit)) (now (rows .exit)) ⌝ }
 {
     let mut i = 0;
@@ -255,6 +337,7 @@ fn settle(t: &mut [u64], rows: &mut [u64], w: usize)
         t[i] = 0;
         i += 1;
     }
+    t[w] = 0;
 }
 
 // An accepted trace of count sites and lines lines, each cost weighed by its row's factor: the room is cleared, the root

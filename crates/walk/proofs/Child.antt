@@ -124,6 +124,10 @@ module _ (w : Weigh) (s : List ℕ) (row m deep : ℕ) (f : Open) (rows : List �
           rows-fit = λ i l. omega (arith, child-fits i l);
         }
 
+    pub child-body : child-ready .body ≡ inner
+    unfolding child-ready
+    child-body = refl
+
     -- what the child came to can be counted
     pub count-fits : (before : Credit) (r : Open) (rows₁ : List ℕ) → before ≡ creditOf rows site → length rows₁ ≡ length rows
         → BodyDone (f .at + 1) site rows inner r rows₁ → ReturnFits before rows₁ site (r .work) (r .prefix)

@@ -50,6 +50,10 @@ module _ (w : Weigh) (s : List ℕ) (row m deep : ℕ) (f : Open) (rows : List �
         rows-fit = λ i l. omega (arith, h .rows-are i (omega (arith, r .rows-long)), item-gain-le row b more i, size-item b more, work-item b, r .rows-fit i l);
       }
 
+  pub again-body : ready-again .body ≡ rest (r .body)
+  unfolding ready-again
+  again-body = refl
+
 module _ (w : Weigh) (s : List ℕ) (row : ℕ) (f₀ : Open) (rows₀ : List ℕ) (b : Body) (k₀ : Chains) where
   pub turn-start : Reads w s (f₀ .at) row b → f₀ ≡ numbers (f₀ .at) (f₀ .work) k₀ → Turn w s row f₀ rows₀ b k₀ f₀ rows₀ b k₀
   turn-start h e = record { reads = h; weighs = e; same-end = refl; same-work = refl; same-chains = refl; same-rows = λ i l. refl }

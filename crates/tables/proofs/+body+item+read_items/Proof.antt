@@ -7,7 +7,7 @@ use native.Mathlib.Omega.{arith}
 use borrow.Author.Needs.{needs}
 use Rattle.walk.specs.Weight.{byFactors}
 use Rattle.tables.proofs.Bodies.{begins, Loop, loop-start, loop-asks, Next, loop-less, loop-again, loop-done, body-leaves}
-use Rattle.tables.proofs.Items.{line-fits, own-room, join-asks, sync-leaves, Costs, rows-asks, spend-asks, cost-leaves, Calls, deeper, room, credit-asks, body-asks, Back, back-long, count-asks, child-asks, call-leaves, spawn-leaves}
+use Rattle.tables.proofs.Items.{line-fits, own-room, join-asks, sync-leaves, Costs, rows-asks, spend-asks, cost-leaves, Calls, deeper, room, credit-asks, body-asks, Back, back-long, count-asks, called-asks, spawned-asks, call-leaves, spawn-leaves}
 use borrow.Fn.Kinds.{In, Out}
 use borrow.Fn.PlainCycle.{Measures, is, falls, and}
 use Rattle.tables.proofs.body.Reads as body
@@ -22,11 +22,11 @@ use Rattle.tables.proofs.+body+item+read_items.Lts-item as item-lts
 use Rattle.line.proofs.kind_at.Reads as kind-at-reads
 use Rattle.line.proofs.site_at.Reads as site-at-reads
 use Rattle.walk.proofs.credit_of.Reads as credit-of-reads
-use Rattle.tables.proofs.called.Reads as called-reads
 use Rattle.tables.proofs.join.Reads as join-reads
-use Rattle.tables.proofs.part.Reads as part-reads
+use Rattle.tables.proofs.child_part.Reads as child-part-reads
 use Rattle.tables.proofs.spawned.Reads as spawned-reads
 use Rattle.tables.proofs.spend.Reads as spend-reads
+use Rattle.walk.proofs.Open.called.Reads as called-reads
 use Rattle.walk.proofs.Open.new.Reads as new-reads
 use Rattle.walk.proofs.returned.Reads as returned-reads
 use Rattle.walk.proofs.spend.Reads as spend-reads′
@@ -69,10 +69,10 @@ abbrev items-calls : ℕ → items-lts.Claims
 items-calls t = (kind-at-reads.Asked, kind-at-reads.Learnt, item-below t, item.Post)
 
 abbrev item-calls : ℕ → item-lts.Claims
-item-calls t = (weight-at-reads.Asked, weight-at-reads.Learnt, spend-reads′.Asked, spend-reads′.Learnt, spend-reads.Asked, spend-reads.Learnt, join-reads.Asked, join-reads.Learnt, site-at-reads.Asked, site-at-reads.Learnt, part-reads.Asked, part-reads.Learnt, credit-of-reads.Asked, credit-of-reads.Learnt, body-below t, body.Post, returned-reads.Asked, returned-reads.Learnt, called-reads.Asked, called-reads.Learnt, spawned-reads.Asked, spawned-reads.Learnt)
+item-calls t = (weight-at-reads.Asked, weight-at-reads.Learnt, spend-reads′.Asked, spend-reads′.Learnt, spend-reads.Asked, spend-reads.Learnt, join-reads.Asked, join-reads.Learnt, site-at-reads.Asked, site-at-reads.Learnt, child-part-reads.Asked, child-part-reads.Learnt, credit-of-reads.Asked, credit-of-reads.Learnt, body-below t, body.Post, returned-reads.Asked, returned-reads.Learnt, called-reads.Asked, called-reads.Learnt, spawned-reads.Asked, spawned-reads.Learnt)
 
 abbrev Inv-loop : items-lts.InvT-loop
-Inv-loop trace row deep t₀ rows₀ w factors f₀ kind₀ t rows f kind = Loop (byFactors factors) trace row deep f₀ t₀ rows₀ t rows w w f kind
+Inv-loop trace row deep t₀ rows₀ w factors f₀ kind₀ t rows f kind = Loop (byFactors factors) trace row deep f₀ t₀ rows₀ t rows (w + 1) w f kind
 
 abbrev μ-loop : items-lts.MeasureT-loop
 μ-loop trace row deep t₀ rows₀ w factors f₀ kind₀ t rows f kind = 65536 - f .at
@@ -103,6 +103,9 @@ module _ (t : ℕ) where
       let f = body-first c in
       let a = body-start f in
       (omega (arith, a .pre .0), begins (f .new .result) (f .new .ensures) (a .pre .1))
+
+  body-add-join : Body body-lts.Need-add-join
+  body-add-join c = record { fits = omega (arith, body-items c .read-items .ensures .lent .few) }
 
   body-join-requires : Body body-lts.Need-join-requires
   body-join-requires c κs = join-asks (body-items c .read-items .ensures .lent)
@@ -214,13 +217,13 @@ module _ (t : ℕ) where
   abbrev child-start : Item item-lts.After-site-at → Item item-lts.Start
   child-start c = item-start (c .before .before .before)
 
-  abbrev credit-part : Item item-lts.After-credit-of → Item item-lts.After-part
+  abbrev credit-part : Item item-lts.After-credit-of → Item item-lts.After-child-part
   credit-part c = c .before .before
 
   abbrev body-credit : Item item-lts.After-body-arg2 → Item item-lts.After-credit-of
   body-credit c = c .before .before
 
-  abbrev body-part : Item item-lts.After-body-arg2 → Item item-lts.After-part
+  abbrev body-part : Item item-lts.After-body-arg2 → Item item-lts.After-child-part
   body-part c = credit-part (body-credit c)
 
   abbrev returned-body : Item item-lts.After-returned-arg → Item item-lts.After-body
@@ -229,16 +232,10 @@ module _ (t : ℕ) where
   abbrev test-returned : Item item-lts.After-slice-known8 → Item item-lts.After-returned
   test-returned c = c .before .before
 
-  abbrev called-test : Item item-lts.After-called-arg → Item item-lts.Then3
-  called-test c = c .before
-
   abbrev spawned-test : Item item-lts.After-spawned-arg → Item item-lts.Else3
   spawned-test c = c .before
 
-  abbrev item-called : Item item-lts.After-slice-known9 → Item item-lts.After-called
-  item-called c = c .before .before
-
-  abbrev item-spawned : Item item-lts.After-slice-known10 → Item item-lts.After-spawned
+  abbrev item-spawned : Item item-lts.After-slice-known9 → Item item-lts.After-spawned
   item-spawned c = c .before .before
 
   -- the scratch is no longer than a number can say
@@ -254,17 +251,20 @@ module _ (t : ℕ) where
 
   -- what is known where a weight was read, where the child's part is known, and where the child has returned
   at-weight : (c : Item item-lts.After-weight-at) → (
-      let a = item-start (weight-test c) .args in Costs (byFactors (a .factors .now)) (a .trace .now) (a .kind) (a .row) (a .deep) (a .f) (a .t .now) (a .rows .now) (a .w) (a .w) (c .weight-at .result))
+      let a = item-start (weight-test c) .args in Costs (byFactors (a .factors .now)) (a .trace .now) (a .kind) (a .row) (a .deep) (a .f) (a .t .now) (a .rows .now) (a .w + 1) (a .w) (c .weight-at .result))
   at-weight c = record { asks = item-start (weight-test c) .pre .1; weight-is = c .weight-at .ensures; cost = c .before .if1 .taken }
 
-  at-part : (c : Item item-lts.After-part) → (
-      let a = child-start (c .before) .args in Calls (byFactors (a .factors .now)) (a .trace .now) (a .kind) (a .row) (a .deep) (a .f) (a .t .now) (a .rows .now) (a .w) (a .w) (c .before .site-at .result) (c .part .result))
+  at-part : (c : Item item-lts.After-child-part) → (
+      let a = child-start (c .before) .args in Calls (byFactors (a .factors .now)) (a .trace .now) (a .kind) (a .row) (a .deep) (a .f) (a .t .now) (a .rows .now) (a .w + 1) (a .w) (c .before .site-at .result) (c .child-part .result))
   at-part c =
       let e = c .before .before in
-      record { asks = child-start (c .before) .pre .1; site-is = c .before .site-at .ensures; no-cost = e .before .if1 .left; no-sync = e .if2 .left; begins = c .part .ensures }
+      record { asks = child-start (c .before) .pre .1; site-is = c .before .site-at .ensures; no-cost = e .before .if1 .left; no-sync = e .if2 .left; begins = c .child-part .ensures }
 
   at-body : (c : Item item-lts.After-body) → Back (at-part (body-part (c .before))) (body-credit (c .before) .credit-of .result) (c .body .result) (body-scratch c) (body-rows c)
   at-body c = record { taken = body-credit (c .before) .credit-of .ensures; part-long = c .body .kept .1 .1 .1 .1 .0; rows-long = c .body .kept .1 .1 .1 .1 .1 .0; leaves = c .body .ensures }
+
+  item-add-n : Item item-lts.Need-add-n
+  item-add-n c = record { fits = omega (arith, item-start c .pre .1 .lent .few) }
 
   item-weight-at-requires : Item item-lts.Need-weight-at-requires
   item-weight-at-requires c κs = search needs
@@ -306,8 +306,8 @@ module _ (t : ℕ) where
   item-cast-site : Item item-lts.Need-cast-site
   item-cast-site c = search needs
 
-  item-part-requires : Item item-lts.Need-part-requires
-  item-part-requires c κs =
+  item-child-part-requires : Item item-lts.Need-child-part-requires
+  item-child-part-requires c κs =
       let a = child-start c in
       omega (arith, own-room (a .pre .1 .lent), scratch-fits a)
 
@@ -342,27 +342,25 @@ module _ (t : ℕ) where
   item-returned-requires c κs = count-asks _ (at-body (returned-body c))
 
   item-called-requires : Item item-lts.Need-called-requires
-  item-called-requires c κs = child-asks _ (at-body (returned-body (test-returned (called-test c .before) .before)))
+  item-called-requires c κs = called-asks _ (at-body (returned-body (test-returned (c .before) .before)))
 
   item-same-length-4 : Item item-lts.Need-same-length-4
-  item-same-length-4 c =
-      let r = item-called c in
-      r .called .kept .0 ∙ back-long _ (at-body (returned-body (test-returned (called-test (r .before) .before) .before)))
+  item-same-length-4 c = back-long _ (at-body (returned-body (test-returned (c .before .before) .before)))
 
   item-same-length-5 : Item item-lts.Need-same-length-5
   item-same-length-5 c =
-      let k = test-returned (called-test (item-called c .before) .before) in
+      let k = test-returned (c .before .before) in
       k .returned .kept .0 ∙ at-body (returned-body (k .before)) .rows-long
 
   item-returns-3 : Item item-lts.Need-returns-3
   item-returns-3 c =
-      let r = item-called c in
-      let e = called-test (r .before) in
-      let k = test-returned (e .before) in
-      call-leaves _ (at-body (returned-body (k .before))) (k .returned .ensures) (r .called .result) (r .called .last .0) (e .if3 .taken) (r .called .ensures)
+      let k = test-returned (c .before .before) in
+      call-leaves _ (at-body (returned-body (k .before))) (k .returned .ensures) (c .called .result) (c .before .if3 .taken) (c .called .ensures)
 
   item-spawned-requires : Item item-lts.Need-spawned-requires
-  item-spawned-requires c κs = child-asks _ (at-body (returned-body (test-returned (spawned-test c .before) .before)))
+  item-spawned-requires c κs =
+      let e = spawned-test c in
+      spawned-asks _ (at-body (returned-body (test-returned (e .before) .before))) (e .if3 .left)
 
   item-same-length-6 : Item item-lts.Need-same-length-6
   item-same-length-6 c =
@@ -379,7 +377,7 @@ module _ (t : ℕ) where
       let r = item-spawned c in
       let e = spawned-test (r .before) in
       let k = test-returned (e .before) in
-      spawn-leaves _ (at-body (returned-body (k .before))) (k .returned .ensures) (r .spawned .result) (r .spawned .last .0) (e .if3 .left) (r .spawned .ensures)
+      spawn-leaves _ (at-body (returned-body (k .before))) (k .returned .ensures) (r .spawned .result) (e .if3 .left) (r .spawned .last .0) (r .spawned .ensures)
 
 pub +body+item+read-items-spec : {M : Type 1} → statement M
 +body+item+read-items-spec = close μ-body μ-item μ-items (λ t. body-lts.spec (body-calls t)
@@ -387,6 +385,7 @@ pub +body+item+read-items-spec : {M : Type 1} → statement M
     body.Post
     (body-new-requires t)
     (body-read-items-requires t)
+    (body-add-join t)
     (body-join-requires t)
     (body-same-length t)
     (body-same-length-2 t)
@@ -394,6 +393,7 @@ pub +body+item+read-items-spec : {M : Type 1} → statement M
     (λ t. item-lts.spec (item-calls t)
     (item-at t)
     item.Post
+    (item-add-n t)
     (item-weight-at-requires t)
     (item-spend-requires t)
     (item-spend-requires-2 t)
@@ -405,7 +405,7 @@ pub +body+item+read-items-spec : {M : Type 1} → statement M
     (item-returns-2 t)
     (item-site-at-requires t)
     (item-cast-site t)
-    (item-part-requires t)
+    (item-child-part-requires t)
     (item-credit-of-requires t)
     (item-add-body t)
     (item-sub-body t)

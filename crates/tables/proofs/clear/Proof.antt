@@ -1,69 +1,53 @@
--- `tables::clear` meets its contract. The invariant: the first `i` numbers are 0, and the rest as they were. The
--- measure is what is left.
-use mathlib.Core.Path.{_≡_, refl}
-use Prim.Native.Nat.{_-_, _≤_}
-use native.Mathlib.Omega.{arith}
-use lib.ListN.{length, length-set}
-use Rattle.tables.specs.Blocks.{Cleared}
-use Rattle.tables.proofs.Loops.{cleared-none, cleared-more}
+-- `tables::clear` meets its contract: the word says which rows are in use, and the walk clears these.
+use mathlib.Core.Path.{_∙_}
+use lib.ListN.{length-set}
+use Rattle.tables.proofs.TakeIn.{clear-asks, cleared-table}
 use borrow.Author.Needs.{needs}
 use Rattle.tables.proofs.clear.Statement.{statement}
 use Rattle.tables.proofs.clear.Tie as tie
-use Rattle.tables.proofs.clear.Reads as reads
-use Rattle.tables.proofs.clear.Lts as lts
 
-abbrev Inv-loop : tie.InvT-loop
-Inv-loop t₀ a w i₀ t i = (i ≤ w) × (length t ≡ length t₀) × Cleared a i t₀ t
+add-word : tie.Need-add-word
+add-word c = search needs
 
-abbrev μ-loop : tie.MeasureT-loop
-μ-loop t₀ a w i₀ t i = w - i
+mul-word : tie.Need-mul-word
+mul-word c = search needs
 
-loop-holds : tie.Need-loop-holds Inv-loop μ-loop
-loop-holds c = (omega arith, refl, cleared-none (c .args .a) (c .args .t .now))
+slice-read-word : tie.Need-slice-read-word
+slice-read-word c = search needs
 
-add-t : tie.Need-add-t Inv-loop μ-loop
+add-t : tie.Need-add-t
 add-t c = search needs
 
-mul-t : tie.Need-mul-t Inv-loop μ-loop
+mul-t : tie.Need-mul-t
 mul-t c = search needs
 
-slice-write-t : tie.Need-slice-write-t Inv-loop μ-loop
+slice-write-t : tie.Need-slice-write-t
 slice-write-t c = search needs
 
-add-i : tie.Need-add-i Inv-loop μ-loop
-add-i c = search needs
+clear-fours-requires : tie.Need-clear-fours-requires
+clear-fours-requires c κs =
+    let a = c .before .before .before in
+    clear-asks (a .args .a) (a .args .w) (a .args .t .now) (a .pre .0) (a .pre .1)
 
-loop-less : tie.Need-loop-less Inv-loop μ-loop
-loop-less c = search needs
+same-length : tie.Need-same-length
+same-length c = c .before .before .clear-fours .kept .0 ∙ simp length-set
 
-loop-again : tie.Need-loop-again Inv-loop μ-loop
-loop-again c =
-    let a = c .before .before in
-    let l = c .before .loop in
-    (omega arith, simp length-set (l .inv .1), cleared-more (a .args .a) (l .i) (a .args .w) (a .args .t .now) (l .t) (omega arith) (omega (arith, l .inv .1, a .pre)) (l .inv .2))
-
-same-length : tie.Need-same-length Inv-loop μ-loop
-same-length c = c .before .loop .inv .1
-
-returns : tie.Need-returns Inv-loop μ-loop
+returns : tie.Need-returns
 returns c =
-    let a = c .before .before in
-    let l = c .before .loop in
-    let e : l .i ≡ a .args .w = omega arith in
-    rw e at (l .inv .2)
+    let r = c .before .before in
+    let a = r .before .before .before .before in
+    cleared-table (a .args .a) (a .args .w) (a .args .t .now) (a .pre .0) (r .clear-fours .ensures)
 
 pub clear-spec : {M : Type 1} → statement M
 clear-spec =
     tie.close
     (tie.spec
-    Inv-loop
-    μ-loop
-    loop-holds
+    add-word
+    mul-word
+    slice-read-word
     add-t
     mul-t
     slice-write-t
-    add-i
-    loop-less
-    loop-again
+    clear-fours-requires
     same-length
     returns)

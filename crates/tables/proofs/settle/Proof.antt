@@ -5,15 +5,13 @@ use mathlib.Core.Path.{_≡_, refl}
 use native.Mathlib.Omega.{arith}
 use borrow.Author.Needs.{needs}
 use lib.ListN.{length, length-set}
-use Rattle.tables.specs.Root.{Settled}
-use Rattle.tables.proofs.OnSpan.{settled-none, settled-more}
+use Rattle.tables.specs.Root.{Moved}
+use Rattle.tables.proofs.OnSpan.{moved-none, moved-more}
 use Rattle.tables.proofs.settle.Statement.{statement}
 use Rattle.tables.proofs.settle.Tie as tie
-use Rattle.tables.proofs.settle.Reads as reads
-use Rattle.tables.proofs.settle.Lts as lts
 
 abbrev Inv-loop : tie.InvT-loop
-Inv-loop t₀ rows₀ w i₀ t rows i = (i ≤ w) × (length t ≡ length t₀) × (length rows ≡ length rows₀) × Settled i t₀ rows₀ t rows
+Inv-loop t₀ rows₀ w i₀ t rows i = (i ≤ w) × (length t ≡ length t₀) × (length rows ≡ length rows₀) × Moved i t₀ rows₀ t rows
 
 abbrev μ-loop : tie.MeasureT-loop
 μ-loop t₀ rows₀ w i₀ t rows i = w - i
@@ -21,7 +19,7 @@ abbrev μ-loop : tie.MeasureT-loop
 loop-holds : tie.Need-loop-holds Inv-loop μ-loop
 loop-holds c =
     let a = c in
-    (omega arith, refl, refl, settled-none (a .args .t .now) (a .args .rows .now))
+    (omega arith, refl, refl, moved-none (a .args .t .now) (a .args .rows .now))
 
 mul-rows : tie.Need-mul-rows Inv-loop μ-loop
 mul-rows c = search needs
@@ -57,11 +55,16 @@ loop-again : tie.Need-loop-again Inv-loop μ-loop
 loop-again c =
     let a = c .before .before .before in
     let l = c .before .before .loop in
-    (omega arith, simp length-set (l .inv .1), simp length-set (l .inv .2), settled-more (l .i) (a .args .w) (a .args .t .now) (a .args .rows .now) (l .t) (l .rows) (c .before .loop-test .taken) (omega (arith, l .inv .1, a .pre .0)) (omega (arith, l .inv .2, a .pre .1)) (l .inv .3))
+    (omega arith, simp length-set (l .inv .1), simp length-set (l .inv .2), moved-more (l .i) (a .args .w) (a .args .t .now) (a .args .rows .now) (l .t) (l .rows) (c .before .loop-test .taken) (omega (arith, l .inv .1, a .pre .0)) (omega (arith, l .inv .2, a .pre .1)) (l .inv .3))
+
+mul-t-2 : tie.Need-mul-t-2 Inv-loop μ-loop
+mul-t-2 c = search needs
+
+slice-write-t-2 : tie.Need-slice-write-t-2 Inv-loop μ-loop
+slice-write-t-2 c = search needs
 
 same-length : tie.Need-same-length Inv-loop μ-loop
-same-length c =
-    c .before .loop .inv .1
+same-length c = simp length-set (c .before .loop .inv .1)
 
 same-length-2 : tie.Need-same-length-2 Inv-loop μ-loop
 same-length-2 c =
@@ -72,7 +75,7 @@ returns c =
     let a = c .before .before in
     let l = c .before .loop in
     let e : l .i ≡ a .args .w = omega arith in
-    rw e at (l .inv .3)
+    (l .t, rw e at (l .inv .3), refl)
 
 pub settle-spec : {M : Type 1} → statement M
 settle-spec =
@@ -92,6 +95,8 @@ settle-spec =
     add-i
     loop-less
     loop-again
+    mul-t-2
+    slice-write-t-2
     same-length
     same-length-2
     returns)

@@ -1,0 +1,102 @@
+-- For proofs and engines, not for the reader of document 01: a chain's table in a block of the scratch, with the word that
+-- says which rows are in use, and what the walks over the rows ask for and leave.
+use Prim.Native.Nat.{ℕ, _+_, _/_, _%_, _^_, _≤_, _<_}
+use mathlib.Core.Path.{_≡_}
+use mathlib.Core.Bool.{cond}
+use mathlib.Core.List.{List, [], _∷_, _++_}
+use lib.Bits.{bitOr}
+use lib.Dec.{eqb}
+use lib.ListN.{length, getD, set}
+use Rattle.chain.specs.Plan.{CostLine, weight}
+use Rattle.trace.specs.Fold.{onRow}
+
+-- the rows in use by a chain, by fours: bit b is set where a cost stands in one of the rows 4b to 4b + 3
+abbrev pub used : List CostLine → ℕ
+used [] = 0
+used (x ∷ c) = bitOr (cond (eqb (x .value) 0) 0 (2 ^ (x .row / 4))) (used c)
+
+-- number i of a chain's table: what of the chain stands in each of w rows, and the word of the rows in use behind them
+abbrev pub number : ℕ → List CostLine → ℕ → ℕ
+number w [] i = 0
+number w (x ∷ c) i = cond (eqb i w) (used (x ∷ c)) (onRow i (x ∷ c))
+
+-- the block at a is a chain's table
+abbrev pub Table : List ℕ → ℕ → ℕ → List CostLine → Type 0
+Table t a w c = (i : ℕ) → i ≤ w → getD t (a + i) 0 ≡ number w c i
+
+-- the block at a is the table of some chain
+abbrev pub IsTable : List ℕ → ℕ → ℕ → Type 0
+IsTable t a w = (c : List CostLine) × Table t a w c
+
+-- bit b is not set in a word
+abbrev pub Idle : ℕ → ℕ → Type 0
+Idle word b = word / 2 ^ b % 2 ≡ 0
+
+-- the rows of the block at a that are not in the word are zero
+abbrev pub Idles : ℕ → ℕ → ℕ → List ℕ → Type 0
+Idles word w a t = (i : ℕ) → i < w → Idle word (i / 4) → getD t (a + i) 0 ≡ 0
+
+-- j is not among the w numbers from a on
+abbrev pub Out : ℕ → ℕ → ℕ → Type 0
+Out a w j = a ≤ j → j < a + w → ⊥
+
+-- the blocks of w numbers at 0, b, e and g lie apart
+pub record Apart (w b e g : ℕ) (t : List ℕ) : Type 0 where
+  pub at-b : w ≤ b
+  pub at-e : w ≤ e
+  pub b-g : b + w ≤ g
+  pub e-g : e + w ≤ g
+  pub b-e : (i k : ℕ) → i < w → k < w → b + i ≡ e + k → ⊥
+  pub room : g + w ≤ length t
+
+-- the rows of the prefix's block and of the block at b can be added
+abbrev pub SumsFit : ℕ → ℕ → List ℕ → Type 0
+SumsFit w b t = (i : ℕ) → i < w → getD t i 0 + getD t (b + i) 0 < 2 ^ 64
+
+-- j is row i of none of the four blocks
+pub record Off (b e g i j : ℕ) : Type 0 where
+  pub not-p : j ≡ i → ⊥
+  pub not-b : j ≡ b + i → ⊥
+  pub not-e : j ≡ e + i → ⊥
+  pub not-g : j ≡ g + i → ⊥
+
+-- Rows from to stop - 1, as far as there are w: the prefix's have taken in those of the block at b, the block at e has
+-- those of the block at g, and b and g are clear.
+pub record Taken (b e g w from stop : ℕ) (t t′ : List ℕ) : Type 0 where
+  pub sums : (i : ℕ) → from ≤ i → i < stop → i < w → getD t′ i 0 ≡ getD t i 0 + getD t (b + i) 0
+  pub gone : (i : ℕ) → from ≤ i → i < stop → i < w → getD t′ (b + i) 0 ≡ 0
+  pub comes : (i : ℕ) → from ≤ i → i < stop → i < w → getD t′ (e + i) 0 ≡ getD t (g + i) 0
+  pub free : (i : ℕ) → from ≤ i → i < stop → i < w → getD t′ (g + i) 0 ≡ 0
+  pub rest : (j : ℕ) → ((i : ℕ) → from ≤ i → i < stop → i < w → Off b e g i j) → getD t′ j 0 ≡ getD t j 0
+
+-- the fours in use in the tables at b, e and g
+abbrev pub inUse : ℕ → ℕ → ℕ → ℕ → List ℕ → ℕ
+inUse b e g w t = bitOr (bitOr (getD t (b + w) 0) (getD t (e + w) 0)) (getD t (g + w) 0)
+
+-- the words, as the rows
+abbrev pub worded : ℕ → ℕ → ℕ → ℕ → List ℕ → List ℕ
+worded b e g w t = set (set (set (set t w (bitOr (getD t w 0) (getD t (b + w) 0))) (b + w) 0) (e + w) (getD t (g + w) 0)) (g + w) 0
+
+-- the four blocks are tables, and the prefix's can take in the one at b
+pub record TakesIn (b e g w : ℕ) (t : List ℕ) : Type 0 where
+  pub apart : Apart (w + 1) b e g t
+  pub p : List CostLine
+  pub x : List CostLine
+  pub P : Table t 0 w p
+  pub B : Table t b w x
+  pub E : IsTable t e w
+  pub G : IsTable t g w
+  pub fits : weight p + weight x < 2 ^ 64
+
+-- the prefix's table has taken in the one at b, the one at e is what was at g, and b and g are clear
+pub record TookIn (b e g w : ℕ) (t t′ : List ℕ) : Type 0 where
+  pub sums : (p x : List CostLine) → Table t 0 w p → Table t b w x → Table t′ 0 w (p ++ x)
+  pub comes : (z : List CostLine) → Table t g w z → Table t′ e w z
+  pub gone : Table t′ b w []
+  pub free : Table t′ g w []
+  pub rest : (j : ℕ) → Out 0 (w + 1) j → Out b (w + 1) j → Out e (w + 1) j → Out g (w + 1) j → getD t′ j 0 ≡ getD t j 0
+
+-- numbers from to stop - 1, as far as there are w, of the block at a were cleared
+pub record Cleared (a w from stop : ℕ) (t t′ : List ℕ) : Type 0 where
+  pub gone : (i : ℕ) → from ≤ i → i < stop → i < w → getD t′ (a + i) 0 ≡ 0
+  pub rest : (j : ℕ) → ((i : ℕ) → from ≤ i → i < stop → i < w → j ≡ a + i → ⊥) → getD t′ j 0 ≡ getD t j 0
