@@ -88,3 +88,8 @@ marked-heaviest s D M t k v x a i h r one =
     go : (b : Bool) → _≡_ {A = ℕ} (cond b 1 0) 1 → T b
     go true e = tt
     go false e = absurd (omega arith)
+
+-- LAW: so it moves the span that either engine answers by all of d
+pub marked-moves : (s : List ℕ) (D M : ℕ) (t : List Frame) (k v d : ℕ) (x : Run) → verdict s D M true ≡ accepted t → Is t k (Cost v)
+    → Ran marks s D M x → HasRoom marks s D M x → getD (x .left .marks) k 0 ≡ 1 → (w y : Run) (p : Moved t k d w y) → p .raised-span ≡ p .span + d
+marked-moves s D M t k v d x a i h r one w y p = p .moves .exactly .1 (marked-heaviest s D M t k v x a i h r one)
