@@ -12,10 +12,13 @@ use Rattle.line.specs.Read.{lineAt}
 use Rattle.trace.specs.Shape.{Is, root, has}
 use Rattle.trace.specs.Series.{Span}
 use Rattle.trace.specs.Refusals.{accepted, verdict}
+use Rattle.trace.specs.Tree.{spanOf}
 use Rattle.trace.specs.Promise.{Engine, marks, Lent, enough}
 use Rattle.trace.proofs.Checks.{same-room}
 use Rattle.trace.proofs.Scan.{read-line, accepted-reads}
 use Rattle.trace.proofs.Chains.{is-length}
+use Rattle.trace.proofs.Parse.{accepted-parts}
+use Rattle.trace.proofs.Root.{root-span}
 use Rattle.weigh.specs.Raised.{raised, lowered}
 use Rattle.weigh.proofs.OneLine.{one-length, one-sites, total-raised}
 use Rattle.agree.specs.Demand.{Run, Ran, HasRoom}
@@ -34,8 +37,13 @@ in-table s D M room t k v a i = read-line (lineAt s k) k k (Cost v) (accepted-re
 pub how-far : HowFar
 how-far s D M room t k v d a h =
     let c = in-table s D M room t k v a (h .cost-line) in
+    let b = cost-accepted (λ x. x + d) s D M room t k v a (h .cost-line) (omega arith) (omega arith) in
     record {
-      accepted-too = cost-accepted (λ x. x + d) s D M room t k v a (h .cost-line) (omega arith) (omega arith);
+      accepted-too = b;
+      span = spanOf (accepted-parts s D M room t a .body);
+      is-span = root-span D t (accepted-parts s D M room t a);
+      raised-span = spanOf (accepted-parts (withCost s k (v + d)) D M room (raised t k d) b .body);
+      is-raised-span = root-span D (raised t k d) (accepted-parts (withCost s k (v + d)) D M room (raised t k d) b);
       moves = λ F m n x y. span-moves t k v d (h .cost-line) F m n x y (omega arith);
     }
 

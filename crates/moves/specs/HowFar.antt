@@ -27,6 +27,11 @@ pub record MayRaise (t : List Frame) (k v d : ℕ) : Type 0 where
 pub record AfterRaise (s : List ℕ) (D M : ℕ) (room : Bool) (t : List Frame) (k v d : ℕ) : Type 0 where
   -- the text with that one line written anew is accepted too, with the same limits and room, as the raised trace
   pub accepted-too : verdict (withCost s k (v + d)) D M room ≡ accepted (raised t k d)
+  -- the root's span, before and then
+  pub span : ℕ
+  pub is-span : Span t root span
+  pub raised-span : ℕ
+  pub is-raised-span : Span (raised t k d) root raised-span
   -- "The span then grows by at most d and never falls ...": the root's, and that of any other invocation
   pub moves : (F m n : ℕ) → Span t F m → Span (raised t k d) F n → Moves t F k d m n
 
