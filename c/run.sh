@@ -20,9 +20,9 @@ else
 fi
 
 # All that the archive that is shipped wants of its caller's C library, as docs/LINKING.md says.
-wants=$(nm -u "$lib/libnyolifuwe.a" | sed -n 's/^ *U //p' | sort -u)
-if [ "$(uname -m)" = x86_64 ] && [ "$wants" != memset ]; then
-    echo "the archive wants other functions than memset: $wants"
+wants=$(nm -u "$lib/libnyolifuwe.a" | sed -n 's/^ *U //p' | sort -u | grep -vxE 'memcpy|memset' || :)
+if [ "$(uname -m)" = x86_64 ] && [ -n "$wants" ]; then
+    echo "the archive wants other functions than memcpy and memset: $wants"
     exit 1
 fi
 
