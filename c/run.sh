@@ -147,6 +147,18 @@ tried 3 '^forecast: standard output: ' '$forecast each 2 examples/proxy.trace >/
 tried 3 '^forecast: standard output: ' '$forecast with 6/2 examples/proxy.trace >/dev/full'
 tried 3 '^forecast: standard output: ' '$forecast with 9/2 examples/proxy.trace >/dev/full'
 
+# Each move of docs/MOVING.md, by the page's own function, tells the span that stands in its row.
+with=$(grep '^with() ' docs/MOVING.md)
+sed -n 's/^| `\(with .*\)` |.* \([0-9]*\) |$/\2 \1/p' docs/MOVING.md >"$out/moves"
+if [ "$(wc -l <"$out/moves")" != "$(grep -c '^| `with ' docs/MOVING.md)" ]; then
+    echo "docs/MOVING.md: a row without a span at its end"
+    exit 1
+fi
+while read -r span command; do
+    echo "$span" >"$wanted"
+    tried 0 '' "$with; $command | sed 's/^work [0-9]*, span \([0-9]*\),.*/\1/'"
+done <"$out/moves"
+
 # The wordy trace and the proxy compacted, in room just enough; again, and in too little room.
 compact=$out/compact
 export compact

@@ -7,6 +7,7 @@ pub mod fixed;
 pub mod forecasts;
 pub mod gain;
 pub mod generate;
+pub mod moves;
 pub mod rng;
 pub mod shapes;
 pub mod sheets;
@@ -36,9 +37,14 @@ pub fn compare(
     others: &[(&'static str, &dyn Library)],
 ) -> Option<Box<Difference>> {
     let right = case.ask(expected);
-    let keeps = |case: &Case, other: &dyn Library| gain::broken(case, other).is_empty();
+    let keeps = |case: &Case, other: &dyn Library| broken(case, other).is_empty();
     let (name, other) = others.iter().find(|(_, other)| case.ask(*other) != right || !keeps(case, *other))?;
     let case = shrink::smallest(case, |case| case.ask(expected) != case.ask(*other) || !keeps(case, *other));
-    let (expected, found, broken) = (case.ask(expected), case.ask(*other), gain::broken(&case, *other));
+    let (expected, found, broken) = (case.ask(expected), case.ask(*other), broken(&case, *other));
     Some(Box::new(Difference { case, name, expected, found, broken }))
+}
+
+/// The laws of what a case asks that a program does not keep.
+pub fn broken(case: &Case, library: &dyn Library) -> Vec<&'static str> {
+    [gain::broken(case, library), moves::broken(case, library)].concat()
 }

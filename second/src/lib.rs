@@ -17,6 +17,7 @@ pub mod compare;
 pub mod folded;
 pub mod forecast;
 pub mod graph;
+pub mod heaviest;
 pub mod library;
 pub mod line;
 pub mod plain;

@@ -5,7 +5,7 @@ use second::check::{self, Limits};
 use second::compact;
 use second::compare::case::{Case, Question};
 use second::compare::fixed::{self, TWELVE, TWELVE_LIMITS};
-use second::compare::{compare, gain, generate, Difference};
+use second::compare::{broken, compare, generate, Difference};
 use second::forecast::Entry;
 use second::graph;
 use second::library::{Library, Second};
@@ -31,9 +31,10 @@ fn first_difference_where(wrong: &dyn Library, asks: fn(&Question) -> bool) -> D
 /// The events of the trace that the first difference shrank to.
 fn smallest_events(wrong: &dyn Library) -> String {
     match first_difference(wrong).case.question {
-        Question::Engines { trace, .. } | Question::Forecast { trace, .. } | Question::Compact { trace, .. } => {
-            events(&trace).expect("good lines")
-        }
+        Question::Engines { trace, .. }
+        | Question::Forecast { trace, .. }
+        | Question::Moved { trace, .. }
+        | Question::Compact { trace, .. } => events(&trace).expect("good lines"),
         other => panic!("a difference on a trace, not on {other:?}"),
     }
 }
@@ -93,7 +94,9 @@ fn is_sync(shape: &Shape, line: usize) -> bool {
 fn the_stand_in_with_the_right_rules_is_right() {
     let right = Second { search: |shape| chains(shape, Shape::parallel, first) };
     let short = |case: &Case| match &case.question {
-        Question::Engines { trace, .. } | Question::Compact { trace, .. } => trace.len() <= 300 * CHARS,
+        Question::Engines { trace, .. } | Question::Moved { trace, .. } | Question::Compact { trace, .. } => {
+            trace.len() <= 300 * CHARS
+        }
         _ => true,
     };
     let cases = (0..2_000).map(|number| generate::case(1, number)).filter(short);
@@ -522,16 +525,16 @@ fn factors_before_the_order() {
     assert!(told.contains("table engine: second refused 19 at line 0, the stand-in refused 20 at line 0"), "{told}");
 }
 
-/// The laws of a forecast that a stand-in breaks on some generated case.
+/// The laws that a stand-in breaks on some generated case.
 fn broken_by(wrong: &dyn Library) -> Vec<&'static str> {
-    let mut broken: Vec<_> = (0..4_000).flat_map(|number| gain::broken(&generate::case(1, number), wrong)).collect();
+    let mut broken: Vec<_> = (0..4_000).flat_map(|number| broken(&generate::case(1, number), wrong)).collect();
     broken.sort_unstable();
     broken.dedup();
     broken
 }
 
 #[test]
-fn the_second_program_keeps_every_law_of_a_forecast() {
+fn the_second_program_keeps_every_law() {
     assert_eq!(broken_by(&Second::new()), [""; 0]);
 }
 

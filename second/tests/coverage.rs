@@ -108,9 +108,9 @@ fn good_traces_reach_the_limits() {
     let room: Lent = wide.for_tables();
     let mut reached = [false; 3];
     for number in 0..40_000 {
-        let (Question::Engines { trace, .. } | Question::Compact { trace, .. }) = generate::case(2, number).question
-        else {
-            continue;
+        let trace = match generate::case(2, number).question {
+            Question::Engines { trace, .. } | Question::Moved { trace, .. } | Question::Compact { trace, .. } => trace,
+            _ => continue,
         };
         let Ok(profile) = Second::by_paths().profile(&trace, wide, &room) else { continue };
         let shallow = Limits { depth: 63, ..wide };

@@ -5,6 +5,7 @@ use second::check::{self, Limits};
 use second::compare::rng::Rng;
 use second::compare::shapes;
 use second::graph::{self, Graph};
+use second::heaviest::stands_on_some;
 use second::rows::{profile, Row, CALLS, LOCAL, ON_SPAN, SPAN, WORK};
 use second::shape::{Invocation, Shape};
 use std::cmp::Reverse;
@@ -57,6 +58,24 @@ fn both_ways_find_what_trying_every_set_finds() {
         tried += 1;
     }
     assert!(tried > 1000, "only {tried} traces were short enough");
+}
+
+#[test]
+fn a_line_stands_on_some_heaviest_chain_where_trying_every_set_finds_one() {
+    let (mut tried, mut tied) = (0, 0);
+    for shape in some(8, 3000, 8) {
+        let span = chain::search(&shape).spans[0];
+        let mut heaviest = all_chains(&shape, 0..shape.lines.len());
+        heaviest.retain(|lines| weight(&shape, lines) == span);
+        for line in shape.cost_lines() {
+            let right = heaviest.iter().any(|lines| lines.contains(&line));
+            assert_eq!(stands_on_some(&shape, line, chain::search), right);
+            assert_eq!(stands_on_some(&shape, line, graph::search), right);
+            tried += 1;
+        }
+        tied += u32::from(heaviest.len() > 1);
+    }
+    assert!(tried > 1000 && tied > 50, "only {tried} lines, and {tied} traces with more than one heaviest chain");
 }
 
 #[test]

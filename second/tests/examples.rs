@@ -1,6 +1,7 @@
 //! The examples print what their page says, and the page says what was worked out by hand.
 
 use second::compact;
+use second::compare::moves;
 use second::folded;
 use second::forecast::Entry;
 use second::library::Second;
@@ -122,6 +123,40 @@ fn case_i_with_site_2_halved_is_on_the_page() {
     assert_eq!(rows, [[1, 7, 6, 2, 2], [1, 5, 4, 1, 0], [1, 4, 4, 4, 4]]);
     assert_eq!(answer, [7, 6, 2, 10]);
     assert!(forecasts().contains(&report::report(rows.as_flattened(), 2, 255).expect("room enough")));
+}
+
+#[test]
+fn case_g_is_on_the_page() {
+    let report = example("case-g.trace");
+    assert_eq!(rows(&report), [[1, 22, 11, 4, 1], [1, 10, 10, 10, 10], [1, 8, 8, 8, 0]]);
+    assert!(page().contains(&report));
+}
+
+/// The span of an example's trace.
+fn span(trace: &[u8]) -> u64 {
+    Second::new().profile(trace, LIMITS, &LIMITS.for_tables()).expect("accepted").answer[1]
+}
+
+#[test]
+fn the_costs_that_move_are_on_the_page() {
+    let text = fs::read_to_string(folder().join("../docs/MOVING.md")).expect("the page on costs that move");
+    let mut told = vec![];
+    for row in text.lines().filter_map(|line| line.strip_prefix("| `with ")) {
+        let cells: Vec<&str> = row.trim_end_matches(" |").split(" | ").collect();
+        let [command, _, by, after] = cells[..] else { panic!("{row}") };
+        let words: Vec<&str> = command.trim_end_matches('`').split(' ').collect();
+        let [name, line, value] = words[..] else { panic!("{row}") };
+        let (line, value): (usize, u64) = (line.parse().expect("a line"), value.parse().expect("a value"));
+        let trace = file(&format!("{name}.trace"));
+        let costs = moves::costs(&trace);
+        let cost = costs.iter().position(|&(number, _)| number == line).expect("a cost line");
+        assert_eq!(by.parse::<i64>(), Ok(value as i64 - costs[cost].1 as i64), "{row}");
+        let moved = span(&moves::rewritten(&Second::new(), &trace, cost, value));
+        assert_eq!(after.parse(), Ok(moved), "{row}");
+        told.push(moved);
+    }
+    // G: 1, 2 and 8 with one of them raised, or 1, 10; the proxy: its third segment, its audio, its first segment.
+    assert_eq!(told, [12, 14, 12, 12, 11, 12, 11, 11535, 11435, 11436, 11435, 11436, 9915]);
 }
 
 #[test]

@@ -1,12 +1,10 @@
 -- A forecast is the profile of a text that a person can write and check: the rewritten trace, written out by the line
 -- writer.
-use mathlib.Core.Path.{_≡_, refl, sym, _∙_, ap, subst}
-use mathlib.Core.Bool.{Bool, true, false, _&&_}
+use mathlib.Core.Path.{_≡_, sym, _∙_, ap, subst}
+use mathlib.Core.Bool.{Bool, true, false}
 use mathlib.Core.List.{List, [], _∷_, _++_}
 use Prim.Native.Nat.{ℕ, suc, _≤_}
 use native.Mathlib.Omega.{arith}
-use lib.Dec.{leb}
-use lib.ListN.{length}
 use borrow.Author.Tests.{le-leb}
 use Rattle.line.specs.declared.Frame.{Frame}
 use Rattle.line.specs.declared.Frame.the-variants.{Site, Call, Spawn, Sync, Return, Cost}
@@ -15,8 +13,9 @@ use Rattle.line.proofs.Writable.{writable-cost}
 use Rattle.trace.specs.declared.Answer.{Answer}
 use Rattle.trace.specs.Shape.{root, step, sites}
 use Rattle.trace.specs.Refusals.{lineCount, accepted, verdict}
-use Rattle.trace.specs.Promise.{Engine, tables, marks, Lent, scratchRoom, rowsRoom, enough, Kept, Promise}
+use Rattle.trace.specs.Promise.{Engine, Lent, enough, Kept, Promise}
 use Rattle.trace.specs.Written.{textOf}
+use Rattle.trace.proofs.Checks.{same-room}
 use Rattle.trace.proofs.Scan.{InTable, Clean, Fine, accepted-is, accepted-fine, accepted-length}
 use Rattle.trace.proofs.Parse.{accepted-parts}
 use Rattle.trace.proofs.Written.{Writable, text-lines, text-accepted, accepted-writable}
@@ -70,10 +69,6 @@ module _ (es : List Entry) (s : List ℕ) (D M : ℕ) (room : Bool) (t : List Fr
   -- it has as many lines, so that its room is that of the text
   pub same-lines : lineCount (textOf (rewritten es t)) ≡ lineCount s
   same-lines = text-lines (rewritten es t) writes ∙ rewritten-length es t D (accepted-parts s D M room t a) ∙ accepted-length s D M room t a
-
-same-room : (e : Engine) (s u : List ℕ) (D M : ℕ) (before : Lent) → lineCount u ≡ lineCount s → enough e u D M before ≡ enough e s D M before
-same-room tables s u D M before h = refl
-same-room marks s u D M before h = ap (λ (n : ℕ). leb (scratchRoom marks D M) (length (before .scratch)) && leb (rowsRoom M) (length (before .rows)) && leb n (length (before .marks))) h
 
 -- LAW: every outcome of a forecast, where the trace is accepted and the entries may be asked, is one of the plain profile
 -- of that text, with the same limits and the same room

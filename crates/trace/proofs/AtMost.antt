@@ -79,7 +79,8 @@ ascending t n (k ∷ c) h s = (h .0, ascending t (suc k) c (later k c (s .0)) (s
     later k [] s = tt
     later k (j ∷ c) s = (s .0 .0, later k c (s .1))
 
-on-chain : (t : List Frame) (F : ℕ) (c : List ℕ) → Chain t F c → costsWhere t (λ k o. has k c) ≡ weight t c
+-- LAW: the costs at the lines of a chain add up to its weight
+pub on-chain : (t : List Frame) (F : ℕ) (c : List ℕ) → Chain t F c → costsWhere t (λ k o. has k c) ≡ weight t c
 on-chain t F c h = chain-sum t 0 (0 ∷ []) t c (ascending t 0 c (any c) (h .series)) (λ j. (let q : 0 + j ≡ j = omega arith in ap (valueAt t) q))
   where
     any : (c : List ℕ) → Each (λ k. 0 ≤ k) c

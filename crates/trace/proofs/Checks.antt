@@ -1,4 +1,5 @@
--- Checks 1 to 4: what is so where they pass, what the room decides, and that the lines decide where they pass.
+-- Checks 1 to 4: what is so where they pass, what the room decides and what decides it, and that the lines decide where
+-- they pass.
 use mathlib.Core.Path.{_≡_, refl, ap}
 use mathlib.Core.Logic.{_⊎_, inl, inr}
 use mathlib.Core.Bool.{Bool, true, false, not, cond}
@@ -8,7 +9,8 @@ use native.Mathlib.Omega.{arith}
 use lib.ListN.{length}
 use lib.Dec.{eqb}
 use borrow.Author.Tests.{eqb-true, eqb-false}
-use Rattle.trace.specs.Refusals.{outOfRange, broken, tooMany, checks, refused, scan, reads, verdict}
+use Rattle.trace.specs.Refusals.{outOfRange, broken, lineCount, tooMany, checks, refused, scan, reads, verdict}
+use Rattle.trace.specs.Promise.{Engine, tables, marks, Lent, enough}
 
 -- a, b, c: checks 1, 2 and 3 fail; room: check 4 does not
 abbrev first : Bool → Bool → Bool → Bool → ℕ
@@ -41,6 +43,11 @@ module _ (bytes D M : ℕ) where
       go false true c = inr (omega arith, ((λ e. omega arith), λ room. refl))
       go false false true = inr (omega arith, ((λ e. omega arith), λ room. refl))
       go false false false = inl (refl, refl)
+
+-- texts with as many lines ask for the same room
+pub same-room : (e : Engine) (s u : List ℕ) (D M : ℕ) (lent : Lent) → lineCount u ≡ lineCount s → enough e u D M lent ≡ enough e s D M lent
+same-room tables s u D M lent h = refl
+same-room marks s u D M lent h = rw h
 
 -- LAW: where the checks pass the lines decide, and where one fails its number is the verdict, with line 0
 pub by-checks : (s : List ℕ) (D M : ℕ) (room : Bool)

@@ -11,7 +11,8 @@ use Rattle.line.specs.Read.{width}
 use Rattle.line.proofs.Small.{read-at-small}
 use Rattle.trace.specs.declared.Answer.{Answer}
 use Rattle.trace.specs.Refusals.{lineCount, checks, Verdict, refused, scan, readsFrom, reads, verdict}
-use Rattle.trace.specs.Promise.{Engine, tables, marks, Lent, enough, Promise}
+use Rattle.trace.specs.Promise.{Engine, Lent, enough, Promise}
+use Rattle.trace.proofs.Checks.{same-room}
 use Rattle.trace.proofs.Outcome.{promise-unique}
 
 reads-from-small : (s : List ℕ) (n count : ℕ) → readsFrom (smallForm s) n count ≡ readsFrom s n count
@@ -32,15 +33,11 @@ module _ (s : List ℕ) where
       judge : ℕ → List Read → Verdict
       judge bytes rs = cond (eqb (checks bytes D M room) 0) (scan D M [] rs) (refused (checks bytes D M room) 0)
 
-  room-small : (e : Engine) (D M : ℕ) (lent : Lent) → enough e (smallForm s) D M lent ≡ enough e s D M lent
-  room-small tables D M lent = refl
-  room-small marks D M lent = rw count-small
-
   -- what an engine promises of the one it promises of the other
   promise-small : (e : Engine) (D M : ℕ) (before : Lent) (r : Answer) (after : Lent) → Promise e s D M before r after → Promise e (smallForm s) D M before r after
   promise-small e D M before r after h =
       let v : verdict (smallForm s) D M (enough e (smallForm s) D M before) ≡ verdict s D M (enough e s D M before) =
-      verdict-small D M (enough e (smallForm s) D M before) ∙ ap (verdict s D M) (room-small e D M before) in
+      verdict-small D M (enough e (smallForm s) D M before) ∙ ap (verdict s D M) (same-room e s (smallForm s) D M before count-small) in
       record { when-accepted = λ t a. h .when-accepted t (sym v ∙ a); when-refused = λ number line a. h .when-refused number line (sym v ∙ a) }
 
 -- LAW: two texts with the same small-letter form get the same answer, rows and marks

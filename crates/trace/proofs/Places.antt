@@ -11,11 +11,12 @@ use Rattle.trace.specs.declared.Answer.{Answer}
 use Rattle.trace.specs.Shape.{sites}
 use Rattle.trace.specs.Rows.{columns}
 use Rattle.trace.specs.Refusals.{Verdict, accepted, refused, verdict}
-use Rattle.trace.specs.Promise.{Engine, tables, marks, Lent, marksRoom, enough, refusal, Promise}
+use Rattle.trace.specs.Promise.{Engine, Lent, enough, refusal, Promise}
 use Rattle.trace.specs.Places.{OnlyPlaces, RefusedWith}
 use Rattle.trace.specs.Tree.{Way, call, spawn, opening, Leaf, spend, sync, lineOf, Body, done, leaf, child, linesOf, AllSites, Parts, rootAt}
 use Rattle.trace.specs.ByTree.{ProfileBy}
 use Rattle.trace.proofs.Cases.{IsSite, at-site}
+use Rattle.trace.proofs.Checks.{same-room}
 use Rattle.trace.proofs.Slots.{by-slots}
 use Rattle.trace.proofs.Tree.{parts-one}
 use Rattle.trace.proofs.Parse.{accepted-parts}
@@ -109,16 +110,8 @@ places e s z D M before r q x y h k d a b =
     room : Bool
     room = enough e s D M before
 
-    marks-same : (e : Engine) → marksRoom e s ≡ marksRoom e z
-    marks-same tables = refl
-    marks-same marks = ap (λ (n : ℕ). n / 23) (d .same-length)
-
-    -- the other text asks for the same room
-    same-room : enough e z D M before ≡ room
-    same-room = rw (marks-same e)
-
     lent : (v : Verdict) → verdict z D M room ≡ v → verdict z D M (enough e z D M before) ≡ v
-    lent v i = ap (verdict z D M) same-room ∙ i
+    lent v i = ap (verdict z D M) (same-room e s z D M before (ap (λ (n : ℕ). n / 23) (sym (d .same-length)))) ∙ i
 
     go : (v w : Verdict) → verdict s D M room ≡ v → verdict z D M room ≡ w → SameVerdict v w → (r ≡ q) × (x ≡ y)
     go (accepted t) (accepted u) i j c =

@@ -1,4 +1,5 @@
 pub mod Weighed
 pub mod Alike
 pub mod Accepted
+pub mod OneLine
 pub mod Less

@@ -97,7 +97,7 @@ module _ (w : Weigh) where
 
 -- ── by what else the lines are weighed ──
 
-same-costing : (g h : ℕ → ℕ) → ((v : ℕ) → g v ≡ h v) → (f : Frame) → costing g f ≡ costing h f
+pub same-costing : (g h : ℕ → ℕ) → ((v : ℕ) → g v ≡ h v) → (f : Frame) → costing g f ≡ costing h f
 same-costing g h k (Site s p) = refl
 same-costing g h k (Call s) = refl
 same-costing g h k (Spawn s) = refl
@@ -112,7 +112,7 @@ reweighed-same w x k (f ∷ t) n o =
     ap (λ (e : Frame). e ∷ reweighed w (suc n) (rowStep f o) t) (same-costing (w n (innermost o)) (x n (innermost o)) (k n (innermost o)) f)
     ∙ ap (λ (l : List Frame). costing (x n (innermost o)) f ∷ l) (reweighed-same w x k t (suc n) (rowStep f o))
 
-plain-costing : (f : Frame) → costing (λ v. v) f ≡ f
+pub plain-costing : (f : Frame) → costing (λ v. v) f ≡ f
 plain-costing (Site s p) = refl
 plain-costing (Call s) = refl
 plain-costing (Spawn s) = refl

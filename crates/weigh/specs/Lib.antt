@@ -1,2 +1,3 @@
 pub mod Cost
+pub mod Raised
 pub mod Weighed

@@ -1,7 +1,7 @@
 //! A case: what is asked, the room that is lent for it, and all that there is to see afterwards.
 
-use super::compacts;
 use super::rng::Rng;
+use super::{compacts, moves};
 use crate::check::{Lent, Limits};
 use crate::compact;
 use crate::folded;
@@ -23,6 +23,8 @@ pub enum Question {
     Engines { trace: Vec<u8>, limits: Limits, spare: Spare },
     /// A trace and forecast entries, for both engines.
     Forecast { trace: Vec<u8>, limits: Limits, entries: Vec<Entry>, spare: Spare },
+    /// A trace, one of whose costs, counted from 0, has another value, for both engines.
+    Moved { trace: Vec<u8>, limits: Limits, cost: usize, value: u64, spare: Spare },
     /// Characters, for the line reader.
     ReadLine { line: Vec<u8>, frame: usize },
     /// A frame, for the line writer.
@@ -92,6 +94,10 @@ impl Case {
             Question::Forecast { trace, limits, entries, spare } => {
                 lender.engines(library, trace, Some(entries), *limits, *spare)
             }
+            Question::Moved { trace, limits, cost, value, spare } => {
+                let trace = moves::rewritten(library, trace, *cost, *value);
+                lender.engines(library, &trace, None, *limits, *spare)
+            }
             Question::ReadLine { line, frame } => lender.read_line(library, line, *frame),
             Question::WriteLine { frame, out, written } => lender.write_line(library, frame, [*out, *written]),
             Question::Report { rows, count, out, written } => lender.report(library, rows, *count, [*out, *written]),
@@ -105,6 +111,18 @@ impl Case {
             Question::Folded { trace, limits, lists, spare } => lender.folded(library, trace, *limits, lists, *spare),
             Question::Compact { trace, limits, spare } => lender.compact(library, trace, *limits, *spare),
         }
+    }
+}
+
+impl Outcome {
+    /// The numbers that were lent under a name.
+    pub fn numbers_of(&self, name: &str) -> Option<&[u64]> {
+        self.numbers.iter().find(|room| room.name == name).map(Room::inside)
+    }
+
+    /// The bytes that were lent under a name.
+    pub fn bytes_of(&self, name: &str) -> Option<&[u8]> {
+        self.bytes.iter().find(|room| room.name == name).map(Room::inside)
     }
 }
 
@@ -276,6 +294,11 @@ impl<T: Copy> Room<T> {
     fn lent(&mut self) -> &mut [T] {
         let end = self.all.len() - STRIP;
         &mut self.all[STRIP..end]
+    }
+
+    /// The same, to be looked at.
+    fn inside(&self) -> &[T] {
+        &self.all[STRIP..self.all.len() - STRIP]
     }
 
     /// This room with something in place of the rubbish.

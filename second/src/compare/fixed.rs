@@ -1,9 +1,9 @@
 //! The traces that the rules name: the twelve, and the further ones that are to be run and compared; traces whose sites call
 //! themselves; the texts that tell good comma-separated text from any other; the lists that tell a name from none; the
-//! forecast entries that tell a good list from any other; and traces whose lines say nothing.
+//! forecast entries that tell a good list from any other; traces whose lines say nothing; and costs that move the span.
 
 use super::case::{Case, Question, Spare};
-use super::{compacts, forecasts, sheets, stacks};
+use super::{compacts, forecasts, moves, sheets, stacks};
 use crate::check::{Limits, MOST_LINES};
 use crate::refusal::{Ground, Refusal};
 use crate::rows::Row;
@@ -217,7 +217,8 @@ pub fn cases() -> Vec<Case> {
     let question =
         |(trace, limits): (Trace, Limits)| Question::Engines { trace: trace.chars, limits, spare: Spare::default() };
     let traces = twelve.chain(further).chain(recursive).map(|pair| Case { question: question(pair), rubbish: 1 });
-    traces.chain(sheets::cases()).chain(stacks::cases()).chain(forecasts::cases()).chain(compacts::cases()).collect()
+    let texts = sheets::cases().into_iter().chain(stacks::cases());
+    traces.chain(texts).chain(forecasts::cases()).chain(compacts::cases()).chain(moves::cases()).collect()
 }
 
 fn lone_return() -> Trace {

@@ -1,7 +1,7 @@
 //! What holds of every forecast, whatever the second program says of it: asked of one program alone, which profiles the trace
 //! as it stands and the trace rewritten as well.
 
-use super::case::{Case, Outcome, Question, STRIP};
+use super::case::{Case, Outcome, Question};
 use crate::check::{self, Limits};
 use crate::forecast::{rewritten, Entry};
 use crate::library::Library;
@@ -54,13 +54,12 @@ struct Seen<'a> {
 impl Seen<'_> {
     /// Nothing where the answer tells of more rows or marks than there are.
     fn of(outcome: &Outcome) -> Option<Seen<'_>> {
-        let numbers = |name| outcome.numbers.iter().find(|room| room.name == name)?.all.get(STRIP..);
-        let marks = outcome.bytes.iter().find(|room| room.name == "marks engine's marks")?;
-        let (answer, rows) = (numbers("marks engine's answer")?, numbers("marks engine's rows")?);
+        let answer = outcome.numbers_of("marks engine's answer")?;
+        let rows = outcome.numbers_of("marks engine's rows")?;
+        let marks = outcome.bytes_of("marks engine's marks")?;
         let sites = *answer.get(2).filter(|&&sites| sites < 256)? as usize;
         let lines = usize::try_from(*answer.get(3)?).ok()?;
-        let marks = marks.all[STRIP..].get(..lines)?;
-        Some(Seen { answer: &answer[..4], rows: rows.get(..COLUMNS * (sites + 1))?, marks })
+        Some(Seen { answer: &answer[..4], rows: rows.get(..COLUMNS * (sites + 1))?, marks: marks.get(..lines)? })
     }
 
     /// A column, row by row.

@@ -2,7 +2,7 @@
 
 use super::case::{Case, CompactSpare, Question, Spare};
 use super::rng::Rng;
-use super::{compacts, damage, forecasts, shapes, sheets, stacks};
+use super::{compacts, damage, forecasts, moves, shapes, sheets, stacks};
 use crate::check::Limits;
 use crate::line::{chars, Fields, CHARS, WIDTHS};
 use crate::report::{REFUSAL_CHARS, ROW_CHARS};
@@ -22,6 +22,7 @@ pub fn case(seed: u64, number: u64) -> Case {
         7..=11 => stacks::write(&mut rng),
         12..=17 => forecasts::forecast(&mut rng),
         18..=22 => compacts::write(&mut rng),
+        23..=26 => moves::write(&mut rng),
         _ => engines(&mut rng),
     };
     Case { question, rubbish: rng.number() }

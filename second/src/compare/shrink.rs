@@ -1,6 +1,7 @@
 //! From a case in which two programs differ to the smallest such case that can be found by leaving parts out.
 
 use super::case::{Case, CompactSpare, FoldedSpare, Question, Spare};
+use super::moves::costs;
 use crate::check::Limits;
 use crate::forecast::Entry;
 use crate::line::{chars, read, Fields, Kind, CHARS};
@@ -53,6 +54,7 @@ impl<D: Fn(&Case) -> bool> Shrinker<D> {
         match &self.case.question {
             Question::Engines { trace, .. }
             | Question::Forecast { trace, .. }
+            | Question::Moved { trace, .. }
             | Question::Folded { trace, .. }
             | Question::Compact { trace, .. } => Some(trace),
             _ => None,
@@ -61,15 +63,7 @@ impl<D: Fn(&Case) -> bool> Shrinker<D> {
 
     /// Keeps the case with another trace if it still differs.
     fn keep_trace(&mut self, changed: Vec<u8>) -> bool {
-        let mut question = self.case.question.clone();
-        match &mut question {
-            Question::Engines { trace, .. }
-            | Question::Forecast { trace, .. }
-            | Question::Folded { trace, .. }
-            | Question::Compact { trace, .. } => *trace = changed,
-            _ => return false,
-        }
-        self.keep(question)
+        with_trace(&self.case.question, &changed).into_iter().any(|question| self.keep(question))
     }
 
     /// Leaves out runs of whole items wherever that keeps the difference.
@@ -119,6 +113,28 @@ impl<D: Fn(&Case) -> bool> Shrinker<D> {
     fn smaller_room(&mut self) -> bool {
         lower_questions(&self.case.question).into_iter().any(|question| self.keep(question))
     }
+}
+
+/// The question with another trace, if it has one. Costs may have been left out before the one that is moved, and it has as
+/// much smaller a number then; or behind it, and it has its own still.
+fn with_trace(question: &Question, changed: &[u8]) -> Vec<Question> {
+    let (mut with, changed) = (question.clone(), changed.to_vec());
+    match &mut with {
+        Question::Engines { trace, .. }
+        | Question::Forecast { trace, .. }
+        | Question::Folded { trace, .. }
+        | Question::Compact { trace, .. } => *trace = changed,
+        Question::Moved { trace, limits, cost, value, spare } => {
+            let fewer = costs(trace).len().saturating_sub(costs(&changed).len());
+            let mut numbers = vec![cost.saturating_sub(fewer), *cost];
+            numbers.dedup();
+            let (limits, value, spare) = (*limits, *value, *spare);
+            let of = |cost| Question::Moved { trace: changed.clone(), limits, cost, value, spare };
+            return numbers.into_iter().map(of).collect();
+        }
+        _ => return vec![],
+    }
+    vec![with]
 }
 
 /// The lines of `run` items that follow each other from a line on, if there are so many.
@@ -203,6 +219,13 @@ fn lower_questions(question: &Question) -> Vec<Question> {
             let lists = lower_entries(entries).map(|entries| of(*limits, &entries, *spare));
             lower.chain(lists).chain(lower_spares(*spare).map(|spare| of(*limits, entries, spare))).collect()
         }
+        Question::Moved { trace, limits, cost, value, spare } => {
+            let of = |limits, value, spare| Question::Moved { trace: trace.clone(), limits, cost: *cost, value, spare };
+            let lower = lower_limits(*limits).map(|limits| of(limits, *value, *spare));
+            let old = costs(trace).get(*cost).map_or(1, |(_, old)| *old);
+            let nearer = nearer_values(old, *value).map(|value| of(*limits, value, *spare));
+            lower.chain(nearer).chain(lower_spares(*spare).map(|spare| of(*limits, *value, spare))).collect()
+        }
         Question::ReadLine { .. } | Question::WriteLine { .. } | Question::Refusal { .. } => vec![],
         Question::Report { rows, count, out, written } => {
             let (out, written) = (*out, *written);
@@ -250,6 +273,13 @@ fn lower_entries(entries: &[Entry]) -> impl Iterator<Item = Vec<Entry>> + '_ {
         rows.chain(factors.map(move |factor| with(n, Entry { row, factor })))
     });
     without.chain(lower)
+}
+
+/// Values between the old one of a cost and the one it is to have.
+fn nearer_values(old: u64, value: u64) -> impl Iterator<Item = u64> {
+    let half = old.abs_diff(value) / 2;
+    let nearer = if old < value { [old + 1, old + half, value - 1] } else { [old - 1, old - half, value + 1] };
+    nearer.into_iter().filter(move |new| old.abs_diff(*new) < old.abs_diff(value) && *new != old)
 }
 
 /// A text without one of its lines, each in turn, and without its last character.

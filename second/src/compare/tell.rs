@@ -1,7 +1,7 @@
 //! A case and a difference in words.
 
 use super::case::{Case, CompactSpare, FoldedSpare, Outcome, Question, Room, Spare, STRIP};
-use super::Difference;
+use super::{moves, Difference};
 use crate::forecast::Entry;
 use crate::line::CHARS;
 use crate::trace::events;
@@ -29,6 +29,10 @@ impl Display for Case {
             Question::Forecast { trace, limits, entries, spare } => {
                 writeln!(f, "forecast, D = {}, M = {}{spare}", limits.depth, limits.sites)?;
                 writeln!(f, "entries, row/factor: {}", told_entries(entries))?;
+                told_trace(f, trace)
+            }
+            Question::Moved { trace, limits, cost, value, spare } => {
+                writeln!(f, "{}, D = {}, M = {}{spare}", told_move(trace, *cost, *value), limits.depth, limits.sites)?;
                 told_trace(f, trace)
             }
             Question::ReadLine { line, frame } => writeln!(f, "read {}; frame of {frame}", shown(line)),
@@ -87,6 +91,12 @@ impl Display for CompactSpare {
 fn told_spares(f: &mut Formatter, spares: &[(&str, isize)]) -> Result {
     let mut told = spares.iter().filter(|(_, spare)| *spare != 0);
     told.try_for_each(|(name, spare)| write!(f, ", {name} {spare:+}"))
+}
+
+/// Which line is rewritten, and how.
+fn told_move(trace: &[u8], cost: usize, value: u64) -> String {
+    let moved = moves::costs(trace).get(cost).map(|(line, old)| format!("line {line} with {value} for {old}"));
+    moved.unwrap_or("no line rewritten".into())
 }
 
 /// Forecast entries, one behind the other.

@@ -1,0 +1,4 @@
+pub mod Moves
+pub mod Text
+pub mod HowFar
+pub mod Cases
