@@ -9,7 +9,7 @@ use lib.Dec.{eqb}
 use Rattle.line.specs.declared.Place.{Place}
 use Rattle.line.specs.declared.Frame.{Frame}
 use Rattle.line.specs.declared.Frame.the-variants.{Site, Call, Spawn, Sync, Return, Cost}
-use Rattle.trace.specs.Shape.{ifSite}
+use Rattle.trace.specs.Shape.{ifSite, sites}
 use Rattle.trace.specs.Refusals.{lastSite, misplaced, aboveM, placed, placeAgain, declared, undeclared}
 use Rattle.trace.proofs.Cases.{both-ways, makes-same}
 use Rattle.trace.proofs.Scan.{Clean, faultless}
@@ -44,6 +44,19 @@ naming-append (Spawn s ∷ t) u = ap (λ (l : List Frame). Spawn s ∷ l) (namin
 naming-append (Sync ∷ t) u = naming-append t u
 naming-append (Return ∷ t) u = naming-append t u
 naming-append (Cost v ∷ t) u = naming-append t u
+
+sites-naming : (t : List Frame) → sites (naming t) ≡ sites t
+sites-naming [] = refl
+sites-naming (Site s p ∷ t) = ap suc (sites-naming t)
+sites-naming (Call s ∷ t) = sites-naming t
+sites-naming (Spawn s ∷ t) = sites-naming t
+sites-naming (Sync ∷ t) = sites-naming t
+sites-naming (Return ∷ t) = sites-naming t
+sites-naming (Cost v ∷ t) = sites-naming t
+
+-- lines that name alike have as many sites
+pub sites-alike : (t u : List Frame) → naming t ≡ naming u → sites t ≡ sites u
+sites-alike t u e = sym (sites-naming t) ∙ ap sites e ∙ sites-naming u
 
 last-naming : (n : ℕ) (t : List Frame) → lastSite n (naming t) ≡ lastSite n t
 last-naming n [] = refl

@@ -6,10 +6,10 @@ use native.Mathlib.Omega.{arith}
 use lib.ListN.{length}
 use Rattle.line.specs.declared.Frame.{Frame}
 use Rattle.line.specs.declared.Frame.the-variants.{Site, Call, Spawn, Sync, Return, Cost}
-use Rattle.trace.specs.Shape.{ifSite, sites}
+use Rattle.trace.specs.Shape.{sites}
 use Rattle.trace.specs.Tree.{Within, Parts}
 use Rattle.trace.proofs.Scan.{Fine}
-use Rattle.trace.proofs.Named.{Named, naming}
+use Rattle.trace.proofs.Named.{Named, naming, sites-alike}
 use Rattle.trace.proofs.Accept.{fine-is-trace, trace-is-fine}
 use Rattle.weigh.specs.Cost.{costing}
 use Rattle.weigh.specs.Weighed.{Weigh, Tabled, weighed, innermost, rowStep, reweighed}
@@ -42,19 +42,8 @@ reweighed-naming : (w : Weigh) (t : List Frame) (n : ℕ) (o : List ℕ) → nam
 reweighed-naming w [] n o = refl
 reweighed-naming w (e ∷ t) n o = costing-naming (w n (innermost o)) e (reweighed w (suc n) (rowStep e o) t) t (reweighed-naming w t (suc n) (rowStep e o))
 
-costing-sites : (g : ℕ → ℕ) (f : Frame) (t : List Frame) → sites (costing g f ∷ t) ≡ sites (f ∷ t)
-costing-sites g (Site s p) t = refl
-costing-sites g (Call s) t = refl
-costing-sites g (Spawn s) t = refl
-costing-sites g Sync t = refl
-costing-sites g Return t = refl
-costing-sites g (Cost v) t = refl
-
 pub reweighed-sites : (w : Weigh) (t : List Frame) (n : ℕ) (o : List ℕ) → sites (reweighed w n o t) ≡ sites t
-reweighed-sites w [] n o = refl
-reweighed-sites w (e ∷ t) n o =
-    costing-sites (w n (innermost o)) e (reweighed w (suc n) (rowStep e o) t)
-    ∙ ap (λ (m : ℕ). ifSite (λ s p. suc m) m e) (reweighed-sites w t (suc n) (rowStep e o))
+reweighed-sites w t n o = sites-alike (reweighed w n o t) t (reweighed-naming w t n o)
 
 module _ (w : Weigh) (tabled : Tabled w) (D M : ℕ) (t : List Frame) where
   -- the whole trace so weighed
