@@ -5,26 +5,24 @@ use Prim.Native.Nat.{ℕ, suc, _+_, _*_, _-_, _^_, _≤_, _<_}
 use native.Mathlib.Nat.{suc-mul}
 use native.Mathlib.Omega.{arith}
 use lib.ListN.{length, take, drop}
-use lib.Dec.{eqb}
 use borrow.Rule.Slice.PartMut.{putMid}
 use Rattle.line.specs.At.{kindAt, siteAt, valueAt}
 use Rattle.trace.specs.Column.{Column, slot}
-use Rattle.trace.specs.Tree.{spend, Body, leaf}
-use Rattle.trace.specs.Fold.{Chains, nothing, joined, called, spawned, chainOf}
-use Rattle.trace.proofs.Basics.{cond-same}
+use Rattle.trace.specs.Tree.{spend, sync, note, Body, leaf}
+use Rattle.trace.specs.Fold.{Chains, nothing, called, spawned, chainOf}
 use Rattle.weigh.specs.Weighed.{Weigh}
 use Rattle.walk.specs.declared.Open.{Open}
 use Rattle.walk.specs.declared.Credit.{Credit}
 use Rattle.walk.specs.Stands.{Says, kindOf, siteOf}
 use Rattle.walk.specs.Reads.{Reads}
-use Rattle.walk.specs.Numbers.{numbers}
+use Rattle.walk.specs.Numbers.{numbers, passedN}
 use Rattle.walk.specs.Gain.{ColumnFits, creditOf, ReturnFits, one, Returned, Grown}
 use Rattle.walk.specs.Item.{itemChains}
 use Rattle.walk.specs.Reader.{ItemDone, alone, BodyDone}
 use Rattle.walk.proofs.Items.{size-some, chain-le}
 use Rattle.walk.proofs.Says.{kind-says, site-says, value-says}
-use Rattle.walk.proofs.Lines.{is-sync}
-use Rattle.walk.proofs.Reader.{load-is}
+use Rattle.walk.proofs.Lines.{is-sync, is-note}
+use Rattle.walk.proofs.Reader.{load-is, weightless}
 use Rattle.walk.proofs.Child.{cost-is, call-is, spawn-is, Child, child-is, cost-fits, child-work, child-row, child-ready, count-fits, ChildDone, child-done}
 use Rattle.walk.proofs.Child.{deeper as child-deeper}
 use Rattle.tables.specs.Blocks.{Shows, partAt, Holds, Asks, Spent, Joined, Called, Spawned}
@@ -63,9 +61,13 @@ module _ {how : Weigh} {s : List ℕ} {row deep : ℕ} {f : Open} {t rows : List
   sync-leaves kind reads k4 r t′ j b k m h e sh =
       let q = is-sync how s (f .at) row kind (kind-says s (f .at) (f .at) kind refl reads) b h k4 in
       let d = j k e sh in
-      let z : f .work ≡ f .work + 0 = omega arith in
-      subst (λ (x : Body). ItemDone row f rows x k r rows × Holds n w t′ (itemChains (f .at) row x k) []) (sym (q .1))
-      (record { numbers-are = d .0 ∙ ap (λ (x : ℕ). numbers (f .at + 1) x (joined k)) z; rows-are = λ i l. omega (arith, cond-same (eqb (slot row Column.local) i)) }, d .1)
+      subst (λ (x : Body). ItemDone row f rows x k r rows × Holds n w t′ (itemChains (f .at) row x k) []) (sym (q .1)) (weightless row f rows sync (q .0) k r refl (d .0), d .1)
+
+  -- a line that weighs nothing and joins nothing
+  pub note-leaves : (kind : ℕ) → kind ≡ kindAt s (f .at) → kind ≡ 1 → (r : Open) → r ≡ passedN f → ItemLeaves how s row f t rows n w r t rows
+  note-leaves kind reads k1 r p b k m h e sh =
+      let q = is-note how s (f .at) row kind (kind-says s (f .at) (f .at) kind refl reads) b h k1 in
+      subst (λ (x : Body). ItemDone row f rows x k r rows × Holds n w t (itemChains (f .at) row x k) []) (sym (q .2)) (weightless row f rows (note (q .0)) (q .1) k r refl (p ∙ ap passedN e), sh)
 
 -- the item is a cost of v
 pub record Costs (how : Weigh) (s : List ℕ) (kind row deep : ℕ) (f : Open) (t rows : List ℕ) (n w v : ℕ) : Type 0 where
@@ -104,6 +106,7 @@ pub record Calls (how : Weigh) (s : List ℕ) (kind row deep : ℕ) (f : Open) (
   pub site-is : site ≡ siteAt s (f .at)
   pub no-cost : kind ≡ 6 → ⊥
   pub no-sync : kind ≡ 4 → ⊥
+  pub no-note : kind ≡ 1 → ⊥
   pub begins : o ≡ partAt n (f .longest)
 
 module _ {how : Weigh} {s : List ℕ} {kind row deep : ℕ} {f : Open} {t rows : List ℕ} {n w site o : ℕ} (h : Calls how s kind row deep f t rows n w site o) where
@@ -117,7 +120,7 @@ module _ {how : Weigh} {s : List ℕ} {kind row deep : ℕ} {f : Open} {t rows :
   sited = site-says s (f .at) (f .at) site refl (h .site-is)
 
   abbrev child : Child how s (f .at) site (l .ready .body)
-  child = child-is how s (f .at) row kind site says sited (h .no-cost) (h .no-sync) (l .ready .body) (l .ready .reads) (h .asks .more)
+  child = child-is how s (f .at) row kind site says sited (h .no-cost) (h .no-sync) (h .no-note) (l .ready .body) (l .ready .reads) (h .asks .more)
 
   abbrev part : List ℕ
   part = take (length t - o) (drop o t)
@@ -224,7 +227,7 @@ module _ {how : Weigh} {s : List ℕ} {kind row deep : ℕ} {f : Open} {t rows :
 
       pub spawn-leaves : (kind ≡ 2 → ⊥) → Spawned n w back f c r t₂ → ItemLeaves how s row f t rows n w r t₂ rows₂
       spawn-leaves k2 step b k m st e sh =
-          let q = spawn-is how s (f .at) row kind says site sited (h .no-cost) (h .no-sync) b st m k2 in
+          let q = spawn-is how s (f .at) row kind says site sited (h .no-cost) (h .no-sync) (h .no-note) b st m k2 in
           let v = behind k (q .0) e (q .3) sh in
           let g = chainOf (f .at + 1) site (q .0) in
           let d = step k g e (v .0 .chain) (v .1) in

@@ -7,7 +7,7 @@ use native.Mathlib.Omega.{arith}
 use borrow.Author.Needs.{needs}
 use Rattle.walk.specs.Weight.{byFactors}
 use Rattle.tables.proofs.Bodies.{begins, Loop, loop-start, loop-asks, Next, loop-less, loop-again, loop-done, body-leaves}
-use Rattle.tables.proofs.Items.{line-fits, own-room, join-asks, sync-leaves, Costs, rows-asks, spend-asks, cost-leaves, Calls, deeper, room, credit-asks, body-asks, Back, back-long, count-asks, child-asks, call-leaves, spawn-leaves}
+use Rattle.tables.proofs.Items.{line-fits, own-room, join-asks, sync-leaves, note-leaves, Costs, rows-asks, spend-asks, cost-leaves, Calls, deeper, room, credit-asks, body-asks, Back, back-long, count-asks, child-asks, call-leaves, spawn-leaves}
 use borrow.Fn.Kinds.{In, Out}
 use borrow.Fn.PlainCycle.{Measures, is, falls, and}
 use Rattle.tables.proofs.body.Reads as body
@@ -28,6 +28,7 @@ use Rattle.tables.proofs.part.Reads as part-reads
 use Rattle.tables.proofs.spawned.Reads as spawned-reads
 use Rattle.tables.proofs.spend.Reads as spend-reads
 use Rattle.walk.proofs.Open.new.Reads as new-reads
+use Rattle.walk.proofs.Open.passed.Reads as passed-reads
 use Rattle.walk.proofs.returned.Reads as returned-reads
 use Rattle.walk.proofs.spend.Reads as spend-reads′
 use Rattle.walk.proofs.weight_at.Reads as weight-at-reads
@@ -69,7 +70,7 @@ abbrev items-calls : ℕ → items-lts.Claims
 items-calls t = (kind-at-reads.Asked, kind-at-reads.Learnt, item-below t, item.Post)
 
 abbrev item-calls : ℕ → item-lts.Claims
-item-calls t = (weight-at-reads.Asked, weight-at-reads.Learnt, spend-reads′.Asked, spend-reads′.Learnt, spend-reads.Asked, spend-reads.Learnt, join-reads.Asked, join-reads.Learnt, site-at-reads.Asked, site-at-reads.Learnt, part-reads.Asked, part-reads.Learnt, credit-of-reads.Asked, credit-of-reads.Learnt, body-below t, body.Post, returned-reads.Asked, returned-reads.Learnt, called-reads.Asked, called-reads.Learnt, spawned-reads.Asked, spawned-reads.Learnt)
+item-calls t = (weight-at-reads.Asked, weight-at-reads.Learnt, spend-reads′.Asked, spend-reads′.Learnt, spend-reads.Asked, spend-reads.Learnt, join-reads.Asked, join-reads.Learnt, passed-reads.Asked, passed-reads.Learnt, site-at-reads.Asked, site-at-reads.Learnt, part-reads.Asked, part-reads.Learnt, credit-of-reads.Asked, credit-of-reads.Learnt, body-below t, body.Post, returned-reads.Asked, returned-reads.Learnt, called-reads.Asked, called-reads.Learnt, spawned-reads.Asked, spawned-reads.Learnt)
 
 abbrev Inv-loop : items-lts.InvT-loop
 Inv-loop trace row deep t₀ rows₀ w factors f₀ kind₀ t rows f kind = Loop (byFactors factors) trace row deep f₀ t₀ rows₀ t rows w w f kind
@@ -211,8 +212,11 @@ module _ (t : ℕ) where
   abbrev item-join : Item item-lts.After-slice-known5 → Item item-lts.After-join
   item-join c = c .before .before
 
+  abbrev note-start : Item item-lts.Then3 → Item item-lts.Start
+  note-start c = item-start (c .before .before .before)
+
   abbrev child-start : Item item-lts.After-site-at → Item item-lts.Start
-  child-start c = item-start (c .before .before .before)
+  child-start c = item-start (c .before .before .before .before)
 
   abbrev credit-part : Item item-lts.After-credit-of → Item item-lts.After-part
   credit-part c = c .before .before
@@ -229,10 +233,10 @@ module _ (t : ℕ) where
   abbrev test-returned : Item item-lts.After-slice-known8 → Item item-lts.After-returned
   test-returned c = c .before .before
 
-  abbrev called-test : Item item-lts.After-called-arg → Item item-lts.Then3
+  abbrev called-test : Item item-lts.After-called-arg → Item item-lts.Then4
   called-test c = c .before
 
-  abbrev spawned-test : Item item-lts.After-spawned-arg → Item item-lts.Else3
+  abbrev spawned-test : Item item-lts.After-spawned-arg → Item item-lts.Else4
   spawned-test c = c .before
 
   abbrev item-called : Item item-lts.After-slice-known9 → Item item-lts.After-called
@@ -261,7 +265,7 @@ module _ (t : ℕ) where
       let a = child-start (c .before) .args in Calls (byFactors (a .factors .now)) (a .trace .now) (a .kind) (a .row) (a .deep) (a .f) (a .t .now) (a .rows .now) (a .w) (a .w) (c .before .site-at .result) (c .part .result))
   at-part c =
       let e = c .before .before in
-      record { asks = child-start (c .before) .pre .1; site-is = c .before .site-at .ensures; no-cost = e .before .if1 .left; no-sync = e .if2 .left; begins = c .part .ensures }
+      record { asks = child-start (c .before) .pre .1; site-is = c .before .site-at .ensures; no-cost = e .before .before .if1 .left; no-sync = e .before .if2 .left; no-note = e .if3 .left; begins = c .part .ensures }
 
   at-body : (c : Item item-lts.After-body) → Back (at-part (body-part (c .before))) (body-credit (c .before) .credit-of .result) (c .body .result) (body-scratch c) (body-rows c)
   at-body c = record { taken = body-credit (c .before) .credit-of .ensures; part-long = c .body .kept .1 .1 .1 .1 .0; rows-long = c .body .kept .1 .1 .1 .1 .1 .0; leaves = c .body .ensures }
@@ -299,6 +303,15 @@ module _ (t : ℕ) where
       let e = join-test (j .before) in
       let a = sync-start e in
       sync-leaves (a .pre .1 .lent) (a .args .kind) (a .pre .1 .kind-is) (e .if2 .taken) (j .join .result) (j .join .last .0) (j .join .ensures)
+
+  item-passed-requires : Item item-lts.Need-passed-requires
+  item-passed-requires c κs = line-fits (note-start c .pre .1 .lent)
+
+  item-returns-3 : Item item-lts.Need-returns-3
+  item-returns-3 c =
+      let e = c .before in
+      let a = note-start e in
+      note-leaves (a .pre .1 .lent) (a .args .kind) (a .pre .1 .kind-is) (e .if3 .taken) (c .passed .result) (c .passed .ensures)
 
   item-site-at-requires : Item item-lts.Need-site-at-requires
   item-site-at-requires c κs = search needs
@@ -354,12 +367,12 @@ module _ (t : ℕ) where
       let k = test-returned (called-test (item-called c .before) .before) in
       k .returned .kept .0 ∙ at-body (returned-body (k .before)) .rows-long
 
-  item-returns-3 : Item item-lts.Need-returns-3
-  item-returns-3 c =
+  item-returns-4 : Item item-lts.Need-returns-4
+  item-returns-4 c =
       let r = item-called c in
       let e = called-test (r .before) in
       let k = test-returned (e .before) in
-      call-leaves _ (at-body (returned-body (k .before))) (k .returned .ensures) (r .called .result) (r .called .last .0) (e .if3 .taken) (r .called .ensures)
+      call-leaves _ (at-body (returned-body (k .before))) (k .returned .ensures) (r .called .result) (r .called .last .0) (e .if4 .taken) (r .called .ensures)
 
   item-spawned-requires : Item item-lts.Need-spawned-requires
   item-spawned-requires c κs = child-asks _ (at-body (returned-body (test-returned (spawned-test c .before) .before)))
@@ -374,12 +387,12 @@ module _ (t : ℕ) where
       let k = test-returned (spawned-test (item-spawned c .before) .before) in
       k .returned .kept .0 ∙ at-body (returned-body (k .before)) .rows-long
 
-  item-returns-4 : Item item-lts.Need-returns-4
-  item-returns-4 c =
+  item-returns-5 : Item item-lts.Need-returns-5
+  item-returns-5 c =
       let r = item-spawned c in
       let e = spawned-test (r .before) in
       let k = test-returned (e .before) in
-      spawn-leaves _ (at-body (returned-body (k .before))) (k .returned .ensures) (r .spawned .result) (r .spawned .last .0) (e .if3 .left) (r .spawned .ensures)
+      spawn-leaves _ (at-body (returned-body (k .before))) (k .returned .ensures) (r .spawned .result) (r .spawned .last .0) (e .if4 .left) (r .spawned .ensures)
 
 pub +body+item+read-items-spec : {M : Type 1} → statement M
 +body+item+read-items-spec = close μ-body μ-item μ-items (λ t. body-lts.spec (body-calls t)
@@ -403,6 +416,8 @@ pub +body+item+read-items-spec : {M : Type 1} → statement M
     (item-join-requires t)
     (item-same-length-3 t)
     (item-returns-2 t)
+    (item-passed-requires t)
+    (item-returns-3 t)
     (item-site-at-requires t)
     (item-cast-site t)
     (item-part-requires t)
@@ -418,11 +433,11 @@ pub +body+item+read-items-spec : {M : Type 1} → statement M
     (item-called-requires t)
     (item-same-length-4 t)
     (item-same-length-5 t)
-    (item-returns-3 t)
+    (item-returns-4 t)
     (item-spawned-requires t)
     (item-same-length-6 t)
     (item-same-length-7 t)
-    (item-returns-4 t))
+    (item-returns-5 t))
     λ t. items-lts.spec (items-calls t)
     (items-at t)
     items.Post
