@@ -1,12 +1,17 @@
--- The further traces of document 01 and one for each refusal: the verdict, computed.
+-- The further traces of document 01, those of request j and one for each refusal: the verdict, computed; and the span of
+-- a trace whose sites are met on the way.
 use mathlib.Core.Path.{_≡_, refl}
 use mathlib.Core.Bool.{Bool, true, false}
 use mathlib.Core.List.{List, [], _∷_, _++_, map}
 use Prim.Native.Nat.{ℕ}
 use lib.ListN.{take, replicate}
 use Rattle.line.specs.declared.Frame.the-variants.{Site, Spawn, Return, Cost}
+use Rattle.trace.specs.Shape.{root}
+use Rattle.trace.specs.Series.{Span}
 use Rattle.trace.specs.Refusals.{Verdict, accepted, refused, verdict}
+use Rattle.trace.specs.Tree.{spawn, site, spend, note, Body, done, leaf, child, linesOf}
 use Rattle.trace.specs.Twelve.{text}
+use Rattle.trace.proofs.Twelve.{span-here}
 
 record Ask : Type 0 where
   trace : List ℕ
@@ -75,3 +80,17 @@ given a = verdict (a .trace) (a .D) (a .M) (a .room)
 
 pub further : map given asks ≡ map gives asks
 further = refl
+
+-- 02, request j: "Site lines weigh nothing and join nothing". Case D with its second site behind the spawn: site 1,
+-- spawn 1 {4}, site 2, cost 5.
+abbrev met : Body
+met =
+    leaf (note (site 1 (record { file = 1; line = 10; column = 5 })))
+    (child spawn 1 (leaf (spend 4) done) (leaf (note (site 2 (record { file = 1; line = 20; column = 9 }))) (leaf (spend 5) done)))
+
+abbrev met-text : List ℕ
+met-text =
+    text (0x0100010000000a00010005 ∷ 0x0300010000000000000000 ∷ 0x0600000000000400000000 ∷ 0x0500000000000000000000 ∷ 0x0100020000001400010009 ∷ 0x0600000000000500000000 ∷ 0x0500000000000000000000 ∷ [])
+
+pub still-parallel : (verdict met-text 4 2 true ≡ accepted (linesOf met)) × Span (linesOf met) root 5
+still-parallel = (refl, span-here met-text met refl)
