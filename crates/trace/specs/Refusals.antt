@@ -84,7 +84,7 @@ abbrev pub declared : ℕ → List Frame → Bool
 declared s [] = false
 declared s (f ∷ t) = ifSite (λ i p. eqb s i || declared s t) (declared s t) f
 
--- 11: "call or spawn of site 0 or one not declared"
+-- 11: "call or spawn of site 0 or one not declared"; 02, request j: "declared on an earlier line"
 abbrev pub undeclared : List Frame → Frame → Bool
 undeclared before f = ifMakes (λ s. eqb s 0 || not (declared s before)) false f
 
