@@ -11,6 +11,10 @@
  *     05    return   none
  *     06    cost     value, at least 1
  *
+ * The root is open from the start, and its return is the last line. A site line may stand anywhere before that; site lines
+ * are numbered 1, 2, 3 and on, no two with the same file, line and column, and a call or spawn names a site that an earlier
+ * line declares.
+ *
  * Every function answers 0 where it accepts, and otherwise a refusal: its number + 256 times its line, lines numbered
  * from 0. A refusal changes nothing that was lent. Where several refusals apply, the one with the smallest number is
  * given, except that refusals 5 to 14 of a trace are those of its first faulty line.
@@ -88,10 +92,10 @@ enum {
     NYO_CHARACTER = 5,     /* a wrong character in the line */
     NYO_TABLE = 6,         /* unknown kind, unused field not zero, or a value outside the table */
     NYO_AFTER_END = 7,     /* a line after the root's return */
-    NYO_SITE_ORDER = 8,    /* a site line after another kind, or not numbered one above the last */
+    NYO_SITE_ORDER = 8,    /* a site line not numbered one above the last; the first is 1 */
     NYO_SITE_LIMIT = 9,    /* a site line whose number is above the site limit */
     NYO_PLACE = 10,        /* a place already declared */
-    NYO_UNDECLARED = 11,   /* call or spawn of site 0 or of one not declared */
+    NYO_UNDECLARED = 11,   /* call or spawn of site 0 or of one that no earlier line declares */
     NYO_DEPTH = 12,        /* more invocations open than the depth limit */
     NYO_UNFINISHED = 14,   /* lines end before the root's return; the line is the number of lines */
     NYO_CSV_RECORD = 15,   /* a record of comma-separated text is not good or is missing; the line is its number, header 0 */

@@ -123,10 +123,7 @@ fn letting_a_called_functions_sync_join_its_callers_children() {
 
 /// Parallel, whether or not F is still open.
 fn never_joined_by_a_return(shape: &Shape, i: usize, j: usize) -> bool {
-    between(shape, i, j).any(|(g, f)| {
-        let own = shape.invocations.iter().position(|other| other == f);
-        !(g.last..j).any(|line| is_sync(shape, line) && shape.directly_in[line] == own)
-    })
+    between(shape, i, j).any(|(g, f)| !(g.last..j).any(|line| is_sync(shape, line) && shape.invocation_of(line) == f))
 }
 
 #[test]
@@ -464,8 +461,8 @@ fn costs_by(trace: &[u8], entries: &[Entry], rule: fn(&Shape, &[Entry], usize) -
 
 /// The factor of the row that a line is directly in; 1 where no entry names it.
 fn factor(shape: &Shape, entries: &[Entry], line: usize) -> u64 {
-    let row = shape.directly_in[line].map(|own| shape.invocations[own].row as u64);
-    entries.iter().find(|entry| Some(entry.row) == row).map_or(1, |entry| entry.factor)
+    let row = shape.invocation_of(line).row as u64;
+    entries.iter().find(|entry| entry.row == row).map_or(1, |entry| entry.factor)
 }
 
 #[test]
@@ -483,7 +480,7 @@ fn dividing_and_rounding_down() {
 fn dividing_the_costs_of_children_too() {
     let told = forecast_difference(|trace, entries| {
         costs_by(trace, entries, |shape, entries, n| {
-            let own = &shape.invocations[shape.directly_in[n].expect("in an invocation")];
+            let own = shape.invocation_of(n);
             let named = |row: usize| entries.iter().find(|entry| entry.row == row as u64);
             let of = named(own.row).or_else(|| shape.around(own).find_map(|around| named(around.row)));
             shape.lines[n].value.div_ceil(of.map_or(1, |entry| entry.factor))
