@@ -11,6 +11,7 @@ pub mod rng;
 pub mod shapes;
 pub mod sheets;
 pub mod shrink;
+pub mod sites;
 pub mod stacks;
 pub mod tell;
 
