@@ -7,6 +7,7 @@ pub mod fixed;
 pub mod forecasts;
 pub mod gain;
 pub mod generate;
+pub mod on_the_way;
 pub mod rng;
 pub mod shapes;
 pub mod sheets;
