@@ -216,9 +216,10 @@ uint64_t nyo_folded(const uint8_t *trace, size_t trace_len, uint64_t depth, uint
 
 /* Writes a trace without the lines that say nothing, and into written[0] how many characters are left. Dropped is each
  * sync with no spawn directly in its invocation since that invocation's start or last sync, and each with only syncs
- * between it and its return; then adjacent cost lines merge from the left while the sum is at most 4,294,967,295. What
- * is left is a trace that is accepted with the same limits; its work, span, sites and rows are those of the trace, its
- * lines and marks its own. Its digits have small letters, and compacting it again leaves it as it is.
+ * between it and its return; then adjacent cost lines merge from the left while the sum is at most 4,294,967,295. Two
+ * costs with a site line between them are not adjacent. What is left is a trace that is accepted with the same limits;
+ * its work, span, sites and rows are those of the trace, its lines and marks its own. Its digits have small letters, and
+ * compacting it again leaves it as it is.
  *   out      the result's own length; NYO_COMPACT_CHARS(trace_len) is always enough
  *   written  1
  * Refusals: those of nyo_tables, with 4 for written too short, then 21 with line 0 for output too short. */
