@@ -27,7 +27,7 @@ pub fn case(seed: u64, number: u64) -> Case {
     Case { question, rubbish: rng.number() }
 }
 
-/// How many lines are tried in each place of those traces.
+/// How many lines `every` tries in each place of a trace.
 pub const KINDS: u64 = 7;
 
 /// Every trace that begins with a site line and has so many lines after it, each one of seven: costs of 1 and 2, a sync, a
