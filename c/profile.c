@@ -59,10 +59,10 @@ static int refuse(uint64_t answer) {
         [NYO_CHARACTER] = "a character is not 0-9, a-f or A-F, or the line feed is not the 23rd",
         [NYO_TABLE] = "the kind is unknown, an unused field is not zero, or a value is outside the table",
         [NYO_AFTER_END] = "the root has returned before this line",
-        [NYO_SITE_ORDER] = "site lines come first and are numbered 1, 2, 3 and on",
+        [NYO_SITE_ORDER] = "site lines are numbered 1, 2, 3 and on",
         [NYO_SITE_LIMIT] = "the site's number is above the site limit: raise it with -s",
         [NYO_PLACE] = "another site has the same file, line and column",
-        [NYO_UNDECLARED] = "the site that is called or spawned has no site line",
+        [NYO_UNDECLARED] = "the site that is called or spawned has no site line before",
         [NYO_DEPTH] = "more invocations are open than the depth limit: raise it with -d",
         [NYO_UNFINISHED] = "the lines end before the root's return",
     };

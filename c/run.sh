@@ -59,6 +59,8 @@ done
 shown case-i.trace >"$wanted"
 tried 0 '^work 10, span 9, 2 sites, 10 lines; on the chosen chain: 4 8$' '$profile <examples/case-i.trace'
 tried 0 '^work 10, span 9' '$profile -d 64 -s 255 examples/case-i.trace'
+shown on-the-way.trace >"$wanted"
+tried 0 '^work 22, span 17, 4 sites, 21 lines; on the chosen chain: 0 3 5 8 10 19$' '$profile examples/on-the-way.trace'
 echo ff0100000000 >"$wanted"
 tried 1 'refusal 1, line 0: ' '$profile -d 65 examples/case-i.trace'
 tried 1 'refusal 1, line 0: ' '$profile -d 0 examples/case-i.trace'
@@ -168,6 +170,8 @@ tried 0 '' '$compact 621 <examples/wordy.trace'
 tried 0 '' '$compact 414 examples/wordy-compact.trace'
 cp examples/proxy.trace "$wanted"
 tried 0 '' '$compact 9999 examples/proxy.trace'
+cp examples/on-the-way.trace "$wanted"
+tried 0 '' '$compact 483 examples/on-the-way.trace'
 echo ff1500000000 >"$wanted"
 tried 1 '^compact: refusal 21, line 0$' '$compact 413 examples/wordy.trace'
 echo ff0e00000004 >"$wanted"

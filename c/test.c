@@ -146,6 +146,24 @@ static const char case_k[] =
 
 static const uint64_t case_k_rows[] = {1, 3, 3, 0, 0, 2, 3, 3, 3, 3, 0, 0, 0, 0, 0};
 
+/* Site 1 behind a cost, site 2 between a spawn and its first cost, site 3 between a sync and the return:
+ * 1, site 1, spawn 1 {site 2, call 2 {5}}, 2, sync, site 3. The 5 stand beside the 2, behind the 1. */
+static const char on_the_way[] =
+    "0600000000000100000000\n"
+    "0100010000000a00010005\n"
+    "0300010000000000000000\n"
+    "0100020000001400010009\n"
+    "0200020000000000000000\n"
+    "0600000000000500000000\n"
+    "0500000000000000000000\n"
+    "0500000000000000000000\n"
+    "0600000000000200000000\n"
+    "0400000000000000000000\n"
+    "0100030000001e0001000d\n"
+    "0500000000000000000000\n";
+
+static const uint64_t on_the_way_rows[] = {1, 8, 6, 3, 1, 1, 5, 5, 0, 0, 1, 5, 5, 5, 5, 0, 0, 0, 0, 0};
+
 static const char case_i_report[] =
     "00000000000000000001000000000000000a000000000000000900000000000000020000000000000002\n"
     "000100000000000000010000000000000008000000000000000700000000000000010000000000000000\n"
@@ -272,6 +290,11 @@ static void traces_are_profiled(void) {
     CHECK(chars_are(&marks, "\0\0\0\0\1\0\0\0\1\0", 10));
     CHECK(tables(case_k, sizeof case_k - 1, 4, 2, enough) == 0 && profile_is(case_k_rows, 15, (const uint64_t[]){3, 3, 2, 9}));
     CHECK(marked(case_k, sizeof case_k - 1, 4, 2, enough) == 0 && profile_is(case_k_rows, 15, (const uint64_t[]){3, 3, 2, 9}));
+    const uint64_t way[] = {8, 6, 3, 12};
+    size_t n = sizeof on_the_way - 1;
+    CHECK(tables(on_the_way, n, 3, 4, enough) == 0 && profile_is(on_the_way_rows, 20, way));
+    CHECK(marked(on_the_way, n, 3, 4, enough) == 0 && profile_is(on_the_way_rows, 20, way));
+    CHECK(chars_are(&marks, "\1\0\0\0\0\1\0\0\0\0\0\0", 12));
     const char lone[] = "0500000000000000000000\n";
     CHECK(tables(lone, 23, 1, 0, enough) == 0 && profile_is((const uint64_t[]){1, 0, 0, 0, 0}, 5, (const uint64_t[]){0, 0, 0, 1}));
     CHECK(marked(lone, 23, 1, 0, enough) == 0 && profile_is((const uint64_t[]){1, 0, 0, 0, 0}, 5, (const uint64_t[]){0, 0, 0, 1}));
@@ -292,6 +315,33 @@ static void traces_are_refused(void) {
     CHECK(both_refuse(case_i, len, 2, 2, enough, 12 + 256 * 3));
     CHECK(both_refuse(case_i, len - 23, 4, 2, enough, 14 + 256 * 9));
     CHECK(both_refuse(case_i, 0, 4, 2, enough, 14));
+    CHECK(both_refuse(on_the_way, sizeof on_the_way - 1, 3, 2, enough, 9 + 256 * 10));
+    CHECK(both_refuse(on_the_way, sizeof on_the_way - 1, 2, 3, enough, 12 + 256 * 4));
+}
+
+#define SITE_1 "0100010000000a00010005\n"
+#define SITE_2 "0100020000001400010009\n"
+#define SITE_3 "0100030000001e0001000d\n"
+#define CALL_1 "0200010000000000000000\n"
+#define SPAWN_1 "0300010000000000000000\n"
+#define SYNC "0400000000000000000000\n"
+#define RETURN "0500000000000000000000\n"
+#define COST(digits) "060000" digits "00000000\n"
+#define MOST_COST COST("ffffffff")
+
+/* Both engines refuse a trace with depth 4, three sites and room enough. */
+static int is_refused(const char *trace, uint64_t expected) {
+    return both_refuse(trace, strlen(trace), 4, 3, (Short){0, 0, 0, 0}, expected);
+}
+
+static void sites_on_the_way_are_refused(void) {
+    CHECK(is_refused(COST("00000005") SITE_2 RETURN, 8 + 256 * 1));
+    CHECK(is_refused(SITE_1 COST("00000005") SITE_3 RETURN, 8 + 256 * 2));
+    CHECK(is_refused(SITE_1 COST("00000005") SITE_1 RETURN, 8 + 256 * 2));
+    CHECK(is_refused(SITE_1 CALL_1 "0100020000000a00010005\n" RETURN RETURN, 10 + 256 * 2));
+    CHECK(is_refused(CALL_1 SITE_1 RETURN RETURN, 11));
+    CHECK(is_refused(COST("00000005") RETURN SITE_1, 7 + 256 * 2));
+    CHECK(is_refused(COST("00000005") SITE_1, 14 + 256 * 2));
 }
 
 /* Both engines on a trace with limits 4 and 3 and so many of these entries. */
@@ -406,15 +456,6 @@ static void stacks_are_folded(void) {
     CHECK(folded(case_i, len, names, stock_names, 4, 34, 1) == 18 && nothing_folded());
 }
 
-/* Two sites; then events, of which a line is left out or merged wherever it says nothing. */
-#define SITES_1_2 "0100010000000a00010005\n0100020000001400010009\n"
-#define CALL_1 "0200010000000000000000\n"
-#define SPAWN_1 "0300010000000000000000\n"
-#define SYNC "0400000000000000000000\n"
-#define RETURN "0500000000000000000000\n"
-#define COST(digits) "060000" digits "00000000\n"
-#define MOST_COST COST("ffffffff")
-
 static uint64_t compact(const char *trace, size_t len, uint64_t depth, uint64_t sites, size_t room, size_t count_room) {
     uint8_t *text = lend_chars(&out, room);
     uint64_t *to = lend_numbers(&written, count_room);
@@ -432,7 +473,8 @@ static int leaves(const char *trace, const char *left) {
     return just && more && again && compact(trace, len, 4, 3, n - 1, 1) == 21 && nothing_written();
 }
 
-#define LEAVES(trace, left) leaves(SITES_1_2 trace RETURN, SITES_1_2 left RETURN)
+/* Two sites; then events, of which a line is left out or merged wherever it says nothing. */
+#define LEAVES(trace, left) leaves(SITE_1 SITE_2 trace RETURN, SITE_1 SITE_2 left RETURN)
 #define SPAWNED SPAWN_1 COST("00000004") RETURN
 
 static void traces_are_compacted(void) {
@@ -453,6 +495,12 @@ static void traces_are_compacted(void) {
     CHECK(LEAVES(COST("fffffffe") COST("00000001"), MOST_COST));
     CHECK(LEAVES(MOST_COST COST("00000001"), MOST_COST COST("00000001")));
     CHECK(LEAVES(MOST_COST COST("00000001") COST("00000002"), MOST_COST COST("00000003")));
+    CHECK(leaves(on_the_way, on_the_way));
+    CHECK(LEAVES(COST("00000001") SITE_3 COST("00000002"), COST("00000001") SITE_3 COST("00000002")));
+    CHECK(LEAVES(COST("00000001") SYNC SITE_3 COST("00000002"), COST("00000001") SITE_3 COST("00000002")));
+    CHECK(LEAVES(SPAWNED SYNC SITE_3, SPAWNED SYNC SITE_3));
+    CHECK(LEAVES(SPAWNED SYNC SITE_3 SYNC, SPAWNED SYNC SITE_3));
+    CHECK(LEAVES(SPAWNED SITE_3 SYNC, SPAWNED SITE_3));
 }
 
 static void compactions_are_refused(void) {
@@ -478,6 +526,7 @@ int main(void) {
     sheets_are_read();
     traces_are_profiled();
     traces_are_refused();
+    sites_on_the_way_are_refused();
     traces_are_forecast();
     forecasts_are_refused();
     stacks_are_folded();

@@ -408,6 +408,24 @@ static unsigned long field(const uint8_t *line, size_t from, size_t digits) {
     return strtoul(text, NULL, 16);
 }
 
+/* Refusals 8 to 11 are those of the site lines before the refused line, wherever they stand. */
+static void refused_by_sites(const Room *trace, uint64_t given, uint64_t sites) {
+    const uint8_t *at = trace->at + NYO_LINE(given) * NYO_LINE_CHARS;
+    unsigned number = NYO_NUMBER(given), declared = 0, again = 0;
+    if (number < NYO_SITE_ORDER || number > NYO_UNDECLARED) return;
+    for (const uint8_t *line = trace->at; line < at; line += NYO_LINE_CHARS) {
+        if (field(line, 0, 2) != 1) continue;
+        declared++;
+        again |= field(line, 6, 8) == field(at, 6, 8) && field(line, 14, 8) == field(at, 14, 8);
+    }
+    unsigned long kind = field(at, 0, 2), site = field(at, 2, 4);
+    count(39, UINT64_C(1) << number);
+    if (number == NYO_UNDECLARED) MUST((kind == 2 || kind == 3) && (site == 0 || site > declared));
+    else MUST(kind == 1 && (number == NYO_SITE_ORDER) == (site != declared + 1));
+    if (number == NYO_SITE_LIMIT) MUST(site > sites);
+    if (number == NYO_PLACE) MUST(site <= sites && again);
+}
+
 /* The folded stacks of an accepted trace with good names, line by line, as far as there is room, and their length. */
 static size_t expected_stacks(char *text, size_t most, const Room *trace, const Name *names) {
     size_t open[NYO_MOST_DEPTH] = {0}, depth = 1, len = 0;
@@ -650,6 +668,7 @@ static void profile(const Room *trace, Input *lists, Input *in) {
     if (first) {
         MUST(NYO_NUMBER(first) <= 14 && NYO_LINE(first) <= lines);
         MUST(kept_from(&scratch, 0) && kept_from(&rows, 0) && kept_from(&answer, 0));
+        refused_by_sites(trace, first, sites);
         print_refusal(NYO_NUMBER(first), NYO_LINE(first), in);
     } else {
         memcpy(first_answer, answer.at, sizeof first_answer);

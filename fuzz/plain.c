@@ -39,14 +39,15 @@ static void put(unsigned byte) {
 /* A byte that the target takes for a line of some kind, with a number below 28 that the kind gives a meaning. */
 static void put_item(unsigned kind, unsigned more) { put(kind + 8 * more); }
 
-/* Sites, then so many lines that keep to the rules, but for the limits. */
+/* Some of seven sites, then so many lines that keep to the rules, but for the limits, with the other sites among them. */
 static void put_good(unsigned lines) {
     unsigned sites = below(8), open = 1;
     for (unsigned s = 0; s < sites; s++) put_item(6, below(28));
     for (; lines > 0; lines--) {
-        unsigned kind = below(6);
+        unsigned kind = sites < 7 && !below(12) ? 6 : below(6);
         if (kind == 5 && open == 1) continue;
         if ((kind == 2 || kind == 3) && !sites) continue;
+        sites += kind == 6;
         put_item(kind, kind == 2 || kind == 3 ? 1 + below(sites) : 1 + below(27));
         for (unsigned more = 0; kind == 1 && more < 4; more++) put(below(256));
         open += kind == 2 || kind == 3, open -= kind == 5;

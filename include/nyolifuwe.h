@@ -11,6 +11,10 @@
  *     05    return   none
  *     06    cost     value, at least 1
  *
+ * The root is open from the start, and its return is the last line. A site line may stand anywhere before that; site lines
+ * are numbered 1, 2, 3 and on, no two with the same file, line and column, and a call or spawn names a site that an earlier
+ * line declares.
+ *
  * Every function answers 0 where it accepts, and otherwise a refusal: its number + 256 times its line, lines numbered
  * from 0. A refusal changes nothing that was lent. Where several refusals apply, the one with the smallest number is
  * given, except that refusals 5 to 14 of a trace are those of its first faulty line.
@@ -88,10 +92,10 @@ enum {
     NYO_CHARACTER = 5,     /* a wrong character in the line */
     NYO_TABLE = 6,         /* unknown kind, unused field not zero, or a value outside the table */
     NYO_AFTER_END = 7,     /* a line after the root's return */
-    NYO_SITE_ORDER = 8,    /* a site line after another kind, or not numbered one above the last */
+    NYO_SITE_ORDER = 8,    /* a site line not numbered one above the last; the first is 1 */
     NYO_SITE_LIMIT = 9,    /* a site line whose number is above the site limit */
     NYO_PLACE = 10,        /* a place already declared */
-    NYO_UNDECLARED = 11,   /* call or spawn of site 0 or of one not declared */
+    NYO_UNDECLARED = 11,   /* call or spawn of site 0 or of one that no earlier line declares */
     NYO_DEPTH = 12,        /* more invocations open than the depth limit */
     NYO_UNFINISHED = 14,   /* lines end before the root's return; the line is the number of lines */
     NYO_CSV_RECORD = 15,   /* a record of comma-separated text is not good or is missing; the line is its number, header 0 */
@@ -212,9 +216,10 @@ uint64_t nyo_folded(const uint8_t *trace, size_t trace_len, uint64_t depth, uint
 
 /* Writes a trace without the lines that say nothing, and into written[0] how many characters are left. Dropped is each
  * sync with no spawn directly in its invocation since that invocation's start or last sync, and each with only syncs
- * between it and its return; then adjacent cost lines merge from the left while the sum is at most 4,294,967,295. What
- * is left is a trace that is accepted with the same limits; its work, span, sites and rows are those of the trace, its
- * lines and marks its own. Its digits have small letters, and compacting it again leaves it as it is.
+ * between it and its return; then adjacent cost lines merge from the left while the sum is at most 4,294,967,295. Two
+ * costs with a site line between them are not adjacent. What is left is a trace that is accepted with the same limits;
+ * its work, span, sites and rows are those of the trace, its lines and marks its own. Its digits have small letters, and
+ * compacting it again leaves it as it is.
  *   out      the result's own length; NYO_COMPACT_CHARS(trace_len) is always enough
  *   written  1
  * Refusals: those of nyo_tables, with 4 for written too short, then 21 with line 0 for output too short. */

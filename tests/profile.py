@@ -235,6 +235,26 @@ def the_limits():
     expect("a million bytes", printed(b"?" * 1000000), refusal(3, 0))
 
 
+def the_sites_on_the_way():
+    """A site line anywhere before the root's return, with D = 32 and M = 31."""
+    # each directly before the call of its site, which costs 1
+    met = "".join(site(number, number, 1, 1) + call(number) + cost(1) + RETURN for number in range(1, 32))
+    each = "".join(row(number, 1, 1, 1, 1, 1) for number in range(1, 32))
+    expect("M sites on the way", printed((met + RETURN).encode()), row(0, 1, 31, 31, 0, 0) + each)
+    last = printed((cost(5) + sites(1) + RETURN).encode())
+    expect("a site line last but one", last, row(0, 1, 5, 5, 5, 5) + row(1, 0, 0, 0, 0, 0))
+    refused = {
+        # the 32nd site line behind 124 lines and 31 calls, with 32 invocations open
+        "M + 1 sites, the last deep inside": (met + 31 * call(1) + site(32, 32, 1, 1) + 32 * RETURN, 9, 155),
+        "a site line after the return": (cost(5) + RETURN + sites(1), 7, 2),
+        "a number skipped on the way": (sites(1) + cost(5) + site(3, 3, 1, 1) + RETURN, 8, 2),
+        "the same place far apart": (sites(1) + 99 * cost(5) + site(2, 1, 1, 1) + RETURN, 10, 100),
+        "a call on the line before its site line": (cost(5) + call(1) + sites(1) + 2 * RETURN, 11, 1),
+    }
+    for name, (trace, number, line) in refused.items():
+        expect(name, printed(trace.encode()), refusal(number, line))
+
+
 # ---- the command
 
 SHELLS = [shell for shell in ("sh", "dash", "bash") if shutil.which(shell)]
@@ -451,6 +471,7 @@ def main():
     the_rules_traces()
     the_examples()
     the_limits()
+    the_sites_on_the_way()
     the_command()
     the_card()
     the_terminal()

@@ -122,7 +122,7 @@ class Profile:
         return kind, site, value, file, column
 
     def site(self, site, place):
-        if self.lines > len(self.places) or site != len(self.places) + 1:
+        if site != len(self.places) + 1:
             self.refuse(8)
         if site > self.most_sites:
             self.refuse(9)

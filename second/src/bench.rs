@@ -1,8 +1,11 @@
 //! Timings: the proved engines, the plain one, the script and a pass that only sums the bytes, on the same traces in one run;
-//! and the proved writer of folded stacks, the proved forecasts and the proved compactor beside plain ones.
+//! the proved writer of folded stacks, the proved forecasts and the proved compactor beside plain ones; and sites declared on
+//! the way beside sites at the start.
 
 pub mod clock;
 pub mod compacting;
+pub mod declaring;
+pub mod engines;
 pub mod folding;
 pub mod forecasting;
 pub mod table;

@@ -111,6 +111,7 @@ struct Walk {
 }
 
 impl Walk {
+    /// "the root is open from the start"
     fn new(limits: Limits) -> Walk {
         let root = Invocation { row: 0, start: Start::Root, first: 0, last: 0 };
         Walk {
@@ -132,15 +133,15 @@ impl Walk {
             Kind::Sync | Kind::Cost => (),
             Kind::Return => self.leave(),
         }
-        self.shape.directly_in.push((line.kind != Kind::Site).then_some(inside));
+        self.shape.directly_in.push(inside);
         self.shape.lines.push(line);
         Ok(())
     }
 
-    /// "All site lines come first and are numbered 1, 2, 3 and on. No two have the same place."
+    /// "A site line may stand anywhere before the root's return"; "Its number still follows the last declared"; "No two
+    /// have the same place."
     fn site(&mut self, line: &Line) -> Result<(), Ground> {
-        let only_sites = self.shape.sites == self.shape.lines.len();
-        if !only_sites || line.site != self.shape.sites as u64 + 1 {
+        if line.site != self.shape.sites as u64 + 1 {
             return Err(Ground::SiteOrder);
         }
         if line.site > self.limits.sites {
@@ -150,11 +151,10 @@ impl Walk {
             return Err(Ground::Place);
         }
         self.shape.sites += 1;
-        self.shape.invocations[0].first += 1;
         Ok(())
     }
 
-    /// Opens the invocation that a call or spawn line begins.
+    /// Opens the invocation that a call or spawn line begins: "a call or spawn needs its site declared on an earlier line".
     fn enter(&mut self, line: &Line, start: Start) -> Result<(), Ground> {
         if line.site == 0 || line.site > self.shape.sites as u64 {
             return Err(Ground::Undeclared);

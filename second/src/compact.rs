@@ -51,14 +51,14 @@ fn spawned_since(shape: &Shape, sync: usize) -> bool {
     directly.take_while(|kind| *kind != Kind::Sync).any(|kind| kind == Kind::Spawn)
 }
 
-/// "only syncs between it and its return"
+/// "only syncs between it and its return"; a site line is no sync.
 fn only_syncs_behind(shape: &Shape, sync: usize) -> bool {
     let between = sync + 1..shape.invocation_of(sync).last;
     shape.lines[between].iter().all(|line| line.kind == Kind::Sync)
 }
 
 /// "Then adjacent cost lines merge from the left while the sum fits a value, and a sum that would not fit starts a
-/// new line."
+/// new line." Two costs with a site line between them "are not adjacent for the compactor".
 fn merged(lines: Vec<Line>) -> Vec<Line> {
     let mut merged: Vec<Line> = vec![];
     for line in lines {

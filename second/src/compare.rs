@@ -8,10 +8,12 @@ pub mod forecasts;
 pub mod gain;
 pub mod generate;
 pub mod moves;
+pub mod on_the_way;
 pub mod rng;
 pub mod shapes;
 pub mod sheets;
 pub mod shrink;
+pub mod sites;
 pub mod stacks;
 pub mod tell;
 

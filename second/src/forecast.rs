@@ -44,8 +44,8 @@ fn asked(entries: &[Entry], sites: u64) -> Result<(), Ground> {
 /// "Each cost directly in an invocation of a named row is divided by its factor and rounded up."
 fn rewritten_line(shape: &Shape, entries: &[Entry], number: usize) -> Line {
     let line = shape.lines[number];
-    let row = shape.directly_in[number].map(|own| shape.invocations[own].row as u64);
-    match entries.iter().find(|entry| Some(entry.row) == row) {
+    let row = shape.invocation_of(number).row as u64;
+    match entries.iter().find(|entry| entry.row == row) {
         Some(entry) if line.kind == Kind::Cost => Line { value: line.value.div_ceil(entry.factor), ..line },
         _ => line,
     }

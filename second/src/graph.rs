@@ -1,12 +1,12 @@
 //! The heaviest chains as heaviest paths of a graph: the way for long traces, in time linear in the lines.
 //!
-//! The graph has a point before each line from the first after the sites to the root's return. An edge says which point
-//! comes next: after most lines the one before the next line; after a spawn both the one before the child's first line
-//! and the one after the child's return; after a spawned child's return the one before the line that joins it, which is
-//! the next sync directly in its spawner or the spawner's return. A cost line's edge weighs its value, any other
-//! nothing. One cost line comes before another in series exactly when a path leads from the end of its edge to the
-//! other's start (the tests try it on many traces), so the heaviest chains are the costs of the heaviest paths. Every
-//! edge leads to a later line, so one pass from the last line to the first weighs every path to the end.
+//! The graph has a point before each line. An edge says which point comes next: after most lines the one before the next
+//! line; after a spawn both the one before the child's first line and the one after the child's return; after a spawned
+//! child's return the one before the line that joins it, which is the next sync directly in its spawner or the spawner's
+//! return. A cost line's edge weighs its value, any other nothing. One cost line comes before another in series exactly
+//! when a path leads from the end of its edge to the other's start (the tests try it on many traces), so the heaviest
+//! chains are the costs of the heaviest paths. Every edge leads to a later line, so one pass from the last line to the
+//! first weighs every path to the end.
 
 use crate::chain::Chains;
 use crate::line::Kind;
@@ -50,7 +50,7 @@ impl Graph {
     /// For each point the weight of the heaviest path from it to the end.
     fn rest(&self, shape: &Shape) -> Vec<u64> {
         let mut rest = vec![0; shape.lines.len() + 1];
-        for point in (shape.sites..shape.lines.len()).rev() {
+        for point in (0..shape.lines.len()).rev() {
             let heaviest = self.following(point).map(|to| rest[to]).max().unwrap_or(0);
             rest[point] = shape.lines[point].cost() + heaviest;
         }
@@ -61,7 +61,7 @@ impl Graph {
     /// path goes past the child only where that is heavier.
     fn chosen(&self, shape: &Shape, rest: &[u64]) -> Vec<usize> {
         let mut chosen = vec![];
-        let mut point = shape.sites;
+        let mut point = 0;
         while point < shape.lines.len() {
             if shape.lines[point].kind == Kind::Cost {
                 chosen.push(point);
@@ -77,8 +77,7 @@ impl Graph {
 fn joins(shape: &Shape) -> Vec<Option<usize>> {
     let mut joins = vec![None; shape.invocations.len()];
     let mut waiting = vec![vec![]; shape.invocations.len()];
-    for (line, owner) in shape.directly_in.iter().enumerate() {
-        let Some(own) = *owner else { continue };
+    for (line, &own) in shape.directly_in.iter().enumerate() {
         let kind = shape.lines[line].kind;
         if kind == Kind::Sync || kind == Kind::Return {
             waiting[own].drain(..).for_each(|child: usize| joins[child] = Some(line));

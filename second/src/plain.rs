@@ -231,7 +231,7 @@ impl Engine {
     /// Refusals 8, 9 and 10.
     fn site(&mut self, fields: &Fields) -> Result<(), Ground> {
         let sites = self.places.len();
-        if self.steps.len() > sites || usize::from(fields.site) != sites + 1 {
+        if usize::from(fields.site) != sites + 1 {
             return Err(Ground::SiteOrder);
         }
         if u64::from(fields.site) > self.limits.sites {
@@ -288,7 +288,7 @@ impl Engine {
             return None;
         }
         let mut marks = vec![0; self.steps.len()];
-        let mut line = self.places.len();
+        let mut line = 0;
         while let Some(step) = self.steps.get(line) {
             if step.cost > 0 {
                 marks[line] = 1;

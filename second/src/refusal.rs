@@ -18,7 +18,7 @@ pub enum Ground {
     Table = 6,
     /// "a line after the root's return"
     AfterEnd = 7,
-    /// "a site line after another kind, or not numbered one above the last (the first is 1)"
+    /// "a site line", "not numbered one above the last (the first is 1)"
     SiteOrder = 8,
     /// "a site line whose number is above M"
     SiteLimit = 9,

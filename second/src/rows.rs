@@ -53,9 +53,8 @@ fn rows(shape: &Shape, spans: &[u64], marks: &[u8]) -> Vec<Row> {
             row[SPAN] += span;
         }
     }
-    for (line, owner) in shape.directly_in.iter().enumerate() {
-        let Some(owner) = *owner else { continue };
-        let row = &mut rows[shape.invocations[owner].row];
+    for line in 0..shape.lines.len() {
+        let row = &mut rows[shape.invocation_of(line).row];
         row[LOCAL] += shape.lines[line].cost();
         row[ON_SPAN] += u64::from(marks[line]) * shape.lines[line].cost();
     }

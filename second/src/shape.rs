@@ -20,7 +20,7 @@ pub struct Invocation {
     /// "Row 0 is the root, row s is site s."
     pub row: usize,
     pub start: Start,
-    /// Its first line: for the root the one after the sites, for any other the one after the call or spawn.
+    /// Its first line: 0 for the root, for any other the one after the call or spawn.
     pub first: usize,
     /// The line of its return.
     pub last: usize,
@@ -33,8 +33,8 @@ pub struct Shape {
     pub sites: usize,
     /// In the order in which they open, the root first.
     pub invocations: Vec<Invocation>,
-    /// For each line the invocation that it is directly in; a site line is in none, a call or spawn line is the caller's.
-    pub directly_in: Vec<Option<usize>>,
+    /// For each line the invocation that it is directly in; a call or spawn line is the caller's.
+    pub directly_in: Vec<usize>,
 }
 
 impl Invocation {
@@ -60,12 +60,9 @@ impl Shape {
         self.lines[lines].iter().map(Line::cost).sum()
     }
 
-    /// The invocation that a line is directly in; a site line is in none.
-    ///
-    /// # Panics
-    /// On a site line.
+    /// The invocation that a line is directly in.
     pub fn invocation_of(&self, line: usize) -> &Invocation {
-        &self.invocations[self.directly_in[line].expect("a line behind the sites")]
+        &self.invocations[self.directly_in[line]]
     }
 
     /// The invocations that enclose one, from the one that made it out to the root.
@@ -108,6 +105,6 @@ impl Shape {
 
     /// Whether a line is a sync line directly in an invocation. "'Directly in F' excludes lines of F's children."
     fn syncs(&self, invocation: usize, line: usize) -> bool {
-        self.lines[line].kind == Kind::Sync && self.directly_in[line] == Some(invocation)
+        self.lines[line].kind == Kind::Sync && self.directly_in[line] == invocation
     }
 }

@@ -2,15 +2,16 @@
 
 use crate::line::{chars, read, Fields, Kind, Place, CHARS};
 
-/// The events of a trace in the notation of the twelve, sites and the root's return left out, if its lines are good and
-/// every brace has its other.
+/// The events of a trace in the notation of the twelve, if its lines are good and every brace has its other. The sites
+/// before the first event and the root's return are left out; a site line on the way is told as `site 3`.
 pub fn events(chars: &[u8]) -> Option<String> {
     let mut text = String::new();
     let mut open = 1_usize;
     for line in chars.chunks(CHARS) {
         let line = read(line).ok().filter(|_| open > 0)?;
         match line.kind {
-            Kind::Site => (),
+            Kind::Site if text.is_empty() => (),
+            Kind::Site => add(&mut text, &format!("site {}", line.site)),
             Kind::Call => add(&mut text, &format!("call {} {{", line.site)),
             Kind::Spawn => add(&mut text, &format!("spawn {} {{", line.site)),
             Kind::Sync => add(&mut text, "sync"),
@@ -41,14 +42,12 @@ impl Trace {
     /// A trace that declares this many sites, the first two at the places of case I.
     pub fn with_sites(sites: u64) -> Trace {
         let mut trace = Trace::default();
-        for site in 1..=sites {
-            trace.site(site, [1, 10 * site, 4 * site + 1]);
-        }
+        (1..=sites).for_each(|site| _ = trace.declare(site));
         trace
     }
 
     /// A trace from the notation of the twelve: "Braces hold a body; the closing brace is its return. A bare number is a
-    /// cost." The root's return is added.
+    /// cost." `site 3` declares site 3 on the way. The root's return is added.
     ///
     /// # Panics
     /// On a word that the notation does not have.
@@ -58,6 +57,7 @@ impl Trace {
         let mut trace = Trace::with_sites(sites);
         while let Some(word) = words.next() {
             match word {
+                "site" => trace.declare(number(words.next())),
                 "call" => trace.call(number(words.next())),
                 "spawn" => trace.spawn(number(words.next())),
                 "sync" => trace.sync(),
@@ -73,6 +73,11 @@ impl Trace {
     /// How many whole lines there are.
     pub fn lines(&self) -> usize {
         self.chars.len() / CHARS
+    }
+
+    /// A site line with a place that no other site has here.
+    pub fn declare(&mut self, site: u64) -> &mut Trace {
+        self.site(site, [1, 10 * site, 4 * site + 1])
     }
 
     pub fn site(&mut self, site: u64, [file, line, column]: Place) -> &mut Trace {
@@ -134,7 +139,13 @@ mod tests {
 
     #[test]
     fn events_are_told_as_they_were_given() {
-        for text in ["", "5, 3", "call 1 {spawn 2 {7}, 1}, 2", "spawn 1 {}, sync, call 2 {1, sync, 1}"] {
+        for text in [
+            "",
+            "5, 3",
+            "call 1 {spawn 2 {7}, 1}, 2",
+            "spawn 1 {}, sync, call 2 {1, sync, 1}",
+            "1, site 3, spawn 3 {site 4, 1, site 5}, site 6",
+        ] {
             assert_eq!(events(&Trace::from_events(2, text).chars).as_deref(), Some(text));
         }
         assert_eq!(events(&Trace::from_events(0, "}").chars), None);

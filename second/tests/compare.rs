@@ -9,7 +9,7 @@ use second::compare::{broken, compare, generate, Difference};
 use second::forecast::Entry;
 use second::graph;
 use second::library::{Library, Second};
-use second::line::{chars, Kind, Line, CHARS};
+use second::line::{chars, read, Kind, Line, CHARS};
 use second::refusal::{Ground, Refusal};
 use second::rows::{COLUMNS, WORK};
 use second::shape::{Invocation, Shape, Start};
@@ -90,6 +90,10 @@ fn is_sync(shape: &Shape, line: usize) -> bool {
     shape.lines[line].kind == Kind::Sync
 }
 
+fn is_site(shape: &Shape, line: usize) -> bool {
+    shape.lines[line].kind == Kind::Site
+}
+
 #[test]
 fn the_stand_in_with_the_right_rules_is_right() {
     let right = Second { search: |shape| chains(shape, Shape::parallel, first) };
@@ -126,10 +130,7 @@ fn letting_a_called_functions_sync_join_its_callers_children() {
 
 /// Parallel, whether or not F is still open.
 fn never_joined_by_a_return(shape: &Shape, i: usize, j: usize) -> bool {
-    between(shape, i, j).any(|(g, f)| {
-        let own = shape.invocations.iter().position(|other| other == f);
-        !(g.last..j).any(|line| is_sync(shape, line) && shape.directly_in[line] == own)
-    })
+    between(shape, i, j).any(|(g, f)| !(g.last..j).any(|line| is_sync(shape, line) && shape.invocation_of(line) == f))
 }
 
 #[test]
@@ -137,6 +138,19 @@ fn leaving_a_spawned_child_unjoined_past_its_spawners_return() {
     let wrong = Second { search: |shape| chains(shape, never_joined_by_a_return, first) };
     assert_eq!(span_of("I", wrong), 7);
     assert_eq!(smallest_events(&wrong), "call 1 {spawn 1 {1}}, 1");
+}
+
+/// Parallel, but for a site line directly in F as for a sync.
+fn joined_by_a_site_line(shape: &Shape, i: usize, j: usize) -> bool {
+    let joins = |line: usize| is_sync(shape, line) || is_site(shape, line);
+    between(shape, i, j)
+        .any(|(g, f)| f.contains(j) && !(g.last..j).any(|line| joins(line) && shape.invocation_of(line) == f))
+}
+
+#[test]
+fn letting_a_site_line_join_what_is_spawned() {
+    let wrong = Second { search: |shape| chains(shape, joined_by_a_site_line, first) };
+    assert_eq!(smallest_events(&wrong), "spawn 1 {1}, site 2, 1");
 }
 
 #[test]
@@ -308,6 +322,30 @@ fn keying_a_site_by_part_of_its_place() {
 }
 
 #[test]
+fn refusing_a_site_line_behind_another_kind() {
+    let before = |trace: &mut Vec<u8>| {
+        let lines = trace.chunks_exact_mut(CHARS).skip_while(|line| line.starts_with(b"01"));
+        lines.filter(|line| line.starts_with(b"01")).for_each(|line| line[2..6].fill(b'0'));
+    };
+    let told = engines_difference(&Wrong { before, ..Wrong::default() });
+    assert!(told.contains("table engine: second ") && told.contains("the stand-in refused 8 at line 1"), "{told}");
+}
+
+#[test]
+fn taking_a_call_of_a_site_that_is_declared_on_the_next_line() {
+    let before = |trace: &mut Vec<u8>| {
+        for line in 1..trace.len() / CHARS {
+            let pair = &mut trace[(line - 1) * CHARS..(line + 1) * CHARS];
+            if pair.starts_with(b"02") && pair[CHARS..].starts_with(b"01") && pair[2..6] == pair[CHARS + 2..CHARS + 6] {
+                pair.rotate_left(CHARS);
+            }
+        }
+    };
+    let told = engines_difference(&Wrong { before, ..Wrong::default() });
+    assert!(told.contains("table engine: second refused 11 at line 0, the stand-in "), "{told}");
+}
+
+#[test]
 fn refusing_capital_digits() {
     let before = |trace: &mut Vec<u8>| trace.iter_mut().filter(|c| c.is_ascii_uppercase()).for_each(|c| *c = b'G');
     let told = engines_difference(&Wrong { before, ..Wrong::default() });
@@ -467,8 +505,8 @@ fn costs_by(trace: &[u8], entries: &[Entry], rule: fn(&Shape, &[Entry], usize) -
 
 /// The factor of the row that a line is directly in; 1 where no entry names it.
 fn factor(shape: &Shape, entries: &[Entry], line: usize) -> u64 {
-    let row = shape.directly_in[line].map(|own| shape.invocations[own].row as u64);
-    entries.iter().find(|entry| Some(entry.row) == row).map_or(1, |entry| entry.factor)
+    let row = shape.invocation_of(line).row as u64;
+    entries.iter().find(|entry| entry.row == row).map_or(1, |entry| entry.factor)
 }
 
 #[test]
@@ -486,7 +524,7 @@ fn dividing_and_rounding_down() {
 fn dividing_the_costs_of_children_too() {
     let told = forecast_difference(|trace, entries| {
         costs_by(trace, entries, |shape, entries, n| {
-            let own = &shape.invocations[shape.directly_in[n].expect("in an invocation")];
+            let own = shape.invocation_of(n);
             let named = |row: usize| entries.iter().find(|entry| entry.row == row as u64);
             let of = named(own.row).or_else(|| shape.around(own).find_map(|around| named(around.row)));
             shape.lines[n].value.div_ceil(of.map_or(1, |entry| entry.factor))
@@ -671,6 +709,37 @@ fn taking_a_childs_sync_for_its_callers() {
         compactor(trace, limits, lent, dropped, fits)
     });
     assert!(smallest.starts_with("spawn 1 {") && smallest.contains("sync}, sync, "), "{smallest}");
+}
+
+#[test]
+fn dropping_a_sync_with_a_site_line_between_it_and_its_return() {
+    let smallest = compacted_difference(|trace, limits, lent| {
+        let last = |shape: &Shape, sync: usize| {
+            (sync + 1..shape.invocation_of(sync).last).all(|line| is_sync(shape, line) || is_site(shape, line))
+        };
+        let dropped = |shape: &Shape, sync: usize| says_nothing(shape, sync) || last(shape, sync);
+        compactor(trace, limits, lent, dropped, fits)
+    });
+    assert_eq!(smallest, "spawn 1 {}, sync, site 2");
+}
+
+/// What is left of a trace, with a cost added to the one before it where only site lines stand between them.
+fn merged_over_site_lines(trace: &[u8], limits: Limits, lent: compact::Lent) -> Result<Vec<u8>, Refusal> {
+    let mut left: Vec<Line> = vec![];
+    for line in compact::write(trace, limits, lent)?.chunks(CHARS).map(|line| read(line).expect("a good line")) {
+        match left.iter_mut().rfind(|before| before.kind != Kind::Site) {
+            Some(last) if last.kind == Kind::Cost && line.kind == Kind::Cost && fits(last.value, line.value) => {
+                last.value += line.value;
+            }
+            _ => left.push(line),
+        }
+    }
+    Ok(left.iter().flat_map(|line| chars(&line.fields())).collect())
+}
+
+#[test]
+fn merging_costs_over_a_site_line() {
+    assert_eq!(compacted_difference(merged_over_site_lines), "1, site 1, 1");
 }
 
 #[test]

@@ -4,6 +4,7 @@ use second::check::{self, Lent, Limits};
 use second::compare::case::{Case, Question};
 use second::compare::generate;
 use second::library::Second;
+use second::line::{Kind, CHARS};
 use second::rows::LOCAL;
 use second::shape::{Invocation, Shape, Start};
 use std::collections::BTreeMap;
@@ -107,7 +108,10 @@ fn good_traces_reach_the_limits() {
     let wide = Limits { depth: 64, sites: 255 };
     let room: Lent = wide.for_tables();
     let mut reached = [false; 3];
-    for number in 0..40_000 {
+    for number in 0..400_000 {
+        if reached == [true; 3] {
+            break;
+        }
         let trace = match generate::case(2, number).question {
             Question::Engines { trace, .. } | Question::Moved { trace, .. } | Question::Compact { trace, .. } => trace,
             _ => continue,
@@ -153,4 +157,58 @@ fn sites_call_themselves_in_every_form() {
     }
     println!("{times:?}");
     assert!(times.iter().all(|&times| times >= 100), "{times:?}");
+}
+
+/// Where the site lines of a good trace stand: between a spawn and its first cost, directly before the root's return,
+/// directly before another, where eight are open, between two costs, and between a sync and its return.
+fn on_the_way(shape: &Shape) -> [bool; 6] {
+    let mut forms = [false; 6];
+    let kind = |line: usize| shape.lines[line].kind;
+    for line in (1..shape.lines.len()).filter(|&line| kind(line) == Kind::Site) {
+        let own = shape.invocation_of(line);
+        let shown = [
+            kind(line - 1) == Kind::Spawn && kind(line + 1) == Kind::Cost,
+            own.last == line + 1 && own.start == Start::Root,
+            own.last == line + 1 && own.start != Start::Root,
+            shape.around(own).count() >= 7,
+            kind(line - 1) == Kind::Cost && kind(line + 1) == Kind::Cost,
+            kind(line - 1) == Kind::Sync && own.last == line + 1,
+        ];
+        forms.iter_mut().zip(shown).for_each(|(form, shown)| *form |= shown);
+    }
+    forms
+}
+
+#[test]
+fn site_lines_stand_in_every_form_on_the_way() {
+    let wide = Limits { depth: 64, sites: 255 };
+    let mut times = [0; 6];
+    for number in 0..40_000 {
+        let (Question::Engines { trace, .. } | Question::Compact { trace, .. }) = generate::case(1, number).question
+        else {
+            continue;
+        };
+        let Ok(shape) = check::trace(&trace, wide, &wide.for_tables()) else { continue };
+        times.iter_mut().zip(on_the_way(&shape)).for_each(|(times, form)| *times += u32::from(form));
+    }
+    println!("{times:?}");
+    assert!(times.iter().all(|&times| times >= 50), "{times:?}");
+}
+
+/// How often a refusal falls on a line behind the first that is no site line.
+#[test]
+fn each_refusal_of_a_site_is_given_on_the_way() {
+    let mut times = BTreeMap::new();
+    for number in 0..40_000 {
+        let case = generate::case(1, number);
+        let Question::Engines { trace, .. } = &case.question else { continue };
+        let first = trace.chunks(CHARS).position(|line| !line.starts_with(b"01")).unwrap_or(usize::MAX);
+        for (_, code) in case.ask(&Second::by_paths()).codes.iter().filter(|(_, code)| code / 256 > first as u64) {
+            *times.entry(code % 256).or_default() += 1;
+        }
+    }
+    println!("{times:?}");
+    for number in [7, 8, 9, 10, 11] {
+        assert!(times.get(&number).is_some_and(|&times: &u32| times >= 50), "{number}: {times:?}");
+    }
 }

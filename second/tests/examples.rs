@@ -179,6 +179,17 @@ fn the_wordy_trace_is_on_the_page_and_compacts_as_worked_out_by_hand() {
 }
 
 #[test]
+fn the_trace_with_sites_on_the_way_is_on_the_page_and_as_worked_out_by_hand() {
+    let report = example("on-the-way.trace");
+    let by_hand = [[1, 22, 17, 7, 7], [1, 15, 10, 3, 3], [1, 7, 7, 6, 6], [2, 6, 6, 6, 1], [0; 5]];
+    assert_eq!(rows(&report), by_hand);
+    assert!(page().contains(&report));
+    let trace = file("on-the-way.trace");
+    let lent = compact::Lent { out: 483, written: 1 };
+    assert_eq!(compact::write(&trace, LIMITS, lent), Ok(trace));
+}
+
+#[test]
 fn each_refusal_is_on_the_page() {
     let by_hand = [
         ("refusal-02.trace", "ff0200000000"),

@@ -161,11 +161,12 @@ fn the_first_faulty_line_decides_and_within_it_the_smallest_number() {
 }
 
 #[test]
-fn a_site_line_is_numbered_one_above_the_last_and_comes_before_any_other_kind() {
+fn a_site_line_is_numbered_one_above_the_last_wherever_it_stands() {
     assert_eq!(refused(&["0100000000000a00010005"]), Some((8, 0)));
     assert_eq!(refused(&[SITE_2]), Some((8, 0)));
     assert_eq!(refused(&[SITE_1, SITE_1]), Some((8, 1)));
-    assert_eq!(refused(&[SITE_1, COST_1, SITE_2]), Some((8, 2)));
+    assert_eq!(refused(&[SITE_1, COST_1, SITE_1]), Some((8, 2)));
+    assert_eq!(refused(&[SITE_1, COST_1, SITE_2, RETURN]), None);
 }
 
 #[test]

@@ -10,7 +10,7 @@ use borrow.Author.Tests.{eqb-false, leb-true, leb-false, ne-eqb, lt-ltb, le-ltb}
 use Rattle.line.specs.declared.Frame.{Frame}
 use Rattle.line.specs.declared.Frame.the-variants.{Site, Call, Spawn, Sync, Return, Cost}
 use Rattle.trace.specs.Shape.{closed, step, sites}
-use Rattle.trace.specs.Refusals.{openNow, empty, afterRoot, lastSite, allSites, placed, placeAgain, declared, fault}
+use Rattle.trace.specs.Refusals.{openNow, empty, afterRoot, lastSite, placed, placeAgain, declared, fault}
 use Rattle.trace.proofs.Scan.{now}
 use Rattle.trace.proofs.Sites.{sites-append, Numbered}
 use Rattle.admit.specs.declared.Tally.{Tally}
@@ -86,18 +86,17 @@ make a d x z w k u v t e g h = rw (e, g, h) (go a z w k)
     go false false false true = refl
     go false false false false = refl
 
--- o: sites alone come before; q: the number is the next; m: above M; g: the place again
-site : (a d : Bool) (o q m g r : Bool) (u v t : Tally) → d ≡ a → u ≡ v → r ≡ g
-    → cond d (refuse t 7) (cond o (cond q (cond m (refuse t 9) (cond r (refuse t 10) (next u))) (refuse t 8)) (refuse t 8)) ≡ outcome (cond a 7 (cond (not o || not q) 8 (cond m 9 (cond g 10 0)))) v t
-site a d o q m g r u v t e h k = rw (e, h, k) (go a o q m g)
+-- q: the number is the next; m: above M; g: the place again
+site : (a d : Bool) (q m g r : Bool) (u v t : Tally) → d ≡ a → u ≡ v → r ≡ g
+    → cond d (refuse t 7) (cond q (cond m (refuse t 9) (cond r (refuse t 10) (next u))) (refuse t 8)) ≡ outcome (cond a 7 (cond (not q) 8 (cond m 9 (cond g 10 0)))) v t
+site a d q m g r u v t e h k = rw (e, h, k) (go a q m g)
   where
-    go : (a o q m g : Bool) → cond a (refuse t 7) (cond o (cond q (cond m (refuse t 9) (cond g (refuse t 10) (next v))) (refuse t 8)) (refuse t 8)) ≡ outcome (cond a 7 (cond (not o || not q) 8 (cond m 9 (cond g 10 0)))) v t
-    go true o q m g = refl
-    go false false q m g = refl
-    go false true false m g = refl
-    go false true true true g = refl
-    go false true true false true = refl
-    go false true true false false = refl
+    go : (a q m g : Bool) → cond a (refuse t 7) (cond q (cond m (refuse t 9) (cond g (refuse t 10) (next v))) (refuse t 8)) ≡ outcome (cond a 7 (cond (not q) 8 (cond m 9 (cond g 10 0)))) v t
+    go true q m g = refl
+    go false false m g = refl
+    go false true true g = refl
+    go false true false true = refl
+    go false true false false = refl
 
 -- the step on numbers is what the refusals say
 module _ (D M : ℕ) (before : List Frame) (again : Bool) (h : Numbered before) where
@@ -130,7 +129,7 @@ module _ (D M : ℕ) (before : List Frame) (again : Bool) (h : Numbered before) 
   step-is (Site s p) g =
       let e : sites before + 1 ≡ suc (lastSite 0 before) = omega (arith, h .last) in
       rw e
-      (site (afterRoot before) (eqb (length o) 0) (allSites before) (eqb s (suc (lastSite 0 before))) (ltb M s) (placed p before) again (behind (suc (lastSite 0 before)) (length o)) (tallyOf (before ++ Site s p ∷ [])) t
+      (site (afterRoot before) (eqb (length o) 0) (eqb s (suc (lastSite 0 before))) (ltb M s) (placed p before) again (behind (suc (lastSite 0 before)) (length o)) (tallyOf (before ++ Site s p ∷ [])) t
       (none-open o) (next-is before (Site s p) (suc (lastSite 0 before)) (length o) (omega (arith, h .last)) refl) g)
   step-is (Call s) g = make-is (Call s) s refl (omega arith)
   step-is (Spawn s) g = make-is (Spawn s) s refl (omega arith)

@@ -54,12 +54,10 @@ onward t sites depth = next (record { lines = t .lines + 1; sites = sites; depth
 -- a site line of site s: refusals 8, 9 and 10
 abbrev pub declaring : ℕ → Bool → ℕ → Tally → Tallied
 declaring M again s t =
-    cond (eqb (t .sites) (t .lines))
-    (cond (eqb s (t .sites + 1))
+    cond (eqb s (t .sites + 1))
     (cond (ltb M s) (refuse t 9)
     (cond again (refuse t 10)
     (onward t (t .sites + 1) (t .depth))))
-    (refuse t 8))
     (refuse t 8)
 
 -- a call or spawn of site s: refusals 11 and 12

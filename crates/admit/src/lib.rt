@@ -138,9 +138,6 @@ fn declare(t: Tally, site: usize, again: bool, limit: usize) -> Tallied
     requires { ⌜ (t .lines < 65536) × (t .sites ≤ t .lines) ⌝ }
     ensures { λ r. ⌜ r ≡ declaring limit again site t ⌝ }
 {
-    if t.sites != t.lines {
-        return refuse(t, 8);
-    }
     if site != t.sites + 1 {
         return refuse(t, 8);
     }

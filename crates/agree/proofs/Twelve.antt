@@ -1,7 +1,7 @@
 -- The twelve traces are marked as worked out by hand.
 use mathlib.Core.Path.{_≡_, refl, sym, _∙_, ap, subst}
 use mathlib.Core.Bool.{true}
-use mathlib.Core.List.{List, [], _∷_, _++_, map}
+use mathlib.Core.List.{List, [], _∷_, map}
 use Prim.Native.Nat.{ℕ}
 use lib.ListN.{length}
 use Rattle.chain.specs.Plan.{choose}
@@ -12,20 +12,20 @@ use Rattle.trace.specs.Twelve.{Case, twelve}
 use Rattle.trace.proofs.Basics.{clash}
 use Rattle.trace.proofs.Scan.{accepted-length}
 use Rattle.trace.proofs.Unique.{chosen-unique}
-use Rattle.trace.proofs.Twelve.{trees, heads, Row, expected, computed, test, chosen-here}
+use Rattle.trace.proofs.Twelve.{trees, sited, Row, expected, computed, test, chosen-here}
 use Rattle.agree.specs.Shown.{marked}
 use Rattle.agree.specs.Twelve.{chosenLines, MarkedAs, AllMarked, TwelveMarked}
 use Rattle.agree.proofs.Demand.{marked-chosen}
 
 -- the chosen chain, by the tree
 abbrev chosen : Body → List ℕ
-chosen b = linesIn (chainOf 2 0 b)
+chosen b = linesIn (chainOf 0 0 (sited b))
 
 marked-as : (c : Case) (b : Body) → expected c ≡ computed b → MarkedAs c (chosen b)
 marked-as c b e y h room =
     let a = ap (λ (r : Row). r .answer) e in
-    ap (marked (y .left .marks)) (sym (accepted-length (c .trace) 4 2 true (heads ++ linesOf b) a))
-    ∙ chosen-unique (heads ++ linesOf b) (marked (y .left .marks) (length (heads ++ linesOf b))) (chosen b) (marked-chosen (c .trace) 4 2 y h room (heads ++ linesOf b) a) (chosen-here (c .trace) b a)
+    ap (marked (y .left .marks)) (sym (accepted-length (c .trace) 4 2 true (linesOf (sited b)) a))
+    ∙ chosen-unique (linesOf (sited b)) (marked (y .left .marks) (length (linesOf (sited b)))) (chosen b) (marked-chosen (c .trace) 4 2 y h room (linesOf (sited b)) a) (chosen-here (c .trace) (sited b) a)
 
 all-marked : (cs : List Case) (bs : List Body) → map expected cs ≡ map computed bs → AllMarked cs (map chosen bs)
 all-marked [] [] e = tt

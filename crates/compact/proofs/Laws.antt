@@ -1,20 +1,20 @@
 -- The laws of request g over the definitions of 01: a compacted trace passes, nothing that is profiled changes, and once is
 -- enough. Assumes nothing.
 use mathlib.Core.Path.{_≡_, refl, sym, _∙_, ap, subst}
-use mathlib.Core.List.{List, [], _++_}
-use Prim.Native.Nat.{ℕ, zero, suc, _+_, _≤_}
+use mathlib.Core.List.{List, []}
+use Prim.Native.Nat.{ℕ, zero, suc, _≤_}
 use native.Mathlib.Omega.{arith}
-use lib.ListN.{length, length-append}
+use lib.ListN.{length}
 use Rattle.line.specs.declared.Frame.{Frame}
 use Rattle.trace.specs.Shape.{root, sites}
 use Rattle.trace.specs.Series.{Span, Chosen}
 use Rattle.trace.specs.Rows.{Spans, onSpan}
-use Rattle.trace.specs.Tree.{Body, linesOf, Within, AllSites, Parts, rootAt, workOf, localOf, spanOf, rowSum, outerRow, callsIn, workIn, spansIn, localIn}
+use Rattle.trace.specs.Tree.{Body, linesOf, Within, Parts, workOf, localOf, spanOf, rowSum, outerRow, callsIn, workIn, spansIn, localIn}
 use Rattle.trace.proofs.Scan.{Fine}
 use Rattle.trace.proofs.Parse.{parts}
-use Rattle.trace.proofs.Tree.{size-is, no-sites-lines}
-use Rattle.trace.proofs.Sites.{sites-none, sites-append}
-use Rattle.trace.proofs.Accept.{heads-sites, fine-is-trace, trace-is-fine}
+use Rattle.trace.proofs.Tree.{size-is}
+use Rattle.trace.proofs.Named.{Named, sites-alike}
+use Rattle.trace.proofs.Accept.{fine-is-trace, trace-is-fine}
 use Rattle.trace.proofs.Invocations.{root-paid}
 use Rattle.trace.proofs.Recurrence.{Paid}
 use Rattle.trace.proofs.Root.{root-span, root-span-only, root-chosen-only}
@@ -25,7 +25,7 @@ use Rattle.trace.proofs.Unique.{spans-unique}
 use Rattle.compact.specs.Fold.{compact}
 use Rattle.compact.specs.Unchanged.{Unchanged}
 use Rattle.compact.specs.Tree.{compactB}
-use Rattle.compact.proofs.Lines.{compact-lines}
+use Rattle.compact.proofs.Lines.{compact-lines, compact-naming}
 use Rattle.compact.proofs.Sums.{compact-within, compact-size, compact-work, compact-local, packed-made, packed-outer}
 use Rattle.compact.proofs.Spans.{compact-span, compact-on}
 use Rattle.compact.proofs.Once.{compact-once}
@@ -55,27 +55,19 @@ compact-locals = row-same localOf (λ g w. compact-local g)
 
 -- ── over the definitions ──
 
--- the sites are those of the site lines
-sites-stay : (t heads : List Frame) (b : Body) → t ≡ heads ++ linesOf b → AllSites heads → sites (compact t) ≡ sites t
-sites-stay t heads b e a =
-    let count : (c : Body) → sites (heads ++ linesOf c) ≡ sites heads = λ c. omega (arith, sites-append heads (linesOf c), sites-none (linesOf c) (no-sites-lines c)) in
-    ap sites (ap compact e ∙ compact-lines heads b a) ∙ count (compactB b) ∙ sym (count b) ∙ sym (ap sites e)
-
 module _ (D : ℕ) (t : List Frame) (p : Parts D t) where
   abbrev u : List Frame
   u = compact t
 
   pub same-sites : sites u ≡ sites t
-  same-sites = sites-stay t (p .heads) (p .body) (p .lines) (p .all-sites)
+  same-sites = sites-alike u t (compact-naming t (p .body) (p .lines))
 
-  -- the compacted trace has the sites of the trace and the compacted tree, within the same limits
+  -- the compacted trace has the compacted tree, within the same limits
   abbrev pub compact-parts : Parts D u
   compact-parts =
       record {
-        heads = p .heads;
         body = compactB (p .body);
-        lines = ap compact (p .lines) ∙ compact-lines (p .heads) (p .body) (p .all-sites);
-        all-sites = p .all-sites;
+        lines = ap compact (p .lines) ∙ compact-lines (p .body);
         within = subst (λ (m : ℕ). Within m D 1 (compactB (p .body))) (sym same-sites) (compact-within (sites t) D 1 (p .body) (p .within));
       }
 
@@ -89,7 +81,7 @@ module _ (D : ℕ) (t : List Frame) (p : Parts D t) where
   same-on-span c d h k s =
       ap (λ (l : List ℕ). onSpan u l s) (root-chosen-only D u q d k)
       ∙ on-span-tree D u q s
-      ∙ compact-on (p .body) (rootAt q) (rootAt p) 0 s w
+      ∙ compact-on (p .body) 0 0 0 s w
       ∙ sym (on-span-tree D t p s)
       ∙ sym (ap (λ (l : List ℕ). onSpan t l s) (root-chosen-only D t p c h))
 
@@ -112,8 +104,8 @@ module _ (D : ℕ) (t : List Frame) (p : Parts D t) where
   pub twice-is-once : compact u ≡ u
   twice-is-once =
       ap compact (q .lines)
-      ∙ compact-lines (p .heads) (compactB (p .body)) (p .all-sites)
-      ∙ ap (λ (b : Body). p .heads ++ linesOf b) (compact-once (p .body) w)
+      ∙ compact-lines (compactB (p .body))
+      ∙ ap linesOf (compact-once (p .body) w)
       ∙ sym (q .lines)
 
   -- LAW: never longer
@@ -123,8 +115,6 @@ module _ (D : ℕ) (t : List Frame) (p : Parts D t) where
         arith,
         ap length (q .lines),
         ap length (p .lines),
-        length-append (p .heads) (linesOf (compactB (p .body))),
-        length-append (p .heads) (linesOf (p .body)),
         size-is (compactB (p .body)),
         size-is (p .body),
         compact-size (p .body),
@@ -134,13 +124,7 @@ module _ (D : ℕ) (t : List Frame) (p : Parts D t) where
 pub compact-fine : (D M : ℕ) (t : List Frame) → Fine D M t → Fine D M (compact t)
 compact-fine D M t f =
     let x = fine-is-trace D M t f in
-    let a = heads-sites M [] (x .heads) (x .heads-ok) in
     let p = parts D M t f in
+    let q = compact-parts D t p in
     trace-is-fine D M (compact t) (f .least) (f .most) (f .sites-most) (omega (arith, f .lines-most, never-longer D t p))
-    (record {
-      heads = x .heads;
-      body = compactB (x .body);
-      lines = ap compact (x .lines) ∙ compact-lines (x .heads) (x .body) a;
-      heads-ok = x .heads-ok;
-      within = subst (λ (m : ℕ). Within m D 1 (compactB (x .body))) (sym (sites-stay t (x .heads) (x .body) (x .lines) a)) (compact-within (sites t) D 1 (x .body) (x .within));
-    })
+    (record { body = q .body; lines = q .lines; named = subst (Named M []) (sym (compact-naming t (p .body) (p .lines))) (x .named); within = q .within })

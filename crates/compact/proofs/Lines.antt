@@ -1,21 +1,23 @@
 -- The compacted trace's lines are those of the compacted tree. Assumes nothing.
-use mathlib.Core.Path.{_≡_, refl, sym, _∙_, ap}
+use mathlib.Core.Path.{_≡_, refl, sym, _∙_, ap, ap₂}
 use mathlib.Core.Bool.{Bool, true, false, not, cond, _||_}
 use mathlib.Core.List.{List, [], _∷_, _++_, append-assoc, append-nil}
 use Prim.Native.Nat.{ℕ, zero, suc, _+_}
 use lib.Dec.{leb}
 use Rattle.line.specs.declared.Frame.{Frame}
 use Rattle.line.specs.declared.Frame.the-variants.{Site, Sync}
-use Rattle.trace.specs.Tree.{Way, call, spawn, opening, spend, sync, Body, done, leaf, child, linesOf, AllSites}
-use Rattle.trace.proofs.Cases.{at-site}
+use Rattle.trace.specs.Tree.{Way, call, spawn, opening, site, spend, sync, note, Body, done, leaf, child, linesOf}
+use Rattle.trace.proofs.Named.{naming, naming-append}
 use Rattle.compact.specs.Compact.{mostValue, summed, mergedFrom}
 use Rattle.compact.specs.Fold.{onlySyncs, keptFrom, compact}
 use Rattle.compact.specs.Tree.{ends, later, summedB, packed, compactB}
+use Rattle.compact.proofs.Sums.{cost-either, sync-either}
 
 ends-is : (b : Body) (u : List Frame) → onlySyncs (linesOf b ++ u) ≡ ends b
 ends-is done u = refl
 ends-is (leaf (spend v) r) u = refl
 ends-is (leaf sync r) u = ends-is r u
+ends-is (leaf (note (site s p)) r) u = refl
 ends-is (child call s g r) u = refl
 ends-is (child spawn s g r) u = refl
 
@@ -54,6 +56,8 @@ packed-lines (leaf sync r) x h o u =
         → mergedFrom h (cond e k (Sync ∷ k)) ≡ After (cond e (packed false h r) (summedB h (leaf sync (packed false 0 r)))) o u
     go true a b = a
     go false a b = ap (λ (l : List Frame). summed h (Sync ∷ l)) b ∙ summed-lines h (leaf sync (packed false 0 r)) (mergedFrom 0 (keptFrom o u))
+packed-lines (leaf (note (site s p)) r) x h o u =
+    ap (λ (l : List Frame). summed h (Site s p ∷ l)) (packed-lines r x 0 o u) ∙ summed-lines h (leaf (note (site s p)) (packed x 0 r)) (mergedFrom 0 (keptFrom o u))
 packed-lines (child w s g r) x h o u =
     let y = later w x in
     opened w s h x o ((linesOf g ++ linesOf r) ++ u)
@@ -64,16 +68,36 @@ packed-lines (child w s g r) x h o u =
     ∙ sym (append-assoc (linesOf (compactB g)) (linesOf (packed y 0 r)) (mergedFrom 0 (keptFrom o u))))
     ∙ summed-lines h (child w s (compactB g) (packed y 0 r)) (mergedFrom 0 (keptFrom o u))
 
--- the sites before it stay
-heads-stay : (h u : List Frame) (o : List Bool) → AllSites h → mergedFrom 0 (keptFrom o (h ++ u)) ≡ h ++ mergedFrom 0 (keptFrom o u)
-heads-stay [] u o a = refl
-heads-stay (f ∷ h) u o a =
-    at-site (λ g. mergedFrom 0 (keptFrom o (g ∷ (h ++ u))) ≡ g ∷ (h ++ mergedFrom 0 (keptFrom o u)))
-    (λ s p. ap (λ (l : List Frame). Site s p ∷ l) (heads-stay h u o (a .1))) f (a .0)
+-- LAW: the compacted trace's lines are those of the compacted tree
+pub compact-lines : (b : Body) → compact (linesOf b) ≡ linesOf (compactB b)
+compact-lines b = ap compact (sym (append-nil (linesOf b))) ∙ packed-lines b false 0 [] [] ∙ append-nil (linesOf (compactB b))
 
--- LAW: the compacted trace's lines are its sites and then the lines of the compacted tree
-pub compact-lines : (h : List Frame) (b : Body) → AllSites h → compact (h ++ linesOf b) ≡ h ++ linesOf (compactB b)
-compact-lines h b a =
-    ap (λ (l : List Frame). compact (h ++ l)) (sym (append-nil (linesOf b)))
-    ∙ heads-stay h (linesOf b ++ []) (false ∷ []) a
-    ∙ ap (λ (l : List Frame). h ++ l) (packed-lines b false 0 [] [] ∙ append-nil (linesOf (compactB b)))
+-- ── its sites ──
+
+opening-naming : (w : Way) (s : ℕ) (t u : List Frame) → naming t ≡ naming u → naming (opening w s ∷ t) ≡ naming (opening w s ∷ u)
+opening-naming call s t u e = ap (λ (l : List Frame). opening call s ∷ l) e
+opening-naming spawn s t u e = ap (λ (l : List Frame). opening spawn s ∷ l) e
+
+summed-naming : (h : ℕ) (b : Body) → naming (linesOf (summedB h b)) ≡ naming (linesOf b)
+summed-naming zero b = refl
+summed-naming (suc h) b = refl
+
+packed-naming : (b : Body) (x : Bool) (h : ℕ) → naming (linesOf (packed x h b)) ≡ naming (linesOf b)
+packed-naming done x h = summed-naming h done
+packed-naming (leaf (spend v) r) x h =
+    cost-either (λ b. naming (linesOf b) ≡ naming (linesOf r)) x h v r (λ q. packed-naming r x (h + v)) (λ q. summed-naming h (packed x v r) ∙ packed-naming r x v)
+packed-naming (leaf sync r) x h =
+    sync-either (λ b. naming (linesOf b) ≡ naming (linesOf r)) x h r (packed-naming r false h) (summed-naming h (leaf sync (packed false 0 r)) ∙ packed-naming r false 0)
+packed-naming (leaf (note (site s p)) r) x h =
+    summed-naming h (leaf (note (site s p)) (packed x 0 r)) ∙ ap (λ (l : List Frame). Site s p ∷ l) (packed-naming r x 0)
+packed-naming (child w s g r) x h =
+    let y = later w x in
+    summed-naming h (child w s (compactB g) (packed y 0 r))
+    ∙ opening-naming w s (linesOf (compactB g) ++ linesOf (packed y 0 r)) (linesOf g ++ linesOf r)
+    (naming-append (linesOf (compactB g)) (linesOf (packed y 0 r))
+    ∙ ap₂ (λ (k l : List Frame). k ++ l) (packed-naming g false 0) (packed-naming r y 0)
+    ∙ sym (naming-append (linesOf g) (linesOf r)))
+
+-- LAW: it names its sites as it did
+pub compact-naming : (t : List Frame) (b : Body) → t ≡ linesOf b → naming (compact t) ≡ naming t
+compact-naming t b e = ap naming (ap compact e ∙ compact-lines b) ∙ packed-naming b false 0 ∙ sym (ap naming e)

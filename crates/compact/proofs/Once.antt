@@ -5,7 +5,7 @@ use mathlib.Core.Bool.{Bool, true, false, not, cond, _||_}
 use Prim.Native.Nat.{ℕ, zero, suc, _+_, _≤_, _<_}
 use native.Mathlib.Omega.{arith}
 use borrow.Author.Tests.{lt-leb}
-use Rattle.trace.specs.Tree.{spend, sync, Body, done, leaf, child}
+use Rattle.trace.specs.Tree.{spend, sync, note, Body, done, leaf, child}
 use Rattle.trace.proofs.Basics.{clash}
 use Rattle.trace.proofs.Recurrence.{Paid}
 use Rattle.compact.specs.Compact.{mostValue}
@@ -22,6 +22,7 @@ abbrev Firm : Bool → ℕ → Body → Type 0
 Firm x h done = Unit {0}
 Firm x h (leaf (spend v) r) = Apart h v × Firm x v r
 Firm x h (leaf sync r) = (x ≡ true) × (ends r ≡ false) × Firm false 0 r
+Firm x h (leaf (note n) r) = Firm x 0 r
 Firm x h (child w s g r) = Firm false 0 g × Firm (later w x) 0 r
 
 -- ── what is firm stays ──
@@ -46,6 +47,7 @@ firm-stays (leaf sync r) x h w k =
     ap (λ (y : Bool). cond (not y || ends r) (packed false h r) (summedB h (leaf sync (packed false 0 r)))) (k .0)
     ∙ ap (λ (e : Bool). cond e (packed false h r) (summedB h (leaf sync (packed false 0 r)))) (k .1)
     ∙ ap (λ (b : Body). summedB h (leaf sync b)) (firm-stays r false 0 (w .1) (k .2))
+firm-stays (leaf (note n) r) x h w k = ap (λ (b : Body). summedB h (leaf (note n) b)) (firm-stays r x 0 (w .1) k)
 firm-stays (child y s g r) x h w k =
     ap (λ (b : Body). summedB h (child y s b (packed (later y x) 0 r))) (firm-stays g false 0 (w .0) (k .0))
     ∙ ap (λ (b : Body). summedB h (child y s g b)) (firm-stays r (later y x) 0 (w .1) (k .1))
@@ -61,6 +63,7 @@ cost-ends : (b : Body) (x : Bool) (h : ℕ) → 1 ≤ h → ends (packed x h b) 
 cost-ends done x h l = summed-ends h done l
 cost-ends (leaf (spend v) r) x h l = cost-either (λ b. ends b ≡ false) x h v r (λ q. cost-ends r x (h + v) (omega arith)) (λ q. summed-ends h (packed x v r) l)
 cost-ends (leaf sync r) x h l = sync-either (λ b. ends b ≡ false) x h r (cost-ends r false h l) (summed-ends h (leaf sync (packed false 0 r)) l)
+cost-ends (leaf (note n) r) x h l = summed-ends h (leaf (note n) (packed x 0 r)) l
 cost-ends (child y s g r) x h l = summed-ends h (child y s (compactB g) (packed (later y x) 0 r)) l
 
 ends-packed : (b : Body) → Paid b → ends b ≡ false → ends (compactB b) ≡ false
@@ -68,6 +71,7 @@ ends-packed done w e = e
 ends-packed (leaf (spend v) r) w e =
     cost-either (λ b. ends b ≡ false) false 0 v r (λ q. cost-ends r false (0 + v) (omega (arith, w .0))) (λ q. cost-ends r false v (w .0))
 ends-packed (leaf sync r) w e = ends-packed r (w .1) e
+ends-packed (leaf (note n) r) w e = refl
 ends-packed (child y s g r) w e = refl
 
 -- where only syncs are left nothing is
@@ -75,6 +79,7 @@ pub ends-done : (b : Body) (h : ℕ) → ends b ≡ true → packed false h b �
 ends-done done h e = refl
 ends-done (leaf (spend v) r) h e = clash (cc)
 ends-done (leaf sync r) h e = ends-done r h e
+ends-done (leaf (note n) r) h e = clash (cc)
 ends-done (child y s g r) h e = clash (cc)
 
 -- a sum before what is firm whatever stands before it
@@ -101,6 +106,7 @@ packed-firm (leaf sync r) true k h w a = go (ends r) refl (packed-firm r false 0
     go : (e : Bool) → ends r ≡ e → Firm false 0 (compactB r) → Firm true k (cond e (packed false h r) (summedB h (leaf sync (compactB r))))
     go true q f = subst (Firm true k) (sym (ends-done r h q)) (firm-summed true k h done a (λ j. tt))
     go false q f = firm-summed true k h (leaf sync (compactB r)) a (λ j. (refl, ends-packed r (w .1) q, f))
+packed-firm (leaf (note n) r) x k h w a = let p = packed-firm r x 0 0 (w .1) (inl refl) in firm-summed x k h (leaf (note n) (packed x 0 r)) a (λ j. p)
 packed-firm (child y s g r) x k h w a =
     let p = packed-firm g false 0 0 (w .0) (inl refl) in
     let q = packed-firm r (later y x) 0 0 (w .1) (inl refl) in

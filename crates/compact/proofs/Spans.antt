@@ -3,7 +3,7 @@ use mathlib.Core.Path.{_≡_, refl, sym, _∙_, ap, subst}
 use mathlib.Core.Bool.{Bool, true, false, cond}
 use Prim.Native.Nat.{ℕ, zero, suc, _+_}
 use Rattle.chain.specs.Plan.{none, cost, seq, weight, pick}
-use Rattle.trace.specs.Tree.{Way, call, spawn, spend, sync, Body, done, leaf, child, size, spanOf}
+use Rattle.trace.specs.Tree.{Way, call, spawn, Note, spend, sync, note, Body, done, leaf, child, size, spanOf}
 use Rattle.trace.specs.Fold.{costAt, block, after, plan, chainOf, onRow}
 use Rattle.trace.proofs.Basics.{clash}
 use Rattle.trace.proofs.Recurrence.{Paid, chain-is-pick, weight-chain}
@@ -88,6 +88,7 @@ ends-none : (b : Body) → ends b ≡ true → (n s : ℕ) → Same (plan n s b)
 ends-none done e n s = same-left none
 ends-none (leaf (spend v) r) e n s = clash (cc)
 ends-none (leaf sync r) e n s = same-trans (same-left (plan (suc n) s r)) (ends-none r e (suc n) s)
+ends-none (leaf (note x) r) e n s = clash (cc)
 ends-none (child y i g r) e n s = clash (cc)
 
 -- with a spawn since: it goes where nothing is left behind it, and stays otherwise
@@ -103,6 +104,14 @@ sync-both h r w = go (ends r) refl
 -- without one it goes
 sync-whole : (h : ℕ) (r : Body) → WholeWith h (packed false h r) r → WholeWith h (packed false h (leaf sync r)) (leaf sync r)
 sync-whole h r w n k s = same-trans (w n (suc k) s) (same-seq (same-refl (held s h)) (same-sym (same-left (plan (suc k) s r))))
+
+-- ── a line that weighs nothing and joins nothing ──
+
+note-both : (x : Note) (a r : Body) → Both a r → Both (leaf (note x) a) (leaf (note x) r)
+note-both x a r w n k s = w (suc n) (suc k) s
+
+note-whole : (x : Note) (a r : Body) → Whole a r → Whole (leaf (note x) a) (leaf (note x) r)
+note-whole x a r w n k s = w (suc n) (suc k) s
 
 -- ── an invocation ──
 
@@ -136,6 +145,11 @@ packed-same (leaf (spend v) r) =
           (λ q. summed-whole h (packed false v r) (leaf (spend v) r) (line-whole v (packed false v r) r (p .1 v))),
     )
 packed-same (leaf sync r) = let p = packed-same r in (λ h. sync-both h r (zero-whole (compactB r) r (p .1 0)), λ h. sync-whole h r (p .1 h))
+packed-same (leaf (note x) r) =
+    let p = packed-same r in (
+      λ h. summed-both h (leaf (note x) (packed true 0 r)) (leaf (note x) r) (note-both x (packed true 0 r) r (zero-both (packed true 0 r) r (p .0 0))),
+      λ h. summed-whole h (leaf (note x) (compactB r)) (leaf (note x) r) (note-whole x (compactB r) r (zero-whole (compactB r) r (p .1 0))),
+    )
 packed-same (child call i g r) =
     let p = zero-whole (compactB g) g (packed-same g .1 0) in
     let q = packed-same r in (

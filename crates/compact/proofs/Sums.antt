@@ -6,7 +6,7 @@ use Prim.Native.Nat.{ℕ, zero, suc, _+_, _≤_, _<_}
 use native.Mathlib.Omega.{arith}
 use lib.Dec.{eqb, leb}
 use borrow.Author.Tests.{leb-true, leb-false}
-use Rattle.trace.specs.Tree.{spend, sync, Body, done, leaf, child, size, Within, workOf, localOf, madeSum, outerSum}
+use Rattle.trace.specs.Tree.{spend, sync, note, Body, done, leaf, child, size, Within, workOf, localOf, madeSum, outerSum}
 use Rattle.trace.proofs.Recurrence.{Paid}
 use Rattle.compact.specs.Compact.{mostValue}
 use Rattle.compact.specs.Tree.{ends, later, summedB, packed, compactB}
@@ -44,6 +44,7 @@ module _ (m D : ℕ) where
   packed-within d (leaf sync r) x h l w =
       sync-either (Within m D d) x h r (packed-within d r false h l (w .1))
       (summed-within d h (leaf sync (packed false 0 r)) l (tt, packed-within d r false 0 (omega arith) (w .1)))
+  packed-within d (leaf (note n) r) x h l w = summed-within d h (leaf (note n) (packed x 0 r)) l (tt, packed-within d r x 0 (omega arith) (w .1))
   packed-within d (child y s g r) x h l w =
       summed-within d h (child y s (compactB g) (packed (later y x) 0 r)) l
       (w .0, w .1, w .2, packed-within (suc d) g false 0 (omega arith) (w .3), packed-within d r (later y x) 0 (omega arith) (w .4))
@@ -60,6 +61,7 @@ pub packed-paid : (b : Body) (x : Bool) (h : ℕ) → Paid b → Paid (packed x 
 packed-paid done x h w = summed-paid h done tt
 packed-paid (leaf (spend v) r) x h w = cost-either Paid x h v r (λ q. packed-paid r x (h + v) (w .1)) (λ q. summed-paid h (packed x v r) (packed-paid r x v (w .1)))
 packed-paid (leaf sync r) x h w = sync-either Paid x h r (packed-paid r false h (w .1)) (summed-paid h (leaf sync (packed false 0 r)) (tt, packed-paid r false 0 (w .1)))
+packed-paid (leaf (note n) r) x h w = summed-paid h (leaf (note n) (packed x 0 r)) (tt, packed-paid r x 0 (w .1))
 packed-paid (child y s g r) x h w = summed-paid h (child y s (compactB g) (packed (later y x) 0 r)) (packed-paid g false 0 (w .0), packed-paid r (later y x) 0 (w .1))
 
 -- ── never longer ──
@@ -83,6 +85,7 @@ packed-size (leaf sync r) x h =
     sync-either (λ b. size b ≤ size (summedB h (leaf sync r))) x h r
     (omega (arith, packed-size r false h, summed-size h r (leaf sync r) (omega arith)))
     (summed-size h (leaf sync (packed false 0 r)) (leaf sync r) (omega (arith, packed-size r false 0)))
+packed-size (leaf (note n) r) x h = summed-size h (leaf (note n) (packed x 0 r)) (leaf (note n) r) (omega (arith, packed-size r x 0))
 packed-size (child y s g r) x h =
     summed-size h (child y s (compactB g) (packed (later y x) 0 r)) (child y s g r) (omega (arith, packed-size g false 0, packed-size r (later y x) 0))
 
@@ -102,6 +105,7 @@ packed-work (leaf (spend v) r) x h =
     cost-either (λ b. workOf b ≡ h + (v + workOf r)) x h v r (λ q. omega (arith, packed-work r x (h + v))) (λ q. omega (arith, summed-work h (packed x v r), packed-work r x v))
 packed-work (leaf sync r) x h =
     sync-either (λ b. workOf b ≡ h + (0 + workOf r)) x h r (omega (arith, packed-work r false h)) (omega (arith, summed-work h (leaf sync (packed false 0 r)), packed-work r false 0))
+packed-work (leaf (note n) r) x h = omega (arith, summed-work h (leaf (note n) (packed x 0 r)), packed-work r x 0)
 packed-work (child y s g r) x h = omega (arith, summed-work h (child y s (compactB g) (packed (later y x) 0 r)), packed-work g false 0, packed-work r (later y x) 0)
 
 summed-local : (h : ℕ) (b : Body) → localOf (summedB h b) ≡ h + localOf b
@@ -114,6 +118,7 @@ packed-local (leaf (spend v) r) x h =
     cost-either (λ b. localOf b ≡ h + (v + localOf r)) x h v r (λ q. omega (arith, packed-local r x (h + v))) (λ q. omega (arith, summed-local h (packed x v r), packed-local r x v))
 packed-local (leaf sync r) x h =
     sync-either (λ b. localOf b ≡ h + (0 + localOf r)) x h r (omega (arith, packed-local r false h)) (omega (arith, summed-local h (leaf sync (packed false 0 r)), packed-local r false 0))
+packed-local (leaf (note n) r) x h = omega (arith, summed-local h (leaf (note n) (packed x 0 r)), packed-local r x 0)
 packed-local (child y s g r) x h = omega (arith, summed-local h (child y s (compactB g) (packed (later y x) 0 r)), packed-local r (later y x) 0)
 
 -- LAW
@@ -138,6 +143,7 @@ module _ (f : Body → ℕ) (same : (g : Body) → Paid g → f (compactB g) ≡
       cost-either (λ b. madeSum f s b ≡ madeSum f s r) x h v r (λ q. packed-made r x (h + v) (w .1)) (λ q. summed-made h (packed x v r) ∙ packed-made r x v (w .1))
   packed-made (leaf sync r) x h w =
       sync-either (λ b. madeSum f s b ≡ madeSum f s r) x h r (packed-made r false h (w .1)) (summed-made h (leaf sync (packed false 0 r)) ∙ packed-made r false 0 (w .1))
+  packed-made (leaf (note n) r) x h w = summed-made h (leaf (note n) (packed x 0 r)) ∙ packed-made r x 0 (w .1)
   packed-made (child y i g r) x h w =
       omega (
         arith,
@@ -157,6 +163,7 @@ module _ (f : Body → ℕ) (same : (g : Body) → Paid g → f (compactB g) ≡
       cost-either (λ b. outerSum f s b ≡ outerSum f s r) x h v r (λ q. packed-outer r x (h + v) (w .1)) (λ q. summed-outer h (packed x v r) ∙ packed-outer r x v (w .1))
   packed-outer (leaf sync r) x h w =
       sync-either (λ b. outerSum f s b ≡ outerSum f s r) x h r (packed-outer r false h (w .1)) (summed-outer h (leaf sync (packed false 0 r)) ∙ packed-outer r false 0 (w .1))
+  packed-outer (leaf (note n) r) x h w = summed-outer h (leaf (note n) (packed x 0 r)) ∙ packed-outer r x 0 (w .1)
   packed-outer (child y i g r) x h w =
       summed-outer h (child y i (compactB g) (packed (later y x) 0 r))
       ∙ ap (λ (n : ℕ). cond (eqb i s) n (outerSum f s (compactB g)) + outerSum f s (packed (later y x) 0 r)) (same g (w .0))

@@ -58,6 +58,12 @@ cases =
     -- sites stay: site 1, site 2, sync, spawn 1 {sync, spawn 2 {6, 1}, sync}, 2, sync, 1, sync
     ∷ case (Site 1 (record { file = 1; line = 10; column = 5 }) ∷ Site 2 (record { file = 1; line = 20; column = 9 }) ∷ Sync ∷ Spawn 1 ∷ Sync ∷ Spawn 2 ∷ Cost 6 ∷ Cost 1 ∷ Return ∷ Sync ∷ Return ∷ Cost 2 ∷ Sync ∷ Cost 1 ∷ Sync ∷ Return ∷ [])
     (Site 1 (record { file = 1; line = 10; column = 5 }) ∷ Site 2 (record { file = 1; line = 20; column = 9 }) ∷ Spawn 1 ∷ Spawn 2 ∷ Cost 7 ∷ Return ∷ Return ∷ Cost 2 ∷ Sync ∷ Cost 1 ∷ Return ∷ [])
+    -- 02, request j, costs with a site line between are not adjacent, whatever syncs are dropped around it: 1, sync, site 1, sync, 2
+    ∷ case (Cost 1 ∷ Sync ∷ Site 1 (record { file = 1; line = 10; column = 5 }) ∷ Sync ∷ Cost 2 ∷ Return ∷ [])
+    (Cost 1 ∷ Site 1 (record { file = 1; line = 10; column = 5 }) ∷ Cost 2 ∷ Return ∷ [])
+    -- a site line is no sync, so the sync before it stays: site 1, spawn 1 {4}, sync, site 2, sync
+    ∷ case (Site 1 (record { file = 1; line = 10; column = 5 }) ∷ Spawn 1 ∷ Cost 4 ∷ Return ∷ Sync ∷ Site 2 (record { file = 1; line = 20; column = 9 }) ∷ Sync ∷ Return ∷ [])
+    (Site 1 (record { file = 1; line = 10; column = 5 }) ∷ Spawn 1 ∷ Cost 4 ∷ Return ∷ Sync ∷ Site 2 (record { file = 1; line = 20; column = 9 }) ∷ Return ∷ [])
     ∷ []
 
 -- each is compacted as its case says, and compacting that once more changes nothing

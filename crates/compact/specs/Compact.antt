@@ -51,7 +51,8 @@ summed zero u = u
 summed (suc h) u = Cost (suc h) ∷ u
 
 -- "Then adjacent cost lines merge from the left while the sum fits a value, and a sum that would not fit starts a new
--- line"; h: the sum of the costs directly before
+-- line"; h: the sum of the costs directly before. 02, request j: "two costs with one", a site line, "between them are not
+-- adjacent for the compactor".
 abbrev pub mergedFrom : ℕ → List Frame → List Frame
 mergedFrom h [] = summed h []
 mergedFrom h (f ∷ t) =

@@ -16,8 +16,7 @@ use Rattle.line.specs.Read.{readAt}
 use Rattle.trace.specs.Shape.{closed, sites}
 use Rattle.trace.specs.Refusals.{accepted, verdict}
 use Rattle.trace.specs.Refusals.{Verdict as Judgement}
-use Rattle.trace.specs.Tree.{call, spawn, spend, sync, Body, done, leaf, child, linesOf, Within, AllSites}
-use Rattle.trace.proofs.Cases.{at-site}
+use Rattle.trace.specs.Tree.{call, spawn, site, spend, sync, note, Body, done, leaf, child, linesOf, Within}
 use Rattle.trace.proofs.Scan.{Fine, accepted-is, accepted-fine, accepted-reads}
 use Rattle.trace.proofs.Parse.{parts}
 use Rattle.trace.proofs.Accept.{sites-le-M}
@@ -39,30 +38,24 @@ use Rattle.folded.specs.Write as Write
 use Rattle.folded.specs.Whole.{Admitted, Decided}
 use Rattle.folded.proofs.Tied.{folded-prints}
 
--- The lines of an accepted trace, by its tree: the root's body, with other lines behind it, and site lines before it.
+-- The lines of an accepted trace, by its tree: the root's body, with other lines behind it.
 
 flows-body : (m D : ℕ) (b : Body) (o : List ℕ) (u : List Frame) → 1 ≤ length o → Few m D o → Within m D (length o) b → Flows m D (closed o) u → Flows m D o (linesOf b ++ u)
 flows-body m D done o u a l w h = (a, l, h)
 flows-body m D (leaf (spend v) r) o u a l w h = (a, l, flows-body m D r o u a l (w .1) h)
 flows-body m D (leaf sync r) o u a l w h = (a, l, flows-body m D r o u a l (w .1) h)
+flows-body m D (leaf (note (site i p)) r) o u a l w h = (a, l, flows-body m D r o u a l (w .1) h)
 flows-body m D (child call s g r) o u a l w h =
     (a, l, subst (Flows m D (s ∷ o)) (sym (append-assoc (linesOf g) (linesOf r) u)) (flows-body m D g (s ∷ o) (linesOf r ++ u) (omega arith) (record { rows = (w .1, l .rows); deep = w .2 }) (w .3) (flows-body m D r o u a l (w .4) h)))
 flows-body m D (child spawn s g r) o u a l w h =
     (a, l, subst (Flows m D (s ∷ o)) (sym (append-assoc (linesOf g) (linesOf r) u)) (flows-body m D g (s ∷ o) (linesOf r ++ u) (omega arith) (record { rows = (w .1, l .rows); deep = w .2 }) (w .3) (flows-body m D r o u a l (w .4) h)))
-
-flows-sites : (m D : ℕ) (t u : List Frame) → 1 ≤ D → AllSites t → Flows m D (0 ∷ []) u → Flows m D (0 ∷ []) (t ++ u)
-flows-sites m D [] u d a h = h
-flows-sites m D (f ∷ t) u d a h =
-    at-site (λ g. Flows m D (0 ∷ []) (g ∷ (t ++ u)))
-    (λ s p. (omega arith, record { rows = (omega arith, tt); deep = d }, flows-sites m D t u d (a .1) h)) f (a .0)
 
 pub fine-flows : (D M : ℕ) (t : List Frame) → Fine D M t → Flows (sites t) D (0 ∷ []) t
 fine-flows D M t fine =
     let p = parts D M t fine in
     let m = sites t in
     let b = flows-body m D (p .body) (0 ∷ []) [] (omega arith) (record { rows = (omega arith, tt); deep = fine .least }) (p .within) refl in
-    let c = flows-sites m D (p .heads) (linesOf (p .body)) (fine .least) (p .all-sites) (subst (Flows m D (0 ∷ [])) (append-nil (linesOf (p .body))) b) in
-    subst (Flows m D (0 ∷ [])) (sym (p .lines)) c
+    subst (Flows m D (0 ∷ [])) (append-nil (linesOf (p .body)) ∙ sym (p .lines)) b
 
 -- a refusal, with all as it was
 pub folds-refused : {d : Decision} (number line : ℕ) (out scratch : List ℕ) → d ≡ refuse number line → Folds d (Refused number line) out out scratch scratch

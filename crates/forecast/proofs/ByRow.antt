@@ -5,14 +5,12 @@ use mathlib.Core.List.{List, [], _∷_, _++_, append-assoc, append-nil}
 use Prim.Native.Nat.{ℕ, zero, suc, _+_, _≤_}
 use native.Mathlib.Omega.{arith}
 use lib.Dec.{eqb}
-use lib.ListN.{length}
 use borrow.Author.Tests.{eq-eqb, ne-eqb}
 use Rattle.line.specs.declared.Frame.{Frame}
 use Rattle.line.specs.declared.Frame.the-variants.{Return}
 use Rattle.trace.specs.Shape.{Is, root, step, has, sites}
 use Rattle.trace.specs.Rows.{ofRow}
-use Rattle.trace.specs.Tree.{Way, opening, lineOf, Body, done, leaf, child, linesOf, size, Within, AllSites, Parts, rootAt}
-use Rattle.trace.proofs.Cases.{at-site}
+use Rattle.trace.specs.Tree.{Way, opening, lineOf, Body, done, leaf, child, linesOf, size, Within, Parts}
 use Rattle.trace.proofs.Tree.{leaf-step, opening-step}
 use Rattle.trace.proofs.Sums.{not-made}
 use Rattle.trace.proofs.Columns.{first-is}
@@ -79,22 +77,12 @@ module _ (es : List Entry) (t : List Frame) where
       ∙ ap (λ (z : List Frame). opening y i ∷ z)
       (sym (append-assoc (linesOf (weighed w (suc n) i g)) (linesOf (weighed w (suc n + size g) s r)) (rewrittenFrom es t (n + suc (size g + size r)) o u)))
 
-  heads-of : (h : List Frame) (n : ℕ) (o : List ℕ) (u : List Frame) → AllSites h → rewrittenFrom es t n o (h ++ u) ≡ h ++ rewrittenFrom es t (n + length h) o u
-  heads-of [] n o u s = let e : n ≡ n + 0 = omega arith in ap (λ (k : ℕ). rewrittenFrom es t k o u) e
-  heads-of (f ∷ h) n o u s =
-      let e : suc n + length h ≡ n + suc (length h) = omega arith in
-      at-site (λ (g : Frame). rewrittenFrom es t n o (g ∷ (h ++ u)) ≡ g ∷ rewrittenFrom es t (suc n) o (h ++ u)) (λ i p. refl) f (s .0)
-      ∙ ap (λ (l : List Frame). f ∷ l) (heads-of h (suc n) o u (s .1) ∙ ap (λ (k : ℕ). h ++ rewrittenFrom es t k o u) e)
-
   -- LAW: the rewritten trace is the trace weighed by the entries
   pub rewritten-weighed : (D : ℕ) → Parts D t → rewritten es t ≡ reweighed (byEntries es) 0 (0 ∷ []) t
   rewritten-weighed D p =
-      let e : 0 + length (p .heads) ≡ length (p .heads) = omega arith in
       let w = byEntries es in
       ap (rewrittenFrom es t 0 (root ∷ [])) (whole D t p)
-      ∙ heads-of (p .heads) 0 (root ∷ []) (linesOf (p .body) ++ []) (p .all-sites)
-      ∙ ap (λ (k : ℕ). p .heads ++ rewrittenFrom es t k (root ∷ []) (linesOf (p .body) ++ [])) e
-      ∙ ap (λ (l : List Frame). p .heads ++ l)
-      (lines-of (sites t) D 1 (p .body) (rootAt p) root 0 [] [] (p .within) (of-root t) (root-ctx D t p) ∙ append-nil (linesOf (weighed w (rootAt p) 0 (p .body))))
-      ∙ sym (reweighed-trace w (p .heads) (p .body) (p .all-sites))
+      ∙ lines-of (sites t) D 1 (p .body) 0 root 0 [] [] (p .within) (of-root t) (root-ctx D t p)
+      ∙ append-nil (linesOf (weighed w 0 0 (p .body)))
+      ∙ sym (reweighed-trace w (p .body))
       ∙ ap (reweighed w 0 (0 ∷ [])) (sym (p .lines))

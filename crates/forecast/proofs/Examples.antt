@@ -1,7 +1,7 @@
 -- Forecasts and refusals worked out by hand, and computed.
 use mathlib.Core.Path.{_≡_, refl, ap, subst}
 use mathlib.Core.Bool.{true}
-use mathlib.Core.List.{List, [], _∷_, _++_, map}
+use mathlib.Core.List.{List, [], _∷_, map}
 use Prim.Native.Nat.{ℕ}
 use lib.ListN.{replicate}
 use Rattle.line.specs.declared.Frame.{Frame}
@@ -11,7 +11,7 @@ use Rattle.trace.specs.Rows.{total}
 use Rattle.trace.specs.Refusals.{Verdict, accepted, verdict}
 use Rattle.trace.specs.Tree.{call, spawn, spend, Body, done, leaf, child, linesOf, spanOf}
 use Rattle.trace.specs.Written.{textOf}
-use Rattle.trace.proofs.Twelve.{heads, span-here}
+use Rattle.trace.proofs.Twelve.{sited, span-here}
 use Rattle.forecast.specs.declared.Entry.{Entry}
 use Rattle.forecast.specs.Rewritten.{rewritten}
 use Rattle.forecast.specs.Asked.{asked}
@@ -21,7 +21,7 @@ by r f = record { row = r; factor = f }
 
 -- sites 1 and 2 declared, and the root's body
 abbrev pub lines : Body → List Frame
-lines b = heads ++ linesOf b
+lines b = linesOf (sited b)
 
 -- a trace and what it becomes, by their bodies; the span before, and the work and the span of the forecast
 pub record Example : Type 0 where
@@ -95,9 +95,9 @@ holds : (x : Example) → rewritten (x .entries) (lines (x .trace)) ≡ lines (x
 holds x r p w s a b =
     record {
       is-rewritten = r;
-      plain-is = subst (Span (lines (x .trace)) root) p (span-here (textOf (lines (x .trace))) (x .trace) a);
+      plain-is = subst (Span (lines (x .trace)) root) p (span-here (textOf (lines (x .trace))) (sited (x .trace)) a);
       work-is = w;
-      span-is = subst (Span (lines (x .becomes)) root) s (span-here (textOf (lines (x .becomes))) (x .becomes) b);
+      span-is = subst (Span (lines (x .becomes)) root) s (span-here (textOf (lines (x .becomes))) (sited (x .becomes)) b);
     }
 
 record Tested : Type 0 where

@@ -10,14 +10,14 @@ use lib.Seq.{getD-set-same, getD-set-other, set-getD, set-set}
 use borrow.Author.Tests.{eq-eqb, ne-eqb}
 use Rattle.line.specs.At.{kindAt, siteAt, valueAt}
 use Rattle.trace.specs.Column.{Column, slot}
-use Rattle.trace.specs.Tree.{spend, Body, done, leaf, child, size}
+use Rattle.trace.specs.Tree.{Leaf, spend, sync, note, leafWork, Body, done, leaf, child, size}
 use Rattle.trace.proofs.Basics.{cond-same}
 use Rattle.weigh.specs.Weighed.{Weigh}
 use Rattle.walk.specs.Stands.{Says, kindOf}
 use Rattle.walk.specs.Reads.{Reads}
 use Rattle.walk.specs.Gain.{ColumnFits, one, Grown}
 use Rattle.walk.proofs.Items.{size-some}
-use Rattle.walk.proofs.Lines.{is-more, is-done, is-sync}
+use Rattle.walk.proofs.Lines.{is-more, is-done, is-sync, is-note}
 use Rattle.walk.proofs.Says.{kind-says, site-says, value-says}
 use Rattle.walk.proofs.Rows.{one-same, grown-one}
 use Rattle.walk.proofs.Room.{lines-in}
@@ -168,12 +168,19 @@ module _ {how : Weigh} {s : List ℕ} {n : ℕ} {a : Present} {t m rows : List �
   grown-none : Grown rows (λ i. 0) rows
   grown-none i l = omega arith
 
+  -- a leaf that weighs nothing
+  weightless : (q : LineAsks how s n a t m rows) (l : Leaf) (r : Body) → leafWork l ≡ 0 → q .body ≡ leaf l r → Leaves (q .z) (q .row) (q .around) a t rows (q .body)
+  weightless q l r z e =
+      subst (Leaves (q .z) (q .row) (q .around) a t rows) (sym e)
+      (q .lent .held, λ i h. omega (arith, cond-same (eqb (slot (q .row) Column.onSpan) i), ap (λ (x : ℕ). one (slot (q .row) Column.onSpan) x i) (ap (marked (getD m n 0)) z ∙ cond-same (eqb (getD m n 0) 1))))
+
   -- a sync
   pub sync-leaves : kind ≡ 4 → LineLeaves how s n a t m rows a t rows
-  sync-leaves k4 q =
-      let e = is-sync how s n (q .row) kind says (q .body) (q .lent .reads .0) k4 in
-      subst (Leaves (q .z) (q .row) (q .around) a t rows) (sym (e .1))
-      (q .lent .held, λ i h. omega (arith, cond-same (eqb (slot (q .row) Column.onSpan) i), ap (λ (x : ℕ). one (slot (q .row) Column.onSpan) x i) (cond-same (eqb (getD m n 0) 1))))
+  sync-leaves k4 q = let e = is-sync how s n (q .row) kind says (q .body) (q .lent .reads .0) k4 in weightless q sync (e .0) refl (e .1)
+
+  -- a line that weighs nothing and joins nothing
+  pub note-leaves : kind ≡ 1 → LineLeaves how s n a t m rows a t rows
+  note-leaves k1 q = let e = is-note how s n (q .row) kind says (q .body) (q .lent .reads .0) k1 in weightless q (note (e .0)) (e .1) refl (e .2)
 
   -- a return
   pub return-leaves : kind ≡ 5 → (r : Present) (t′ : List ℕ) → Returned t a r t′ → LineLeaves how s n a t m rows r t′ rows
@@ -210,33 +217,33 @@ module _ {how : Weigh} {s : List ℕ} {n : ℕ} {a : Present} {t m rows : List �
         subst (Leaves (q .z) (q .row) (q .around) a t rows′) (sym (e .1)) (l .held, subst (λ (x : ℕ). Grown rows (one (slot x Column.onSpan) (marked (getD m n 0) v)) rows′) (l .held .0) grown)
 
   -- a call or a spawn of site
-  module _ (site : ℕ) (sited : site ≡ siteAt s n) (k6 : kind ≡ 6 → ⊥) (k5 : kind ≡ 5 → ⊥) (k4 : kind ≡ 4 → ⊥) where
+  module _ (site : ℕ) (sited : site ≡ siteAt s n) (k6 : kind ≡ 6 → ⊥) (k5 : kind ≡ 5 → ⊥) (k4 : kind ≡ 4 → ⊥) (k1 : kind ≡ 1 → ⊥) where
     pub child-leaves : (r : Present) (t′ : List ℕ) → r ≡ entered site a → t′ ≡ set t (a .around) (a .row) → LineLeaves how s n a t m rows r t′ rows
     child-leaves r t′ er et q =
-        let c = child-is how s n (q .row) kind site says (site-says s n n site refl sited) k6 k4 (q .body) (q .lent .reads .0) (is-more how s n (q .row) kind says (q .body) (q .lent .reads .0) k5) in
+        let c = child-is how s n (q .row) kind site says (site-says s n n site refl sited) k6 k4 k1 (q .body) (q .lent .reads .0) (is-more how s n (q .row) kind says (q .body) (q .lent .reads .0) k5) in
         subst (Leaves (q .z) (q .row) (q .around) r t′ rows) (sym (c .is)) (held-entered (q .z) (q .around) a r t t′ (q .row) site (c .r) (c .g) (q .lent .held) er et, grown-none)
 
 -- The loop.
 
--- it has come to line n: the open invocations, and what they come to, are as from the first line of the root's body b on
-pub record Turn (how : Weigh) (s : List ℕ) (from lines : ℕ) (z m rows₀ : List ℕ) (n : ℕ) (a : Present) (t rows : List ℕ) (b : Body) : Type 0 where
+-- it has come to line n: the open invocations, and what they come to, are as from the first line on, where the root's body b is left
+pub record Turn (how : Weigh) (s : List ℕ) (lines : ℕ) (z m rows₀ : List ℕ) (n : ℕ) (a : Present) (t rows : List ℕ) (b : Body) : Type 0 where
   pub opened : List Left
   pub ends : n + linesLeft opened ≡ lines
   pub lent : OnLent how s n opened z a t m rows
-  pub same-rows : (i : ℕ) → i < length rows₀ → getD rows i 0 + onLeft m n opened i ≡ getD rows₀ i 0 + onGain m from 0 b i
+  pub same-rows : (i : ℕ) → i < length rows₀ → getD rows i 0 + onLeft m n opened i ≡ getD rows₀ i 0 + onGain m 0 0 b i
 
 -- the same of whatever body that is
-pub record Loop (how : Weigh) (s : List ℕ) (from lines : ℕ) (z m rows₀ : List ℕ) (n : ℕ) (a : Present) (t rows : List ℕ) : Type 0 where
+pub record Loop (how : Weigh) (s : List ℕ) (lines : ℕ) (z m rows₀ : List ℕ) (n : ℕ) (a : Present) (t rows : List ℕ) : Type 0 where
   pub rows-long : length rows ≡ length rows₀
-  pub turns : (q : ColumnAsks how s from lines z m rows₀) → Turn how s from lines z m rows₀ n a t rows (q .body)
+  pub turns : (q : ColumnAsks how s lines z m rows₀) → Turn how s lines z m rows₀ n a t rows (q .body)
 
 -- at the first line the root is open
-pub turn-start : (how : Weigh) (s : List ℕ) (from lines : ℕ) (z m rows : List ℕ) → Loop how s from lines z m rows from root z rows
-turn-start how s from lines z m rows = record { rows-long = refl; turns = λ q. record { opened = left 0 (q .body) ∷ []; ends = omega (arith, q .ends); lent = q .lent; same-rows = λ i h. omega arith } }
+pub turn-start : (how : Weigh) (s : List ℕ) (lines : ℕ) (z m rows : List ℕ) → Loop how s lines z m rows 0 root z rows
+turn-start how s lines z m rows = record { rows-long = refl; turns = λ q. record { opened = left 0 (q .body) ∷ []; ends = omega (arith, q .ends); lent = q .lent; same-rows = λ i h. omega arith } }
 
-module _ {how : Weigh} {s : List ℕ} {from lines : ℕ} {z m rows₀ : List ℕ} {n : ℕ} {a : Present} {t rows : List ℕ} (x : Loop how s from lines z m rows₀ n a t rows) where
+module _ {how : Weigh} {s : List ℕ} {lines : ℕ} {z m rows₀ : List ℕ} {n : ℕ} {a : Present} {t rows : List ℕ} (x : Loop how s lines z m rows₀ n a t rows) where
   -- at least one invocation is open before the last line
-  line-of : {b : Body} → n < lines → Turn how s from lines z m rows₀ n a t rows b → LineAsks how s n a t m rows
+  line-of : {b : Body} → n < lines → Turn how s lines z m rows₀ n a t rows b → LineAsks how s n a t m rows
   line-of less u = go (u .opened) (u .ends) (u .lent)
     where
       go : (k : List Left) → n + linesLeft k ≡ lines → OnLent how s n k z a t m rows → LineAsks how s n a t m rows
@@ -244,14 +251,14 @@ module _ {how : Weigh} {s : List ℕ} {from lines : ℕ} {z m rows₀ : List ℕ
       go (y ∷ k) e l = record { row = y .row; body = y .body; around = k; z = z; lent = l }
 
   -- so it can be read
-  pub turn-asks : n < lines → ColumnAsks how s from lines z m rows₀ → LineAsks how s n a t m rows
+  pub turn-asks : n < lines → ColumnAsks how s lines z m rows₀ → LineAsks how s n a t m rows
   turn-asks less q = line-of less (x .turns q)
 
   -- it was read
-  pub turn-again : n < lines → (r : Present) (t′ rows′ : List ℕ) → length rows′ ≡ length rows → LineLeaves how s n a t m rows r t′ rows′ → Loop how s from lines z m rows₀ (n + 1) r t′ rows′
+  pub turn-again : n < lines → (r : Present) (t′ rows′ : List ℕ) → length rows′ ≡ length rows → LineLeaves how s n a t m rows r t′ rows′ → Loop how s lines z m rows₀ (n + 1) r t′ rows′
   turn-again less r t′ rows′ len leaves = record { rows-long = len ∙ x .rows-long; turns = λ q. let u = x .turns q in go q (u .opened) (u .ends) (u .lent) (u .same-rows) }
     where
-      go : (q : ColumnAsks how s from lines z m rows₀) (k : List Left) → n + linesLeft k ≡ lines → OnLent how s n k z a t m rows → ((i : ℕ) → i < length rows₀ → getD rows i 0 + onLeft m n k i ≡ getD rows₀ i 0 + onGain m from 0 (q .body) i) → Turn how s from lines z m rows₀ (n + 1) r t′ rows′ (q .body)
+      go : (q : ColumnAsks how s lines z m rows₀) (k : List Left) → n + linesLeft k ≡ lines → OnLent how s n k z a t m rows → ((i : ℕ) → i < length rows₀ → getD rows i 0 + onLeft m n k i ≡ getD rows₀ i 0 + onGain m 0 0 (q .body) i) → Turn how s lines z m rows₀ (n + 1) r t′ rows′ (q .body)
       go q [] e l w = absurd (omega arith)
       go q (y ∷ k) e l w =
           let d = leaves (record { row = y .row; body = y .body; around = k; z = z; lent = l }) in
@@ -277,7 +284,7 @@ module _ {how : Weigh} {s : List ℕ} {from lines : ℕ} {z m rows₀ : List ℕ
 
   -- none is open behind the last line
   module _ (last : lines ≤ n) where
-    none-left : {b : Body} → (u : Turn how s from lines z m rows₀ n a t rows b) → u .opened ≡ []
+    none-left : {b : Body} → (u : Turn how s lines z m rows₀ n a t rows b) → u .opened ≡ []
     none-left u = go (u .opened) (u .ends)
       where
         go : (k : List Left) → n + linesLeft k ≡ lines → k ≡ []
@@ -285,13 +292,13 @@ module _ {how : Weigh} {s : List ℕ} {from lines : ℕ} {z m rows₀ : List ℕ
         go (y ∷ k) e = absurd (omega (arith, size-some (y .body)))
 
     -- so the scratch is as it was
-    pub turn-zero : ColumnAsks how s from lines z m rows₀ → t ≡ z
+    pub turn-zero : ColumnAsks how s lines z m rows₀ → t ≡ z
     turn-zero q =
         let u = x .turns q in
         subst (λ (k : List Left). Held z k a t) (none-left u) (u .lent .held)
 
     -- and nothing is left to add
-    pub turn-done : ColumnLeaves how s from lines z m rows₀ rows
+    pub turn-done : ColumnLeaves how s lines z m rows₀ rows
     turn-done q i h =
         let u = x .turns q in
         omega (arith, u .same-rows i h, ap (λ (k : List Left). onLeft m n k i) (none-left u))

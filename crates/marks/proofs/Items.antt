@@ -4,13 +4,11 @@ use mathlib.Core.List.{List}
 use Prim.Native.Nat.{ℕ, _+_, _-_, _^_, _≤_, _<_}
 use native.Mathlib.Omega.{arith}
 use lib.ListN.{length}
-use lib.Dec.{eqb}
 use Rattle.line.specs.At.{kindAt, siteAt, valueAt}
 use Rattle.chain.specs.Plan.{weight}
 use Rattle.trace.specs.Column.{Column, slot}
-use Rattle.trace.specs.Tree.{call, spawn, spend, sync, Body, leaf, child as nested, workOf}
-use Rattle.trace.specs.Fold.{Chains, nothing, joined, called, spawned, chainOf}
-use Rattle.trace.proofs.Basics.{cond-same}
+use Rattle.trace.specs.Tree.{call, spawn, spend, sync, note, Body, leaf, child as nested, workOf}
+use Rattle.trace.specs.Fold.{Chains, nothing, called, spawned, chainOf}
 use Rattle.weigh.specs.Weighed.{Weigh}
 use Rattle.walk.specs.declared.Open.{Open}
 use Rattle.walk.specs.declared.Credit.{Credit}
@@ -21,14 +19,15 @@ use Rattle.walk.specs.Gain.{ColumnFits, creditOf, ReturnFits, one, Returned, Gr
 use Rattle.walk.specs.Item.{itemChains}
 use Rattle.walk.specs.Reader.{ItemDone}
 use Rattle.walk.proofs.Items.{size-some, chain-le}
-use Rattle.walk.proofs.Lines.{is-sync}
+use Rattle.walk.proofs.Reader.{weightless}
+use Rattle.walk.proofs.Lines.{is-sync, is-note}
 use Rattle.walk.proofs.Says.{kind-says, site-says, value-says}
 use Rattle.walk.proofs.Room.{lines-in}
 use Rattle.walk.proofs.Child.{cost-is, call-is, spawn-is, Child, child-is, cost-fits, child-work, deeper as child-deeper, child-row, child-ready, count-fits as child-fits, ChildDone, child-done}
 use Rattle.marks.specs.declared.Zones.{Zones}
 use Rattle.marks.specs.Shown.{Zone, Shows, Kept}
 use Rattle.marks.specs.Park.{Zero}
-use Rattle.marks.specs.Steps.{Fits, At, Spent, Joined, Called, Spawned}
+use Rattle.marks.specs.Steps.{Fits, At, Spent, Passed, Joined, Called, Spawned}
 use Rattle.marks.specs.Reader.{Lent, ItemAsks, ItemLeft, ItemLeaves, BodyAsks, BodyLeft, BodyLeaves}
 use Rattle.marks.proofs.Shown.{zone-kept}
 use Rattle.marks.proofs.Bodies.{shows-begun}
@@ -69,9 +68,16 @@ module _ {how : Weigh} {s : List ℕ} {deep : ℕ} {z : Zones} {t m rows : List 
   sync-leaves kind reads k4 r m′ j b n k more h e sh =
       let q = is-sync how s (z .own .at) (z .row) kind (kind-says s (z .own .at) (z .own .at) kind refl reads) b h k4 in
       let d = j n k e sh in
-      let o : z .own .work ≡ z .own .work + 0 = omega arith in
       subst (λ (x : Body). ItemLeft n x k z m rows r m′ rows) (sym (q .1))
-      (left-is n (z .own .at + 1) (z .own .work) (leaf sync (q .0)) k z m rows r m′ rows d (record { numbers-are = d .numbers-are ∙ ap (λ (x : ℕ). numbers (z .own .at + 1) x (joined k)) o; rows-are = λ i l. omega (arith, cond-same (eqb (slot (z .row) Column.local) i)) }))
+      (left-is n (z .own .at + 1) (z .own .work) (leaf sync (q .0)) k z m rows r m′ rows d (weightless (z .row) (z .own) rows sync (q .0) k (r .own) refl (d .numbers-are)))
+
+  -- a line that weighs nothing and joins nothing
+  pub note-leaves : (kind : ℕ) → kind ≡ kindAt s (z .own .at) → kind ≡ 1 → (r : Zones) (m′ : List ℕ) → Passed m z r m′ → ItemLeaves how s z m rows r m′ rows
+  note-leaves kind reads k1 r m′ j b n k more h e sh =
+      let q = is-note how s (z .own .at) (z .row) kind (kind-says s (z .own .at) (z .own .at) kind refl reads) b h k1 in
+      let d = j n k e sh in
+      subst (λ (x : Body). ItemLeft n x k z m rows r m′ rows) (sym (q .2))
+      (left-is n (z .own .at + 1) (z .own .work) (leaf (note (q .0)) (q .1)) k z m rows r m′ rows d (weightless (z .row) (z .own) rows (note (q .0)) (q .1) k (r .own) refl (d .numbers-are)))
 
 -- the item is a cost of v
 pub record Costs (how : Weigh) (s : List ℕ) (deep : ℕ) (z : Zones) (t m rows : List ℕ) (kind v : ℕ) : Type 0 where
@@ -108,6 +114,7 @@ pub record Calls (how : Weigh) (s : List ℕ) (deep : ℕ) (z : Zones) (t m rows
   pub site-is : site ≡ siteAt s (z .own .at)
   pub no-cost : kind ≡ 6 → ⊥
   pub no-sync : kind ≡ 4 → ⊥
+  pub no-note : kind ≡ 1 → ⊥
 
 module _ {how : Weigh} {s : List ℕ} {deep : ℕ} {z : Zones} {t m rows : List ℕ} {kind site : ℕ} (h : Calls how s deep z t m rows kind site) where
   abbrev l : Lent how s deep z t m rows
@@ -120,7 +127,7 @@ module _ {how : Weigh} {s : List ℕ} {deep : ℕ} {z : Zones} {t m rows : List 
   sited = site-says s (z .own .at) (z .own .at) site refl (h .site-is)
 
   abbrev child : Child how s (z .own .at) site (l .ready .body)
-  child = child-is how s (z .own .at) (z .row) kind site says sited (h .no-cost) (h .no-sync) (l .ready .body) (l .ready .reads) (h .asks .more)
+  child = child-is how s (z .own .at) (z .row) kind site says sited (h .no-cost) (h .no-sync) (h .no-note) (l .ready .body) (l .ready .reads) (h .asks .more)
 
   pub deeper : 1 ≤ deep
   deeper = child-deeper how s (z .row) (l .sites) deep (z .own) rows (l .ready) site child
@@ -204,7 +211,7 @@ module _ {how : Weigh} {s : List ℕ} {deep : ℕ} {z : Zones} {t m rows : List 
 
       pub spawn-leaves : (kind ≡ 2 → ⊥) → Spawned m₁ z c r m₂ → ItemLeaves how s z m rows r m₂ rows₂
       spawn-leaves k2 step b n k more st e sh =
-          let q = spawn-is how s (z .own .at) (z .row) kind says site sited (h .no-cost) (h .no-sync) b st more k2 in
+          let q = spawn-is how s (z .own .at) (z .row) kind says site sited (h .no-cost) (h .no-sync) (h .no-note) b st more k2 in
           let g = chainOf (z .own .at + 1) site (q .0) in
           subst (λ (x : Body). ItemLeft n x k z m rows r m₂ rows₂) (sym (q .2))
           (behind n k (q .0) (nested spawn site (q .0) (q .1)) (spawned g k) (q .3) sh (step n k g e) (λ v w. record { numbers-are = w ∙ v .numbers-are (spawned g k); rows-are = v .rows-are }) refl)

@@ -13,7 +13,7 @@ use Rattle.chain.specs.Over.{linesIn}
 use Rattle.trace.specs.Shape.{has}
 use Rattle.trace.specs.Rows.{columns}
 use Rattle.trace.specs.Column.{Column, slot}
-use Rattle.trace.specs.Tree.{leafWork, Body, done, leaf, child, size, Within, Parts, workOf, rootAt}
+use Rattle.trace.specs.Tree.{leafWork, Body, done, leaf, child, size, Within, Parts, workOf}
 use Rattle.trace.specs.Fold.{plan, onRow}
 use Rattle.trace.proofs.Basics.{cond-le}
 use Rattle.trace.proofs.Slots.{slot-apart}
@@ -87,6 +87,6 @@ module _ (m c : List ℕ) (k : ℕ) where
 
 -- LAW: where the marks of the root's lines show its chain, column 5 of a row grows by the row's part of it
 pub on-row : (D : ℕ) (t : List Frame) (p : Parts D t) (m : List ℕ) (k : ℕ)
-    → ((i : ℕ) → rootAt p ≤ i → i < rootAt p + size (p .body) → getD m i 0 ≡ cond (has i (linesIn (rootChain D t p))) 1 0)
-    → onGain m (rootAt p) 0 (p .body) (slot k Column.onSpan) ≡ onRow k (rootChain D t p)
-on-row D t p m k h = on-costs m (linesIn (rootChain D t p)) k (p .body) (rootAt p) 0 h ∙ sym (on-span-costs D t p (linesIn (rootChain D t p)) k) ∙ on-span-tree D t p k
+    → ((i : ℕ) → 0 ≤ i → i < 0 + size (p .body) → getD m i 0 ≡ cond (has i (linesIn (rootChain D t p))) 1 0)
+    → onGain m 0 0 (p .body) (slot k Column.onSpan) ≡ onRow k (rootChain D t p)
+on-row D t p m k h = on-costs m (linesIn (rootChain D t p)) k (p .body) 0 0 h ∙ sym (on-span-costs D t p (linesIn (rootChain D t p)) k) ∙ on-span-tree D t p k

@@ -9,11 +9,11 @@ use lib.Seq.{getD-set-same, getD-set-other}
 use Rattle.chain.specs.Plan.{CostLine, choose}
 use Rattle.trace.specs.Fold.{costAt, Chains, joined}
 use Rattle.walk.specs.declared.Open.{Open}
-use Rattle.walk.specs.Numbers.{numbers, spentN, laterHeavier, joinedN, calledN, childLonger, spawnedN}
+use Rattle.walk.specs.Numbers.{numbers, spentN, passedN, laterHeavier, joinedN, calledN, childLonger, spawnedN}
 use Rattle.walk.proofs.Numbers.{spent-numbers, later-chosen, joined-numbers, called-numbers, child-chosen, spawned-numbers}
 use Rattle.marks.specs.declared.Zones.{Zones}
 use Rattle.marks.specs.Shown.{allPrefix, Zone, Shows, Kept, Wiped}
-use Rattle.marks.specs.Steps.{At, Spent, Joined, Called, Spawned}
+use Rattle.marks.specs.Steps.{At, Spent, Passed, Joined, Called, Spawned}
 use Rattle.marks.proofs.Shown.{zone-append, zone-kept, zone-gone, zone-none, zone-cost, zone-lost-left, zone-lost-right, zone-before, zone-behind, zone-wiped}
 
 -- the line behind a spawned child
@@ -64,6 +64,23 @@ module _ (m : List ℕ) (z : Zones) (room : z .own .at < length m) where
           C = zone-append (stored m z 1) (z .after) (z .own .at) (z .own .at + 1) (k .c) (costAt (z .own .at) (z .row) v ∷ []) (s .ends) (omega arith) (b .C) (zone-cost (stored m z 1) (z .own .at) (z .row) v (here m z 1 room));
         };
         kept = λ j o. other m z 1 j (λ q. o (omega (arith, s .begins, s .then, s .ends)) (omega arith));
+      }
+
+  pub passed-done : Passed m z (record { own = passedN (z .own); row = z .row; child = z .child; after = z .after }) (set m (z .own .at) 0)
+  passed-done n k e s =
+      let b = before m z 0 n k s in
+      record {
+        numbers-are = ap passedN e;
+        same-row = refl;
+        shows = record {
+          begins = s .begins;
+          then = s .then;
+          ends = omega (arith, s .ends);
+          P = b .P;
+          L = b .L;
+          C = zone-lost-right (stored m z 0) (z .after) (z .own .at) (z .own .at + 1) (k .c) (s .ends) (omega arith) (b .C) (line-gone m z 0 room refl);
+        };
+        kept = λ j o. other m z 0 j (λ q. o (omega (arith, s .begins, s .then, s .ends)) (omega arith));
       }
 
   -- a join, of which one zone was cleared

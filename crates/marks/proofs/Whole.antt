@@ -1,6 +1,6 @@
 -- From acceptance to the promise: what the two readings of the root ask for, and what they come to.
 use mathlib.Core.Path.{_≡_, refl, ap, _∙_, sym, subst}
-use mathlib.Core.Bool.{Bool, cond}
+use mathlib.Core.Bool.{cond}
 use mathlib.Core.List.{List, [], _∷_}
 use Prim.Native.Nat.{ℕ, _+_, _*_, _-_, _≤_, _<_}
 use native.Mathlib.Decide.{decLt}
@@ -34,24 +34,17 @@ use Rattle.walk.specs.Gain.{creditOf, ReturnFits, Returned}
 use Rattle.walk.specs.Profiled.{Profiled}
 use Rattle.walk.proofs.Weight.{weight-plain}
 use Rattle.walk.proofs.Profiled.{kept-refused, text-refused, plain-promise}
-use Rattle.walk.proofs.Room.{lines-in}
 use Rattle.walk.proofs.Zeros.{zeros-at}
-use Rattle.walk.proofs.Accepted.{limits, rooms, rows-room, cleared, first, row-there, trace, root, body, first-is, lines-are, within, small, reads, ready, profiled, work-is, span-is, count-fits, cells, none-on, rest}
-use Rattle.marks.specs.Shown.{Wiped}
+use Rattle.walk.proofs.Accepted.{limits, rooms, rows-room, cleared, row-there, trace, root, body, lines-are, within, small, reads, ready, profiled, work-is, span-is, count-fits, cells, none-on, rest}
 use Rattle.marks.specs.Reader.{BodyAsks, BodyLeft, BodyLeaves}
 use Rattle.marks.specs.Column.{onGain, ColumnAsks, ColumnLeaves}
 use Rattle.marks.specs.Root.{lent, Admitted}
-use Rattle.marks.proofs.Shown.{outside}
 use Rattle.marks.proofs.Bodies.{shows-begun}
 use Rattle.marks.proofs.OnSpan.{on-cross, on-out, on-le, on-row}
 
 module _ {s : List ℕ} {D M : ℕ} {x : Lent} {count lines : ℕ} (a : Admitted s D M x count lines) where
   abbrev t : List Frame
   t = a .frames
-
-  -- the line at which the root's body begins
-  abbrev at : ℕ
-  at = first marks s D M x t (a .is) count (a .count-is)
 
   abbrev rows₀ : List ℕ
   rows₀ = cleared marks s D M x t (a .is) count (a .count-is)
@@ -72,15 +65,13 @@ module _ {s : List ℕ} {D M : ℕ} {x : Lent} {count lines : ℕ} (a : Admitted
       let w = accepted-is s D M (enough marks s D M x) t (a .is) .1 .whole-lines in
       omega arith
 
-  -- the scratch, the rows, and the marks of the sites were cleared, and go by these names
-  pub record Blank (t₁ m₁ r₁ : List ℕ) : Type 0 where
+  -- the scratch and the rows were cleared, and go by these names
+  pub record Blank (t₁ r₁ : List ℕ) : Type 0 where
     pub scratch-is : t₁ ≡ replicate (length (x .scratch)) 0
-    pub sites-off : Wiped 0 at (x .marks) m₁
-    pub marks-same : length m₁ ≡ length (x .marks)
     pub rows-are : r₁ ≡ rows₀
 
   -- columns 2 and 3 of its row can be taken
-  pub credit-asks : {t₁ m₁ r₁ : List ℕ} → Blank t₁ m₁ r₁ → slot 0 Column.span < length r₁
+  pub credit-asks : {t₁ r₁ : List ℕ} → Blank t₁ r₁ → slot 0 Column.span < length r₁
   credit-asks o = omega (arith, ap length (o .rows-are), row-there marks s D M x t (a .is) count (a .count-is))
 
   -- its cost lines weigh so
@@ -88,55 +79,51 @@ module _ {s : List ℕ} {D M : ℕ} {x : Lent} {count lines : ℕ} (a : Admitted
     abbrev b : Body
     b = body marks s D M x t (a .is) count (a .count-is) how tabled
 
-    here : Reads how s at 0 b
+    here : Reads how s 0 0 b
     here = reads marks s D M x t (a .is) count (a .count-is) how tabled
 
     in-limits : Within count D 1 b
     in-limits = within marks s D M x t (a .is) count (a .count-is) how tabled
 
-    ends : lines ≡ at + size b
+    ends : lines ≡ size b
     ends = omega (arith, a .lines-is, lines-are marks s D M x t (a .is) count (a .count-is) how tabled)
 
-    pub marks-in : at ≤ length (x .marks)
-    marks-in = omega (arith, text-in, lines-in how s at 0 b here)
-
     -- the first reading
-    pub body-asks : {t₁ m₁ r₁ : List ℕ} → Blank t₁ m₁ r₁ → BodyAsks how s at 0 (D - 1) t₁ m₁ r₁
-    body-asks {t₁} {m₁} {r₁} o =
-        subst (λ (y : List ℕ). BodyAsks how s at 0 (D - 1) t₁ m₁ y) (sym (o .rows-are))
+    pub body-asks : {t₁ r₁ : List ℕ} → Blank t₁ r₁ → BodyAsks how s 0 0 (D - 1) t₁ (x .marks) r₁
+    body-asks {t₁} {r₁} o =
+        subst (λ (y : List ℕ). BodyAsks how s 0 0 (D - 1) t₁ (x .marks) y) (sym (o .rows-are))
         (record {
           sites = count;
           ready = ready marks s D M x t (a .is) count (a .count-is) how tabled;
-          lines = omega (arith, text-in, o .marks-same);
+          lines = text-in;
           zero = λ j. ap (λ (y : List ℕ). getD y j 0) (o .scratch-is) ∙ zeros-at (length (x .scratch)) j;
           room = omega (arith, long .0, bounds .0, ap length (o .scratch-is), length-replicate {A = ℕ} (length (x .scratch)) 0);
-          n = at;
+          n = 0;
           k = nothing;
           weighs = refl;
-          shows = shows-begun at 0 m₁;
+          shows = shows-begun 0 0 (x .marks);
         })
 
     -- The root was read: its numbers are c, and it left the scratch t₂ zero, the marks m₂ and the rows rows₁. Before it,
     -- columns 2 and 3 of its row were taken.
     pub record Read (before : Credit) (c : Open) (t₂ m₂ rows₁ : List ℕ) : Type 0 where
       pub t₁ : List ℕ
-      pub m₁ : List ℕ
       pub r₁ : List ℕ
-      pub blank : Blank t₁ m₁ r₁
+      pub blank : Blank t₁ r₁
       pub taken : before ≡ creditOf r₁ 0
       pub zero : t₂ ≡ replicate (length (x .scratch)) 0
       pub marks-same : length m₂ ≡ length (x .marks)
       pub rows-same : length rows₁ ≡ length (x .rows)
-      pub leaves : BodyLeaves how s at 0 m₁ r₁ c m₂ rows₁
+      pub leaves : BodyLeaves how s 0 0 (x .marks) r₁ c m₂ rows₁
 
     module _ {before : Credit} {c : Open} {t₂ m₂ rows₁ : List ℕ} (u : Read before c t₂ m₂ rows₁) where
       took : before ≡ creditOf rows₀ 0
       took = u .taken ∙ ap (λ (y : List ℕ). creditOf y 0) (u .blank .rows-are)
 
-      left : BodyLeft at 0 b (u .m₁) rows₀ c m₂ rows₁
-      left = subst (λ (y : List ℕ). BodyLeft at 0 b (u .m₁) y c m₂ rows₁) (u .blank .rows-are) (u .leaves b here)
+      left : BodyLeft 0 0 b (x .marks) rows₀ c m₂ rows₁
+      left = subst (λ (y : List ℕ). BodyLeft 0 0 b (x .marks) y c m₂ rows₁) (u .blank .rows-are) (u .leaves b here)
 
-      at-is : c .at ≡ at + size b
+      at-is : c .at ≡ 0 + size b
       at-is = ap (λ (y : Open). y .at) (left .done .numbers-are)
 
       pub count-asks : ReturnFits before rows₁ 0 (c .work) (c .prefix)
@@ -145,7 +132,7 @@ module _ {s : List ℕ} {D M : ℕ} {x : Lent} {count lines : ℕ} (a : Admitted
       -- the root was counted
       module _ (rows₂ : List ℕ) (counts : Returned before 0 (c .work) (c .prefix) rows₁ rows₂) (lr₂ : length rows₂ ≡ length (x .rows)) where
         -- the second reading
-        pub on-asks : ColumnAsks how s at lines t₂ m₂ rows₂
+        pub on-asks : ColumnAsks how s lines t₂ m₂ rows₂
         on-asks =
             record {
               body = b;
@@ -165,36 +152,35 @@ module _ {s : List ℕ} {D M : ℕ} {x : Lent} {count lines : ℕ} (a : Admitted
                         omega (
                           arith,
                           none-on marks s D M x t (a .is) count (a .count-is) how tabled before took c rows₁ (u .rows-same) (left .done) rows₂ counts j l,
-                          on-le m₂ (slot j Column.onSpan) b count 0,
+                          on-le m₂ (slot j Column.onSpan) b 0 0,
                           small marks s D M x t (a .is) count (a .count-is) how tabled,
                         );
                   };
             }
 
         -- what it left
-        module _ (t₃ rows₃ : List ℕ) (on : ColumnLeaves how s at lines t₂ m₂ rows₂ rows₃) (same : t₃ ≡ t₂) (lr₃ : length rows₃ ≡ length (x .rows)) where
+        module _ (t₃ rows₃ : List ℕ) (on : ColumnLeaves how s lines t₂ m₂ rows₂ rows₃) (same : t₃ ≡ t₂) (lr₃ : length rows₃ ≡ length (x .rows)) where
           abbrev answer : Answer
           answer = Accepted (c .work) (c .prefix) count lines
 
-          grown : (i : ℕ) → i < length (x .rows) → getD rows₃ i 0 ≡ getD rows₂ i 0 + onGain m₂ at 0 b i
+          grown : (i : ℕ) → i < length (x .rows) → getD rows₃ i 0 ≡ getD rows₂ i 0 + onGain m₂ 0 0 b i
           unfolding on-asks
           grown i l = on on-asks i (omega (arith, lr₂))
 
-          shown : (i : ℕ) → at ≤ i → i < at + size b → getD m₂ i 0 ≡ cond (has i (linesIn (chainOf at 0 b))) 1 0
+          shown : (i : ℕ) → 0 ≤ i → i < 0 + size b → getD m₂ i 0 ≡ cond (has i (linesIn (chainOf 0 0 b))) 1 0
           shown i l r = left .zone .marks-are i l (omega (arith, at-is))
 
-          on-is : (k : ℕ) → onGain m₂ count 0 b (slot k Column.onSpan) ≡ onRow k (chainOf count 0 b)
-          on-is k =
-              subst (λ (h : ℕ). ((i : ℕ) → h ≤ i → i < h + size b → getD m₂ i 0 ≡ cond (has i (linesIn (chainOf h 0 b))) 1 0) → onGain m₂ h 0 b (slot k Column.onSpan) ≡ onRow k (chainOf h 0 b)) (first-is marks s D M x t (a .is) count (a .count-is) how tabled) (on-row D (trace marks s D M x t (a .is) count (a .count-is) how tabled) (root marks s D M x t (a .is) count (a .count-is) how tabled) m₂ k) shown
+          on-is : (k : ℕ) → onGain m₂ 0 0 b (slot k Column.onSpan) ≡ onRow k (chainOf 0 0 b)
+          on-is k = on-row D (trace marks s D M x t (a .is) count (a .count-is) how tabled) (root marks s D M x t (a .is) count (a .count-is) how tabled) m₂ k shown
 
-          cells-are : (k : ℕ) (j : Column) → k ≤ count → getD rows₃ (slot k j) 0 ≡ cell count b k j
+          cells-are : (k : ℕ) (j : Column) → k ≤ count → getD rows₃ (slot k j) 0 ≡ cell b k j
           cells-are k j h = go (is-column j Column.onSpan)
             where
               in-rows : slot k j < length (x .rows)
               in-rows = omega (arith, slot-in count k j h, rows-in)
 
-              go : Dec (j ≡ Column.onSpan) → getD rows₃ (slot k j) 0 ≡ cell count b k j
-              go (no q) = omega (arith, grown (slot k j) in-rows, on-cross m₂ j k q b count 0, cells marks s D M x t (a .is) count (a .count-is) how tabled before took c rows₁ (u .rows-same) (left .done) rows₂ counts k j h q)
+              go : Dec (j ≡ Column.onSpan) → getD rows₃ (slot k j) 0 ≡ cell b k j
+              go (no q) = omega (arith, grown (slot k j) in-rows, on-cross m₂ j k q b 0 0, cells marks s D M x t (a .is) count (a .count-is) how tabled before took c rows₁ (u .rows-same) (left .done) rows₂ counts k j h q)
               go (yes e) =
                   rw e (omega (arith, grown (slot k Column.onSpan) (omega (arith, rows-in)), none-on marks s D M x t (a .is) count (a .count-is) how tabled before took c rows₁ (u .rows-same) (left .done) rows₂ counts k h, on-is k))
 
@@ -202,26 +188,16 @@ module _ {s : List ℕ} {D M : ℕ} {x : Lent} {count lines : ℕ} (a : Admitted
           rest-is i h = go (decLt i (length (x .rows)))
             where
               go : Dec (i < length (x .rows)) → getD rows₃ i 0 ≡ getD (x .rows) i 0
-              go (yes q) = omega (arith, grown i q, on-out m₂ count D 1 i b at 0 in-limits (omega arith) h, rest marks s D M x t (a .is) count (a .count-is) how tabled before took c rows₁ (u .rows-same) (left .done) rows₂ counts i h q)
+              go (yes q) = omega (arith, grown i q, on-out m₂ count D 1 i b 0 0 in-limits (omega arith) h, rest marks s D M x t (a .is) count (a .count-is) how tabled before took c rows₁ (u .rows-same) (left .done) rows₂ counts i h q)
               go (no q) = List·getD-eq-default rows₃ 0 {n = i} (omega arith) ∙ sym (List·getD-eq-default (x .rows) 0 {n = i} (omega arith))
 
-          marks-are : (k : ℕ) → k < at + size b → getD m₂ k 0 ≡ cond (has k (linesIn (chainOf at 0 b))) 1 0
-          marks-are k l = go (decLt k at)
-            where
-              go : Dec (k < at) → getD m₂ k 0 ≡ cond (has k (linesIn (chainOf at 0 b))) 1 0
-              go (yes q) =
-                  left .kept k (λ v w. omega arith)
-                  ∙ u .blank .sites-off .gone k (omega arith) q
-                  ∙ ap (λ (y : Bool). cond y 1 0) (sym (outside k at (c .at) (chainOf at 0 b) (left .zone .inside) (λ v w. omega arith)))
-              go (no q) = shown k (omega arith) l
-
-          by-tree : ProfileBy marks count at b x answer (lent t₃ m₂ rows₃)
+          by-tree : ProfileBy marks count b x answer (lent t₃ m₂ rows₃)
           by-tree =
               record {
                 answer = ap (λ (y : ℕ). Accepted y (c .prefix) count lines) (work-is marks s D M x t (a .is) count (a .count-is) how tabled before took c rows₁ (u .rows-same) (left .done)) ∙ ap (λ (y : ℕ). Accepted (workOf b) y count lines) (span-is marks s D M x t (a .is) count (a .count-is) how tabled before took c rows₁ (u .rows-same) (left .done)) ∙ ap (Accepted (workOf b) (spanOf b) count) ends;
                 rows = record { same-length = lr₃; cells = cells-are; rest = rest-is };
                 scratch = same ∙ u .zero;
-                marked = record { same-length = u .marks-same; marks-are = marks-are; rest = λ k l. left .kept k (λ v w. omega (arith, at-is)) ∙ u .blank .sites-off .rest k (λ v w. omega arith) };
+                marked = record { same-length = u .marks-same; marks-are = λ k l. shown k (omega arith) (omega arith); rest = λ k l. left .kept k (λ v w. omega (arith, at-is)) };
               }
 
           pub promised : Profiled marks how s D M x answer (lent t₃ m₂ rows₃)

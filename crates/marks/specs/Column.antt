@@ -124,12 +124,12 @@ pub record LineAsks (how : Weigh) (s : List ℕ) (n : ℕ) (a : Present) (t m ro
 abbrev pub LineLeaves : (how : Weigh) (s : List ℕ) (n : ℕ) (a : Present) (t m rows : List ℕ) (r : Present) (t′ rows′ : List ℕ) → Type 0
 LineLeaves how s n a t m rows r t′ rows′ = (q : LineAsks how s n a t m rows) → HeldAfter (q .z) (behind (q .row) (q .body) (q .around)) a r t′ × Grown rows (onLine m n (q .row) (q .body)) rows′
 
--- the lines from line n on and before line e are those of the root's body
-pub record ColumnAsks (how : Weigh) (s : List ℕ) (n e : ℕ) (t m rows : List ℕ) : Type 0 where
+-- the lines before line e are those of the root's body
+pub record ColumnAsks (how : Weigh) (s : List ℕ) (e : ℕ) (t m rows : List ℕ) : Type 0 where
   pub body : Body
-  pub ends : n + size body ≡ e
-  pub lent : OnLent how s n (left 0 body ∷ []) t root t m rows
+  pub ends : size body ≡ e
+  pub lent : OnLent how s 0 (left 0 body ∷ []) t root t m rows
 
 -- whatever body that is
-abbrev pub ColumnLeaves : (how : Weigh) (s : List ℕ) (n e : ℕ) (t m rows rows′ : List ℕ) → Type 0
-ColumnLeaves how s n e t m rows rows′ = (q : ColumnAsks how s n e t m rows) → Grown rows (onGain m n 0 (q .body)) rows′
+abbrev pub ColumnLeaves : (how : Weigh) (s : List ℕ) (e : ℕ) (t m rows rows′ : List ℕ) → Type 0
+ColumnLeaves how s e t m rows rows′ = (q : ColumnAsks how s e t m rows) → Grown rows (onGain m 0 0 (q .body)) rows′

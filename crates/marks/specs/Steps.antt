@@ -29,6 +29,11 @@ abbrev pub Spent : (v : ℕ) (m : List ℕ) (z r : Zones) (m′ : List ℕ) → 
 Spent v m z r m′ = (n : ℕ) (k : Chains) → z .own ≡ numbers (z .own .at) (z .own .work) k → Shows n m z k
     → At n (z .own .at + 1) (z .own .work + v) (spent (costAt (z .own .at) (z .row) v) k) m z r m′
 
+-- behind a line that weighs nothing and joins nothing
+abbrev pub Passed : (m : List ℕ) (z r : Zones) (m′ : List ℕ) → Type 0
+Passed m z r m′ = (n : ℕ) (k : Chains) → z .own ≡ numbers (z .own .at) (z .own .work) k → Shows n m z k
+    → At n (z .own .at + 1) (z .own .work) k m z r m′
+
 -- behind a sync or the return
 abbrev pub Joined : (m : List ℕ) (z r : Zones) (m′ : List ℕ) → Type 0
 Joined m z r m′ = (n : ℕ) (k : Chains) → z .own ≡ numbers (z .own .at) (z .own .work) k → Shows n m z k

@@ -11,7 +11,7 @@ ghost use Rattle.walk.specs.Weight.{byFactors, Factors, weightAt};
 ghost use Rattle.walk.specs.Profiled.{Profiled};
 ghost use Rattle.walk.specs.Gain.{ColumnFits, one, Grown};
 ghost use Rattle.marks.specs.Shown.{allPrefix, Wiped};
-ghost use Rattle.marks.specs.Steps.{Fits, Spent, Joined, Called, Spawned};
+ghost use Rattle.marks.specs.Steps.{Fits, Spent, Passed, Joined, Called, Spawned};
 ghost use Rattle.marks.specs.Park.{park, parked, blank};
 ghost use Rattle.marks.specs.Reader.{Lent, ItemAsks, ItemLeaves, ItemsLeave, BodyAsks, BodyLeaves};
 ghost use Rattle.marks.specs.Column.{marked, entered, Returned, LineAsks, LineLeaves, ColumnAsks, ColumnLeaves};
@@ -70,6 +70,23 @@ fn spend(marks: &mut [u8], z: Zones, v: u64) -> Zones
     marks[at] = 1;
     Zones {
         own: own.spent(v),
+        row: z.row,
+        child: z.child,
+        after: z.after,
+    }
+}
+
+// A line that weighs nothing and joins nothing: it is not marked.
+fn pass(marks: &mut [u8], z: Zones) -> Zones
+    requires { ⌜ Fits (now marks) z 0 ⌝ }
+    requires { ⌜ z .own .at + 1 < 2 ^ 64 ⌝ }
+    ensures { λ r. ⌜ Passed (now (marks .entry)) z r (now (marks .exit)) ⌝ }
+{
+    let own = z.own;
+    let line = own.at;
+    marks[line] = 0;
+    Zones {
+        own: own.passed(),
         row: z.row,
         child: z.child,
         after: z.after,
@@ -270,6 +287,9 @@ fn item(
     if kind == 4 {
         return join(marks, z);
     }
+    if kind == 1 {
+        return pass(marks, z);
+    }
     let site = line::site_at(trace, at) as usize;
     let before = walk::credit_of(rows, site);
     store(t, z);
@@ -367,27 +387,28 @@ fn on_line(
     if kind == 4 {
         return a;
     }
+    if kind == 1 {
+        return a;
+    }
     enter(t, a, line::site_at(trace, at) as usize)
 }
 
-// Reads the root's lines once more, from its first line up to the end: each marked cost is added to column 5 of the
-// row that it stands in.
+// Reads the root's lines once more: each marked cost is added to column 5 of the row that it stands in.
 fn column(
     trace: &[u8],
-    from: usize,
     lines: usize,
     t: &mut [u64],
     marks: &[u8],
     rows: &mut [u64],
     factors: &[u64],
 )
-    requires { ⌜ ColumnAsks (byFactors (now factors)) (now trace) from lines (now t) (now marks) (now rows) ⌝ }
-    ensures { λ _. ⌜ ColumnLeaves (byFactors (now (factors .entry))) (now (trace .entry)) from lines (now (t .entry))
+    requires { ⌜ ColumnAsks (byFactors (now factors)) (now trace) lines (now t) (now marks) (now rows) ⌝ }
+    ensures { λ _. ⌜ ColumnLeaves (byFactors (now (factors .entry))) (now (trace .entry)) lines (now (t .entry))
         (now (marks .entry)) (now (rows .entry)) (now (rows .exit)) ⌝ }
     ensures { λ _. ⌜ now (t .exit) ≡ now (t .entry) ⌝ }
 {
     let mut a = Present { row: 0, around: 0 };
-    let mut at = from;
+    let mut at = 0;
     while at < lines {
         a = on_line(trace, at, a, t, marks, rows, factors);
         at += 1;
@@ -415,13 +436,10 @@ fn accepted(
 {
     walk::zero(scratch, scratch.len());
     walk::zero(rows, trace::COLUMNS * (count + 1));
-    // the line at which the root's body begins: behind the sites
-    let first = count;
-    wipe_lines(marks, 0, first);
     let before = walk::credit_of(rows, 0);
-    let f = body(text, first, 0, depth - 1, scratch, marks, rows, factors);
+    let f = body(text, 0, 0, depth - 1, scratch, marks, rows, factors);
     walk::returned(rows, 0, f.work, f.prefix, before);
-    column(text, first, lines, scratch, marks, rows, factors);
+    column(text, lines, scratch, marks, rows, factors);
     trace::Answer::Accepted(f.work, f.prefix, count, lines)
 }
 

@@ -1,7 +1,7 @@
 -- Case G with one cost raised: what both engines answer, and which lines stand on some heaviest chain, by computing.
 use mathlib.Core.Path.{_≡_, refl, sym, _∙_, ap, subst}
 use mathlib.Core.Bool.{true}
-use mathlib.Core.List.{List, [], _∷_, _++_, map}
+use mathlib.Core.List.{List, [], _∷_, map}
 use Prim.Native.Nat.{ℕ, _+_, _≤_}
 use native.Mathlib.Omega.{arith}
 use lib.ListN.{getD}
@@ -16,7 +16,7 @@ use Rattle.trace.specs.Tree.{Body, done, linesOf, spanOf}
 use Rattle.trace.specs.Promise.{Engine, acceptance}
 use Rattle.trace.proofs.Scan.{accepted-same}
 use Rattle.trace.proofs.Unique.{span-unique}
-use Rattle.trace.proofs.Twelve.{trees, heads, span-here}
+use Rattle.trace.proofs.Twelve.{trees, sited, span-here}
 use Rattle.weigh.specs.Raised.{raised}
 use Rattle.weigh.specs.Weighed.{weighed}
 use Rattle.weigh.proofs.OneLine.{onLine}
@@ -27,16 +27,12 @@ use Rattle.moves.specs.Text.{withCost}
 use Rattle.moves.specs.Cases.{G, Case, case, cases, AllAnswered, Heaviest, CasesHold}
 use Rattle.moves.proofs.Moves.{span-moves}
 
--- the trace of a body behind the two sites
-abbrev lines : Body → List Frame
-lines b = heads ++ linesOf b
-
--- case G's body, and that with a line raised
+-- case G's body, its sites with it, and that with a line raised
 abbrev plain : Body
-plain = getD trees 6 done
+plain = sited (getD trees 6 done)
 
 abbrev body : Case → Body
-body c = weighed (onLine (c .line) (λ v. v + c .by)) 2 0 plain
+body c = weighed (onLine (c .line) (λ v. v + c .by)) 0 0 plain
 
 abbrev text : Case → List ℕ
 text c = withCost G (c .line) (c .cost + c .by)
@@ -47,10 +43,10 @@ record Tested : Type 0 where
   answer : Answer
 
 abbrev computed : Case → Tested
-computed c = record { trace = raised (lines plain) (c .line) (c .by); ruling = verdict (text c) 4 2 true; answer = acceptance (lines (body c)) (spanOf (body c)) }
+computed c = record { trace = raised (linesOf plain) (c .line) (c .by); ruling = verdict (text c) 4 2 true; answer = acceptance (linesOf (body c)) (spanOf (body c)) }
 
 abbrev wanted : Case → Tested
-wanted c = record { trace = lines (body c); ruling = accepted (lines (body c)); answer = Accepted (22 + c .by) (c .span) 2 12 }
+wanted c = record { trace = linesOf (body c); ruling = accepted (linesOf (body c)); answer = Accepted (22 + c .by) (c .span) 2 12 }
 
 -- the one computed test
 test : map computed cases ≡ map wanted cases
@@ -60,8 +56,8 @@ test = refl
 answered : (c : Case) → computed c ≡ wanted c → (e : Engine) (y : Run) → Ran e (text c) 4 2 y → HasRoom e (text c) 4 2 y → y .answer ≡ Accepted (22 + c .by) (c .span) 2 12
 answered c h e y r q =
     let a = ap (λ (x : Tested). x .ruling) h in
-    let p = accepts e (text c) 4 2 y r q (lines (body c)) a in
-    p .answer ∙ ap (acceptance (lines (body c))) (span-unique (lines (body c)) root (p .span) (spanOf (body c)) (p .is-span) (span-here (text c) (body c) a)) ∙ ap (λ (x : Tested). x .answer) h
+    let p = accepts e (text c) 4 2 y r q (linesOf (body c)) a in
+    p .answer ∙ ap (acceptance (linesOf (body c))) (span-unique (linesOf (body c)) root (p .span) (spanOf (body c)) (p .is-span) (span-here (text c) (body c) a)) ∙ ap (λ (x : Tested). x .answer) h
 
 all-answered : (l : List Case) → map computed l ≡ map wanted l → AllAnswered l
 all-answered [] h = tt
@@ -71,12 +67,12 @@ all-answered (c ∷ l) h =
     (answered c x, all-answered l y)
 
 -- how the span moves there
-moved : (c : Case) → computed c ≡ wanted c → Is (lines plain) (c .line) (Cost (c .cost)) → 1 ≤ c .by → Moves (lines plain) root (c .line) (c .by) 11 (spanOf (body c))
+moved : (c : Case) → computed c ≡ wanted c → Is (linesOf plain) (c .line) (Cost (c .cost)) → 1 ≤ c .by → Moves (linesOf plain) root (c .line) (c .by) 11 (spanOf (body c))
 moved c h i one =
-    span-moves (lines plain) (c .line) (c .cost) (c .by) i root 11 (spanOf (body c)) (span-here G plain refl)
+    span-moves (linesOf plain) (c .line) (c .cost) (c .by) i root 11 (spanOf (body c)) (span-here G plain refl)
     (subst (λ (t : List Frame). Span t root (spanOf (body c))) (sym (ap (λ (x : Tested). x .trace) h)) (span-here (text c) (body c) (ap (λ (x : Tested). x .ruling) h))) one
 
-heaviest : Heaviest (lines plain)
+heaviest : Heaviest (linesOf plain)
 heaviest =
     record {
       line-2 = moved (case 2 1 5 16) refl refl (omega arith) .exactly .0 refl;
@@ -88,4 +84,4 @@ heaviest =
 
 -- LAW: the cases worked out by hand
 pub cases-hold : CasesHold
-cases-hold = (all-answered cases test, λ t a. subst Heaviest (accepted-same (lines plain) t a) heaviest)
+cases-hold = (all-answered cases test, λ t a. subst Heaviest (accepted-same (linesOf plain) t a) heaviest)

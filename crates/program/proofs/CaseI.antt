@@ -1,10 +1,9 @@
 -- Case I: the promise of the report program says what the rules print. Assumes nothing.
 use Prim.Native.Nat.{ℕ, zero, suc, _≤_}
 use mathlib.Core.Bool.{true}
-use mathlib.Core.List.{List, [], _∷_, _++_, flatMap}
+use mathlib.Core.List.{List, [], _∷_, flatMap}
 use mathlib.Core.Path.{_≡_, refl, sym, subst}
 use native.Mathlib.Omega.{arith}
-use lib.ListN.{length}
 use Rattle.line.specs.declared.Frame.{Frame}
 use Rattle.chain.specs.Plan.{choose}
 use Rattle.chain.specs.Over.{linesIn}
@@ -14,22 +13,22 @@ use Rattle.trace.specs.Refusals.{accepted, verdict}
 use Rattle.trace.specs.Promise.{Row}
 use Rattle.trace.specs.Tree.{call, spawn, spend, Body, done, leaf, child, linesOf, Parts, spansIn}
 use Rattle.trace.specs.Fold.{chainOf}
-use Rattle.trace.proofs.Tree.{parts-one}
+use Rattle.trace.proofs.Tree.{body-one}
 use Rattle.trace.proofs.Parse.{accepted-parts}
 use Rattle.trace.proofs.Root.{root-chosen}
 use Rattle.trace.proofs.Outermost.{spans-tree}
-use Rattle.trace.proofs.Twelve.{heads}
+use Rattle.trace.proofs.Twelve.{sited}
 use Rattle.report.specs.Rows.{lineOf}
 use Rattle.program.specs.Print.{ruling, Prints}
 use Rattle.program.specs.CaseI.{input, output, Claim}
 use Rattle.program.proofs.Determined.{prints-unique}
 
--- call 1 {spawn 2 {7}, 1}, 2
+-- the two sites, call 1 {spawn 2 {7}, 1}, 2
 abbrev body : Body
-body = child call 1 (child spawn 2 (leaf (spend 7) done) (leaf (spend 1) done)) (leaf (spend 2) done)
+body = sited (child call 1 (child spawn 2 (leaf (spend 7) done) (leaf (spend 1) done)) (leaf (spend 2) done))
 
 abbrev t : List Frame
-t = heads ++ linesOf body
+t = linesOf body
 
 abbrev rows : List ℕ
 rows = 1 ∷ 10 ∷ 9 ∷ 2 ∷ 2 ∷ 1 ∷ 8 ∷ 7 ∷ 1 ∷ 0 ∷ 1 ∷ 7 ∷ 7 ∷ 7 ∷ 7 ∷ []
@@ -40,18 +39,16 @@ is-accepted = refl
 p : Parts 32 t
 p = accepted-parts input 32 31 true t is-accepted
 
-same : (p .heads ≡ heads) × (p .body ≡ body)
-same = parts-one (p .heads) heads (p .body) body (p .all-sites) (tt, (tt, tt)) (sym (p .lines))
+same : p .body ≡ body
+same = body-one (p .body) body (sym (p .lines))
 
 spans : (s : ℕ) → Spans t s (spansIn s body)
-spans s = subst (λ (b : Body). Spans t s (spansIn s b)) (same .1) (spans-tree 32 t p s)
+spans s = subst (λ (b : Body). Spans t s (spansIn s b)) same (spans-tree 32 t p s)
 
-chosen : Chosen t (linesIn (chainOf 2 0 body))
-chosen =
-    subst (λ (h : List Frame). Chosen t (linesIn (chainOf (length h) 0 body))) (same .0)
-    (subst (λ (b : Body). Chosen t (linesIn (chainOf (length (p .heads)) 0 b))) (same .1) (root-chosen 32 t p))
+chosen : Chosen t (linesIn (chainOf 0 0 body))
+chosen = subst (λ (b : Body). Chosen t (linesIn (chainOf 0 0 b))) same (root-chosen 32 t p)
 
-rows-are : (s : ℕ) → s ≤ 2 → Row t (linesIn (chainOf 2 0 body)) rows s
+rows-are : (s : ℕ) → s ≤ 2 → Row t (linesIn (chainOf 0 0 body)) rows s
 unfolding choose
 rows-are zero l = record { calls-is = refl; work-is = refl; span-is = spans 0; local-is = refl; on-span-is = refl }
 rows-are (suc zero) l = record { calls-is = refl; work-is = refl; span-is = spans 1; local-is = refl; on-span-is = refl }
@@ -60,7 +57,7 @@ rows-are (suc (suc (suc s))) l = absurd (omega arith)
 
 printed : Prints (ruling input) output
 unfolding lineOf flatMap
-printed = record { chain = linesIn (chainOf 2 0 body); chosen = chosen; rows = rows; enough = omega arith; rows-are = rows-are; is = refl }
+printed = record { chain = linesIn (chainOf 0 0 body); chosen = chosen; rows = rows; enough = omega arith; rows-are = rows-are; is = refl }
 
 -- LAW: case I
 pub case-i : Claim

@@ -13,22 +13,22 @@ use Rattle.line.specs.At.{kindAt, siteAt, valueAt}
 use Rattle.trace.specs.Column.{Column, slot}
 use Rattle.chain.specs.Plan.{CostLine, weight}
 use Rattle.chain.proofs.Lists.{weight-append}
-use Rattle.trace.specs.Tree.{spend, Body, leaf, Within, workOf}
-use Rattle.trace.specs.Fold.{Chains, nothing, joined, called, spawned, chainOf}
-use Rattle.trace.proofs.Basics.{cond-same}
+use Rattle.trace.specs.Tree.{spend, sync, note, Body, leaf, Within, workOf}
+use Rattle.trace.specs.Fold.{Chains, nothing, called, spawned, chainOf}
 use Rattle.weigh.specs.Weighed.{Weigh}
 use Rattle.walk.specs.declared.Open.{Open}
 use Rattle.walk.specs.declared.Credit.{Credit}
 use Rattle.walk.specs.Stands.{Says, kindOf, siteOf}
 use Rattle.walk.specs.Reads.{Reads}
-use Rattle.walk.specs.Numbers.{numbers, calledN, load}
+use Rattle.walk.specs.Numbers.{numbers, passedN, calledN, load}
 use Rattle.walk.specs.Gain.{ColumnFits, creditOf, ReturnFits, one, Returned, Grown}
 use Rattle.walk.specs.Item.{itemChains}
 use Rattle.walk.specs.Reader.{ItemDone, alone, BodyDone}
 use Rattle.walk.proofs.Items.{size-some, chain-le}
 use Rattle.walk.proofs.Says.{kind-says, site-says, value-says}
-use Rattle.walk.proofs.Lines.{is-sync}
+use Rattle.walk.proofs.Lines.{is-sync, is-note}
 use Rattle.walk.proofs.Numbers.{called-numbers}
+use Rattle.walk.proofs.Reader.{weightless}
 use Rattle.walk.proofs.Child.{cost-is, call-is, spawn-is, Child, child-is, cost-fits, child-work, child-row, child-ready, child-body, count-fits, ChildDone, child-done}
 use Rattle.walk.proofs.Child.{deeper as child-deeper}
 use Rattle.tables.specs.Blocks.{Shows, childAt, Holds, behind, Asks, Spent, Joined, Spawned}
@@ -68,9 +68,13 @@ module _ {how : Weigh} {s : List ℕ} {row deep : ℕ} {f : Open} {t rows : List
   sync-leaves kind reads k4 r t′ j b q k m h e sh =
       let y = is-sync how s (f .at) row kind (kind-says s (f .at) (f .at) kind refl reads) b h k4 in
       let d = j q k e sh in
-      let z : f .work ≡ f .work + 0 = omega arith in
-      subst (λ (x : Body). ItemDone row f rows x k r rows × Holds n w t′ (behind q (itemChains (f .at) row x k)) []) (sym (y .1))
-      (record { numbers-are = d .0 ∙ ap (λ (x : ℕ). numbers (f .at + 1) x (joined k)) z; rows-are = λ i l. omega (arith, cond-same (eqb (slot row Column.local) i)) }, d .1)
+      subst (λ (x : Body). ItemDone row f rows x k r rows × Holds n w t′ (behind q (itemChains (f .at) row x k)) []) (sym (y .1)) (weightless row f rows sync (y .0) k r refl (d .0), d .1)
+
+  -- a line that weighs nothing and joins nothing
+  pub note-leaves : (kind : ℕ) → kind ≡ kindAt s (f .at) → kind ≡ 1 → (r : Open) → r ≡ passedN f → ItemLeaves how s row f t rows n w r t rows
+  note-leaves kind reads k1 r p b q k m h e sh =
+      let y = is-note how s (f .at) row kind (kind-says s (f .at) (f .at) kind refl reads) b h k1 in
+      subst (λ (x : Body). ItemDone row f rows x k r rows × Holds n w t (behind q (itemChains (f .at) row x k)) []) (sym (y .2)) (weightless row f rows (note (y .0)) (y .1) k r refl (p ∙ ap passedN e), sh)
 
 -- the item is a cost of v
 pub record Costs (how : Weigh) (s : List ℕ) (kind row deep : ℕ) (f : Open) (t rows : List ℕ) (n w v : ℕ) : Type 0 where
@@ -113,6 +117,7 @@ pub record Calls (how : Weigh) (s : List ℕ) (kind row deep : ℕ) (f : Open) (
   pub site-is : site ≡ siteAt s (f .at)
   pub no-cost : kind ≡ 6 → ⊥
   pub no-sync : kind ≡ 4 → ⊥
+  pub no-note : kind ≡ 1 → ⊥
   pub begins : o ≡ childAt kind n (f .longest)
 
 module _ {how : Weigh} {s : List ℕ} {kind row deep : ℕ} {f : Open} {t rows : List ℕ} {n w site o : ℕ} (h : Calls how s kind row deep f t rows n w site o) where
@@ -126,7 +131,7 @@ module _ {how : Weigh} {s : List ℕ} {kind row deep : ℕ} {f : Open} {t rows :
   sited = site-says s (f .at) (f .at) site refl (h .site-is)
 
   abbrev child : Child how s (f .at) site (l .ready .body)
-  child = child-is how s (f .at) row kind site says sited (h .no-cost) (h .no-sync) (l .ready .body) (l .ready .reads) (h .asks .more)
+  child = child-is how s (f .at) row kind site says sited (h .no-cost) (h .no-sync) (h .no-note) (l .ready .body) (l .ready .reads) (h .asks .more)
 
   abbrev part : List ℕ
   part = take (length t - o) (drop o t)
@@ -267,7 +272,7 @@ module _ {how : Weigh} {s : List ℕ} {kind row deep : ℕ} {f : Open} {t rows :
 
       pub spawn-leaves : (kind ≡ 2 → ⊥) → (t₂ : List ℕ) → Spawned n w back f c r t₂ → ItemLeaves how s row f t rows n w r t₂ rows₂
       spawn-leaves k2 t₂ step b q k m st e sh =
-          let x = spawn-is how s (f .at) row kind says site sited (h .no-cost) (h .no-sync) b st m k2 in
+          let x = spawn-is how s (f .at) row kind says site sited (h .no-cost) (h .no-sync) (h .no-note) b st m k2 in
           let d = u .leaves (x .0) [] (x .3) (spawned-shows q k e sh k2) in
           let v = counted (x .0) (d .0) in
           let g = chainOf (f .at + 1) site (x .0) in

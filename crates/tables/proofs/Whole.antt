@@ -71,10 +71,6 @@ module _ {s : List ℕ} {D M : ℕ} {scratch rows : List ℕ} {count lines : ℕ
   pub table-room : count + 1 < length scratch
   table-room = omega (arith, blocks-long, room-is D (count + 1 + 1) (limits .0))
 
-  -- the line at which the root's body begins
-  abbrev first : ℕ
-  first = root.first tables s D M (lent scratch rows) (a .t) (a .is) count (a .count-is)
-
   abbrev rows₁ : List ℕ
   rows₁ = replicate (columns * (count + 1)) 0 ++ drop (columns * (count + 1)) rows
 
@@ -89,10 +85,10 @@ module _ {s : List ℕ} {D M : ℕ} {scratch rows : List ℕ} {count lines : ℕ
 
   -- its cost lines weigh so
   module _ (how : Weigh) (tabled : Tabled how) where
-    pub root-asks : {t₁ r₁ : List ℕ} → Blank t₁ r₁ → BodyAsks how s first 0 (D - 1) t₁ r₁ (count + 1 + 1) (count + 1)
+    pub root-asks : {t₁ r₁ : List ℕ} → Blank t₁ r₁ → BodyAsks how s 0 0 (D - 1) t₁ r₁ (count + 1 + 1) (count + 1)
     root-asks {t₁} {r₁} z =
-        subst (λ (x : List ℕ). BodyAsks how s first 0 (D - 1) x r₁ (count + 1 + 1) (count + 1)) (sym (z .scratch-is))
-        (subst (λ (y : List ℕ). BodyAsks how s first 0 (D - 1) (replicate (length scratch) 0) y (count + 1 + 1) (count + 1)) (sym (z .rows-are))
+        subst (λ (x : List ℕ). BodyAsks how s 0 0 (D - 1) x r₁ (count + 1 + 1) (count + 1)) (sym (z .scratch-is))
+        (subst (λ (y : List ℕ). BodyAsks how s 0 0 (D - 1) (replicate (length scratch) 0) y (count + 1 + 1) (count + 1)) (sym (z .rows-are))
         (record {
           m = count;
           ready = root.ready tables s D M (lent scratch rows) (a .t) (a .is) count (a .count-is) how tabled;
@@ -116,7 +112,7 @@ module _ {s : List ℕ} {D M : ℕ} {scratch rows : List ℕ} {count lines : ℕ
       pub taken : before ≡ creditOf r₁ 0
       pub scratch-same : length t₂ ≡ length scratch
       pub rows-same : length rows₂ ≡ length rows
-      pub leaves : BodyLeaves how s first 0 t₁ r₁ (count + 1 + 1) (count + 1) c t₂ rows₂
+      pub leaves : BodyLeaves how s 0 0 t₁ r₁ (count + 1 + 1) (count + 1) c t₂ rows₂
 
     -- what its reading comes to
     module _ {before : Credit} {c : Open} {t₂ rows₂ : List ℕ} (u : Read before c t₂ rows₂) where
@@ -126,10 +122,10 @@ module _ {s : List ℕ} {D M : ℕ} {scratch rows : List ℕ} {count lines : ℕ
       abbrev b : Body
       b = root.body tables s D M (lent scratch rows) (a .t) (a .is) count (a .count-is) how tabled
 
-      left : BodyDone first 0 rows₁ b c rows₂ × Shows (count + 1 + 1) (count + 1) t₂ (alone (chainOf first 0 b)) []
+      left : BodyDone 0 0 rows₁ b c rows₂ × Shows (count + 1 + 1) (count + 1) t₂ (alone (chainOf 0 0 b)) []
       left =
           let h = u .leaves b [] (root.reads tables s D M (lent scratch rows) (a .t) (a .is) count (a .count-is) how tabled) (subst (λ (x : List ℕ). Shows (count + 1 + 1) (count + 1) x nothing []) (sym (u .blank .scratch-is)) (zeros-show (count + 1 + 1) (count + 1) (length scratch))) in
-          (subst (λ (y : List ℕ). BodyDone first 0 y b c rows₂) (u .blank .rows-are) (h .0), h .1)
+          (subst (λ (y : List ℕ). BodyDone 0 0 y b c rows₂) (u .blank .rows-are) (h .0), h .1)
 
       pub root-counts : ReturnFits before rows₂ 0 (c .work) (c .prefix)
       root-counts = root.count-fits tables s D M (lent scratch rows) (a .t) (a .is) count (a .count-is) how tabled before took c rows₂ (u .rows-same) (left .0)
@@ -143,16 +139,16 @@ module _ {s : List ℕ} {D M : ℕ} {scratch rows : List ℕ} {count lines : ℕ
         abbrev answer : Answer
         answer = Accepted (c .work) (c .prefix) count lines
 
-        cells : (k : ℕ) (j : Column) → k ≤ count → getD rows₄ (slot k j) 0 ≡ cell count b k j
+        cells : (k : ℕ) (j : Column) → k ≤ count → getD rows₄ (slot k j) 0 ≡ cell b k j
         cells k j h = go (is-column j Column.onSpan)
           where
-            go : Dec (j ≡ Column.onSpan) → getD rows₄ (slot k j) 0 ≡ cell count b k j
+            go : Dec (j ≡ Column.onSpan) → getD rows₄ (slot k j) 0 ≡ cell b k j
             go (no q) =
                 moved .others (slot k j) (λ x y e. q (slot-apart k x j Column.onSpan e .1))
                 ∙ root.cells tables s D M (lent scratch rows) (a .t) (a .is) count (a .count-is) how tabled before took c rows₂ (u .rows-same) (left .0) rows₃ counts k j h q
             go (yes e) =
                 let z : k ≡ 0 + k = omega arith in
-                rw e (moved .on-span k (omega arith) ∙ ap (λ (x : ℕ). getD t₂ x 0) z ∙ left .1 .P k (omega arith) ∙ number-row (count + 1) (chainOf first 0 b) k (omega arith))
+                rw e (moved .on-span k (omega arith) ∙ ap (λ (x : ℕ). getD t₂ x 0) z ∙ left .1 .P k (omega arith) ∙ number-row (count + 1) (chainOf 0 0 b) k (omega arith))
 
         rest : (i : ℕ) → columns * (count + 1) ≤ i → getD rows₄ i 0 ≡ getD rows i 0
         rest i h = go (decLt i (length rows))
@@ -171,9 +167,9 @@ module _ {s : List ℕ} {D M : ℕ} {scratch rows : List ℕ} {count lines : ℕ
             go : (i : ℕ) → Dec (i < count + 1) → Dec (i ≡ count + 1) → getD (set (settled .0) (count + 1) 0) i 0 ≡ 0
             go i (yes q) d = elsewhere i (λ e. omega arith) ∙ moved .gone i q
             go i (no q) (yes e) = rw e (getD-set-same (settled .0) (count + 1) 0 0 (omega (arith, table-room, l₃, ap length (settled .2), length-set (settled .0) (count + 1) 0)))
-            go i (no q) (no d) = elsewhere i d ∙ moved .rest i (omega arith) ∙ own-only (count + 1 + 1) (count + 1) refl t₂ (chainOf first 0 b) (left .1) i (λ x y. omega arith)
+            go i (no q) (no d) = elsewhere i d ∙ moved .rest i (omega arith) ∙ own-only (count + 1 + 1) (count + 1) refl t₂ (chainOf 0 0 b) (left .1) i (λ x y. omega arith)
 
-        by-tree : ProfileBy tables count first b (lent scratch rows) answer (lent t₃ rows₄)
+        by-tree : ProfileBy tables count b (lent scratch rows) answer (lent t₃ rows₄)
         by-tree =
             let work-is = root.work-is tables s D M (lent scratch rows) (a .t) (a .is) count (a .count-is) how tabled before took c rows₂ (u .rows-same) (left .0) in
             let span-is = root.span-is tables s D M (lent scratch rows) (a .t) (a .is) count (a .count-is) how tabled before took c rows₂ (u .rows-same) (left .0) in

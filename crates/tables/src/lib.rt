@@ -315,6 +315,9 @@ fn item(
     if kind == 4 {
         return join(t, n, w, f);
     }
+    if kind == 1 {
+        return f.passed();
+    }
     let site = line::site_at(trace, at) as usize;
     let o = child_part(kind, n, f);
     let before = walk::credit_of(rows, site);
@@ -359,10 +362,8 @@ fn accepted(
 {
     walk::zero(scratch, scratch.len());
     walk::zero(rows, trace::COLUMNS * (count + 1));
-    // the line at which the root's body begins: behind the sites
-    let first = count;
     let before = walk::credit_of(rows, 0);
-    let f = body(text, first, 0, depth - 1, scratch, rows, count + 1, factors);
+    let f = body(text, 0, 0, depth - 1, scratch, rows, count + 1, factors);
     walk::returned(rows, 0, f.work, f.prefix, before);
     settle(scratch, rows, count + 1);
     trace::Answer::Accepted(f.work, f.prefix, count, lines)

@@ -9,7 +9,7 @@ use Rattle.line.specs.declared.Frame.{Frame}
 use Rattle.chain.specs.Plan.{CostLine, Plan, costs, All, Pairs, Less, Ordered, On, Apart}
 use Rattle.chain.proofs.Lists.{all-map, all-at, all-append, pairs-append}
 use Rattle.chain.proofs.Parts.{apart-on}
-use Rattle.trace.specs.Tree.{Way, call, spawn, opening, Leaf, spend, sync, lineOf, Body, done, leaf, child, linesOf, size}
+use Rattle.trace.specs.Tree.{Way, call, spawn, opening, Leaf, spend, sync, note, lineOf, Body, done, leaf, child, linesOf, size}
 use Rattle.trace.specs.Fold.{costAt, together, block, after, plan}
 use Rattle.trace.proofs.Levels.{bsize, bsize-le, In, Past, Beside, beside-leaf, Spawning, spawning, beside-opening, opening-beside, in-lt, in-of, past-out, past-of, near-of, near-lt, beside-shift, beside-unshift, beside-within}
 
@@ -40,6 +40,9 @@ range (leaf (spend v) r) n s =
     let k = range r (suc n) s in
     ((omega arith, all-map (λ y w. omega arith) (costs (block (suc n) s r)) (k .0)), all-map (λ y w. omega arith) (costs (after (suc n) s r)) (k .1))
 range (leaf sync r) n s = (tt, all-map (λ y w. omega arith) (costs (plan (suc n) s r)) (whole r (suc n) s (range r (suc n) s)))
+range (leaf (note x) r) n s =
+    let k = range r (suc n) s in
+    (all-map (λ y w. omega arith) (costs (block (suc n) s r)) (k .0), all-map (λ y w. omega arith) (costs (after (suc n) s r)) (k .1))
 range (child w v g r) n s =
     let G = plan (suc n) v g in
     let B = block (suc n + size g) s r in
@@ -64,6 +67,7 @@ ordered (leaf (spend v) r) n s =
     let k = ordered r (suc n) s in
     ((all-map (λ y w. omega arith) (costs (block (suc n) s r)) (range r (suc n) s .0), k .0), k .1)
 ordered (leaf sync r) n s = (tt, whole-ordered r (suc n) s (ordered r (suc n) s))
+ordered (leaf (note x) r) n s = ordered r (suc n) s
 ordered (child w v g r) n s =
     let G = plan (suc n) v g in
     let B = block (suc n + size g) s r in
@@ -222,11 +226,13 @@ rest-of-leaf (spend v) n s r x y (inl (inr a)) = inl a
 rest-of-leaf (spend v) n s r x y (inr a) = inr a
 rest-of-leaf sync n s r x y (inl a) = absurd a
 rest-of-leaf sync n s r x y (inr a) = a
+rest-of-leaf (note k) n s r x y a = a
 
 leaf-of-rest : (l : Leaf) (n s : ℕ) (r : Body) (x y : CostLine) → Apart (plan (suc n) s r) x y → Apart (plan n s (leaf l r)) x y
 leaf-of-rest (spend v) n s r x y (inl a) = inl (inr a)
 leaf-of-rest (spend v) n s r x y (inr a) = inr a
 leaf-of-rest sync n s r x y a = inr a
+leaf-of-rest (note k) n s r x y a = a
 
 on-rest : (l : Leaf) (n s i : ℕ) (r : Body) (x : CostLine) → At n x (suc i) → On (plan n s (leaf l r)) x → On (plan (suc n) s r) x
 on-rest (spend v) n s i r x p m = go (List·Memᴰ·cases-cons m)
@@ -235,6 +241,7 @@ on-rest (spend v) n s i r x p m = go (List·Memᴰ·cases-cons m)
     go (inl d) = absurd (omega (arith, ap (λ (w : CostLine). w .line) d))
     go (inr o) = o
 on-rest sync n s i r x p m = m
+on-rest (note k) n s i r x p m = m
 
 -- LAW
 pub apart-beside : (b : Body) → To b

@@ -9,15 +9,9 @@ use Rattle.line.specs.declared.Frame.{Frame}
 use Rattle.line.specs.declared.Frame.the-variants.{Site, Call, Spawn, Sync, Return, Cost}
 use Rattle.trace.specs.Shape.{ifSite, ifMakes, step}
 
-abbrev pub IsSite : Frame → Type 0
-IsSite f = T (ifSite (λ s p. true) false f)
-
+-- a line that is no site line
 abbrev pub NotSite : Frame → Type 0
 NotSite f = T (ifSite (λ s p. false) true f)
-
-abbrev pub NoSites : List Frame → Type 0
-NoSites [] = Unit {0}
-NoSites (f ∷ u) = NotSite f × NoSites u
 
 -- what holds of site lines and of lines that are none holds of every line
 pub by-site : (P : Frame → Type 0) → ((s : ℕ) (p : Place) → P (Site s p)) → ((f : Frame) → NotSite f → P f) → (f : Frame) → P f
@@ -37,13 +31,6 @@ other a b Sync h = refl
 other a b Return h = refl
 other a b (Cost v) h = refl
 
-pub site-or-not : (f : Frame) → IsSite f → NotSite f → ⊥
-site-or-not f h n = subst T (other (λ s p. true) false f n) h
-
--- what holds of site lines holds of a line that is one
-pub at-site : (P : Frame → Type 0) → ((s : ℕ) (p : Place) → P (Site s p)) → (f : Frame) → IsSite f → P f
-at-site P a f h = by-site (λ g. IsSite g → P g) (λ s p i. a s p) (λ g n i. absurd (site-or-not g i n)) f h
-
 -- what holds of both things that are said holds of what is said of a line
 pub either-way : {A : Type 0} (P : A → Type 0) {a : ℕ → Place → A} {b : A} (f : Frame) → ((s : ℕ) (p : Place) → P (a s p)) → P b → P (ifSite a b f)
 either-way P {a} {b} f h k = by-site (λ g. P (ifSite a b g)) h (λ g n. subst P (sym (other a b g n)) k) f
@@ -54,10 +41,6 @@ pub both-ways : {A B : Type 0} (R : A → B → Type 0) {a : ℕ → Place → A
 both-ways R {a} {b} {c} {d} f h k =
     by-site (λ g. R (ifSite a b g) (ifSite c d g)) h
     (λ g n. subst (λ x. R x (ifSite c d g)) (sym (other a b g n)) (subst (R b) (sym (other c d g n)) k)) f
-
--- a site line opens and closes nothing
-pub site-step : (f : Frame) → IsSite f → (n : ℕ) (o : List ℕ) → step n f o ≡ o
-site-step f h n o = at-site (λ g. step n g o ≡ o) (λ s p. refl) f h
 
 -- what two say of a call or spawn, they say of any line
 pub makes-same : {A : Type 0} (a c : ℕ → A) (b : A) (f : Frame) → ((s : ℕ) → a s ≡ c s) → ifMakes a b f ≡ ifMakes c b f

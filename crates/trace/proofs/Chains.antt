@@ -2,13 +2,13 @@
 use mathlib.Core.Path.{_≡_, refl, sym, ap, subst, subst₂}
 use mathlib.Core.Logic.{inl, inr}
 use mathlib.Core.List.{List, [], _∷_, _++_, List·Memᴰ·head, List·Memᴰ·tail, List·Memᴰ·not-nil, List·Memᴰ·cases-cons, Memᴰ·append-left, Memᴰ·append-right}
-use Prim.Native.Nat.{ℕ, zero, suc, _+_, _≤_, _<_}
+use Prim.Native.Nat.{ℕ, zero, suc, _+_, _<_}
 use native.Mathlib.Omega.{arith}
 use native.Mathlib.Nat.{le-dest}
 use lib.ListN.{length, length-append}
 use lib.Dec.{T}
 use Rattle.line.specs.declared.Frame.{Frame}
-use Rattle.line.specs.declared.Frame.the-variants.{Cost}
+use Rattle.line.specs.declared.Frame.the-variants.{Sync, Cost}
 use Rattle.chain.specs.Plan.{CostLine, costs, On, Apart}
 use Rattle.chain.specs.Plan as P
 use Rattle.chain.specs.Over as Over
@@ -16,15 +16,15 @@ use Rattle.chain.proofs.Over.{Found, Fits, chosen-by, span-by}
 use Rattle.chain.specs.Over.{linesIn}
 use Rattle.trace.specs.Shape.{Is, root, walk, openAt, has, Parallel}
 use Rattle.trace.specs.Series.{value, valueAt, CostIn, rule, Span, Chosen}
-use Rattle.trace.specs.Tree.{Way, opening, spend, sync, Body, done, leaf, child, linesOf, size}
+use Rattle.trace.specs.Tree.{Way, opening, lineOf, spend, sync, note, Body, done, leaf, child, linesOf, size}
 use Rattle.trace.specs.Fold.{costAt, plan, chainOf}
 use Rattle.trace.proofs.Basics.{below, clash}
-use Rattle.trace.proofs.Tree.{size-is, leaf-not-opening}
+use Rattle.trace.proofs.Tree.{size-is, leaf-not-opening, spend-not-note}
 use Rattle.trace.proofs.Levels.{in-of, in-lt}
 use Rattle.trace.proofs.Apart.{costs-two, on-two, apart-beside, beside-apart}
 use Rattle.trace.proofs.Recurrence.{Paid, chain-chosen}
 use Rattle.trace.proofs.Open.{in-to, in-from}
-use Rattle.trace.proofs.Context.{Ctx, is-append, at-open, at-is, local-to, local-from}
+use Rattle.trace.proofs.Context.{Ctx, is-append, has-le, at-open, at-is, local-to, local-from}
 
 -- ── lines by their numbers ──
 
@@ -69,7 +69,8 @@ on-where (leaf (spend v) r) n s x m =
       | inl e ↦ (zero, (let l : x .line ≡ n = ap (λ (y : CostLine). y .line) e in omega arith), ap (λ (y : CostLine). Cost (y .value)) (sym e))
       | inr k ↦ one-on n (Cost v) (linesOf r) x (on-where r (suc n) s x k)
     ]
-on-where (leaf sync r) n s x m = one-on n _ (linesOf r) x (on-where r (suc n) s x m)
+on-where (leaf sync r) n s x m = one-on n Sync (linesOf r) x (on-where r (suc n) s x m)
+on-where (leaf (note k) r) n s x m = one-on n (lineOf (note k)) (linesOf r) x (on-where r (suc n) s x m)
 on-where (child w v g r) n s x m =
     one-on n (opening w v) (linesOf g ++ linesOf r) x (elim (on-two w n s v g r x m) [
       | inl o ↦ left-on (suc n) (linesOf g) (linesOf r) x (on-where g (suc n) v x o)
@@ -113,83 +114,85 @@ where-on (leaf (spend v) r) n s (suc i) w h =
     record { cost = f .cost; on = List·Memᴰ·tail (f .on); line-is = omega (arith, f .line-is); value-is = f .value-is }
 where-on (leaf sync r) n s zero w h = clash (cc)
 where-on (leaf sync r) n s (suc i) w h = found-line (costs (plan n s (leaf sync r))) (suc n + i) (n + suc i) w (omega arith) (where-on r (suc n) s i w h)
+where-on (leaf (note k) r) n s zero w h = spend-not-note w k (sym h)
+where-on (leaf (note k) r) n s (suc i) w h = found-line (costs (plan n s (leaf (note k) r))) (suc n + i) (n + suc i) w (omega arith) (where-on r (suc n) s i w h)
 where-on (child m v g r) n s zero w h = leaf-not-opening (spend w) m v (sym h)
 where-on (child m v g r) n s (suc i) w h = find-two m n s v g r (where-on g) (where-on r) i w h
 
 -- ── one invocation ──
 
--- The invocation F, in row s, has the body g, whose first line is line n; no cost line inside it is before that.
-module _ (t : List Frame) (n s F : ℕ) (o : List ℕ) (g : Body) (post : List Frame) (x : Ctx t n (F ∷ o) (linesOf g ++ post)) (start : (k : ℕ) → CostIn t F k → n ≤ k) where
-  pub inside : (i : ℕ) → i < size g → T (has F (walk n (F ∷ o) (linesOf g ++ post) i))
-  inside i l = in-to F zero n (F ∷ o) (linesOf g ++ post) i (x .low .0) (refl, x .low .1) (in-of g post i l)
+-- The invocation F, in row s, has the body g, whose first line is line F.
+module _ (t : List Frame) (s F : ℕ) (o : List ℕ) (g : Body) (post : List Frame) (x : Ctx t F (F ∷ o) (linesOf g ++ post)) where
+  pub inside : (i : ℕ) → i < size g → T (has F (walk F (F ∷ o) (linesOf g ++ post) i))
+  inside i l = in-to F zero F (F ∷ o) (linesOf g ++ post) i (x .low .0) (refl, x .low .1) (in-of g post i l)
 
-  pub within : (i : ℕ) → i < length (linesOf g ++ post) → T (has F (walk n (F ∷ o) (linesOf g ++ post) i)) → i < size g
-  within i l h = in-lt g post i (in-from F zero n (F ∷ o) (linesOf g ++ post) i (x .low .0) (refl, x .low .1) l h)
+  pub within : (i : ℕ) → i < length (linesOf g ++ post) → T (has F (walk F (F ∷ o) (linesOf g ++ post) i)) → i < size g
+  within i l h = in-lt g post i (in-from F zero F (F ∷ o) (linesOf g ++ post) i (x .low .0) (refl, x .low .1) l h)
 
   -- a cost line inside is a cost of the plan
-  pub cost-on : (k : ℕ) → CostIn t F k → Found (costs (plan n s g)) k (valueAt t k)
-  cost-on k c = go (le-dest (start k c))
+  pub cost-on : (k : ℕ) → CostIn t F k → Found (costs (plan F s g)) k (valueAt t k)
+  cost-on k c = go (le-dest (has-le t k F (c .inside)))
     where
-      go : (i : ℕ) × (n + i ≡ k) → Found (costs (plan n s g)) k (valueAt t k)
+      go : (i : ℕ) × (F + i ≡ k) → Found (costs (plan F s g)) k (valueAt t k)
       go w =
           let i = w .0 in
           let h : Is (linesOf g ++ post) i (Cost (valueAt t k)) =
-          subst (λ (A : Type 0). A) (at-is t n (F ∷ o) (linesOf g ++ post) x i (Cost (valueAt t k))) (subst (λ (z : ℕ). Is t z (Cost (valueAt t k))) (sym (w .1)) (c .is)) in
-          let q : T (has F (walk n (F ∷ o) (linesOf g ++ post) i)) =
-          subst (λ (l : List ℕ). T (has F l)) (at-open t n (F ∷ o) (linesOf g ++ post) x i) (subst (λ (z : ℕ). T (has F (openAt t z))) (sym (w .1)) (c .inside)) in
+          subst (λ (A : Type 0). A) (at-is t F (F ∷ o) (linesOf g ++ post) x i (Cost (valueAt t k))) (subst (λ (z : ℕ). Is t z (Cost (valueAt t k))) (sym (w .1)) (c .is)) in
+          let q : T (has F (walk F (F ∷ o) (linesOf g ++ post) i)) =
+          subst (λ (l : List ℕ). T (has F l)) (at-open t F (F ∷ o) (linesOf g ++ post) x i) (subst (λ (z : ℕ). T (has F (openAt t z))) (sym (w .1)) (c .inside)) in
           let l = within i (is-length (linesOf g ++ post) i (Cost (valueAt t k)) h) q in
-          found-line (costs (plan n s g)) (n + i) k (valueAt t k) (w .1) (where-on g n s i (valueAt t k) (is-left (linesOf g) post i (Cost (valueAt t k)) (omega (arith, size-is g)) h))
+          found-line (costs (plan F s g)) (F + i) k (valueAt t k) (w .1) (where-on g F s i (valueAt t k) (is-left (linesOf g) post i (Cost (valueAt t k)) (omega (arith, size-is g)) h))
 
   -- and back
-  pub on-cost : (y : CostLine) → On (plan n s g) y → CostIn t F (y .line) × (valueAt t (y .line) ≡ y .value)
-  on-cost y m = go (on-where g n s y m)
+  pub on-cost : (y : CostLine) → On (plan F s g) y → CostIn t F (y .line) × (valueAt t (y .line) ≡ y .value)
+  on-cost y m = go (on-where g F s y m)
     where
-      go : Where n (linesOf g) y → CostIn t F (y .line) × (valueAt t (y .line) ≡ y .value)
+      go : Where F (linesOf g) y → CostIn t F (y .line) × (valueAt t (y .line) ≡ y .value)
       go w =
           let i = w .0 in
           let h : Is t (y .line) (Cost (y .value)) =
           subst (λ (z : ℕ). Is t z (Cost (y .value))) (sym (w .1))
-          (subst (λ (A : Type 0). A) (sym (at-is t n (F ∷ o) (linesOf g ++ post) x i (Cost (y .value)))) (is-right (linesOf g) post i (Cost (y .value)) (w .2))) in
+          (subst (λ (A : Type 0). A) (sym (at-is t F (F ∷ o) (linesOf g ++ post) x i (Cost (y .value)))) (is-right (linesOf g) post i (Cost (y .value)) (w .2))) in
           let e = value-is t (y .line) (y .value) h in
           let q : T (has F (openAt t (y .line))) =
           subst (λ (z : ℕ). T (has F (openAt t z))) (sym (w .1))
-          (subst (λ (l : List ℕ). T (has F l)) (sym (at-open t n (F ∷ o) (linesOf g ++ post) x i)) (inside i (omega (arith, size-is g, is-length (linesOf g) i (Cost (y .value)) (w .2))))) in
+          (subst (λ (l : List ℕ). T (has F l)) (sym (at-open t F (F ∷ o) (linesOf g ++ post) x i)) (inside i (omega (arith, size-is g, is-length (linesOf g) i (Cost (y .value)) (w .2))))) in
           (record { is = subst (λ (v : ℕ). Is t (y .line) (Cost v)) (sym e) h; inside = q }, e)
 
-  module _ (y z : CostLine) (my : On (plan n s g) y) (mz : On (plan n s g) z) (lt : y .line < z .line) where
+  module _ (y z : CostLine) (my : On (plan F s g) y) (mz : On (plan F s g) z) (lt : y .line < z .line) where
     -- LAW: parallel by the definition exactly where apart in the plan
-    pub apart-is-parallel : Apart (plan n s g) y z → Parallel t (y .line) (z .line)
-    apart-is-parallel a = go (on-where g n s y my) (on-where g n s z mz)
+    pub apart-is-parallel : Apart (plan F s g) y z → Parallel t (y .line) (z .line)
+    apart-is-parallel a = go (on-where g F s y my) (on-where g F s z mz)
       where
-        go : Where n (linesOf g) y → Where n (linesOf g) z → Parallel t (y .line) (z .line)
+        go : Where F (linesOf g) y → Where F (linesOf g) z → Parallel t (y .line) (z .line)
         go u w =
             let li = is-length (linesOf g) (u .0) (Cost (y .value)) (u .2) in
             let lj = is-length (linesOf g) (w .0) (Cost (z .value)) (w .2) in
             subst₂ (λ (i j : ℕ). Parallel t i j) (sym (u .1)) (sym (w .1))
-            (local-from t n F o (linesOf g ++ post) x (u .0) (w .0) (inside (u .0) (omega (arith, size-is g))) (inside (w .0) (omega (arith, size-is g)))
+            (local-from t F F o (linesOf g ++ post) x (u .0) (w .0) (inside (u .0) (omega (arith, size-is g))) (inside (w .0) (omega (arith, size-is g)))
             (omega (arith, u .1, w .1)) (omega (arith, length-append (linesOf g) post))
-            (apart-beside g n s post y z (u .0) (w .0) (u .1) (w .1) a))
+            (apart-beside g F s post y z (u .0) (w .0) (u .1) (w .1) a))
 
-    pub parallel-is-apart : Parallel t (y .line) (z .line) → Apart (plan n s g) y z
-    parallel-is-apart p = go (on-where g n s y my) (on-where g n s z mz)
+    pub parallel-is-apart : Parallel t (y .line) (z .line) → Apart (plan F s g) y z
+    parallel-is-apart p = go (on-where g F s y my) (on-where g F s z mz)
       where
-        go : Where n (linesOf g) y → Where n (linesOf g) z → Apart (plan n s g) y z
+        go : Where F (linesOf g) y → Where F (linesOf g) z → Apart (plan F s g) y z
         go u w =
             let li = is-length (linesOf g) (u .0) (Cost (y .value)) (u .2) in
             let lj = is-length (linesOf g) (w .0) (Cost (z .value)) (w .2) in
-            beside-apart g n s post y z (u .0) (w .0) (u .1) (w .1) my mz lt
-            (local-to t n F o (linesOf g ++ post) x (u .0) (w .0) (inside (u .0) (omega (arith, size-is g))) (inside (w .0) (omega (arith, size-is g)))
+            beside-apart g F s post y z (u .0) (w .0) (u .1) (w .1) my mz lt
+            (local-to t F F o (linesOf g ++ post) x (u .0) (w .0) (inside (u .0) (omega (arith, size-is g))) (inside (w .0) (omega (arith, size-is g)))
             (omega (arith, u .1, w .1)) (omega (arith, length-append (linesOf g) post))
             (subst₂ (λ (i j : ℕ). Parallel t i j) (u .1) (w .1) p))
 
   -- LAW: the body's plan fits the rule of the invocation's cost lines
-  fits : Fits (rule t F) (plan n s g)
+  fits : Fits (rule t F) (plan F s g)
   fits = record { found = cost-on; on = on-cost; apart = apart-is-parallel; parallel = parallel-is-apart }
 
   -- LAW: the span is the weight of the recurrence's chain
-  pub span-of : Paid g → Span t F (P.weight (chainOf n s g))
-  span-of h = span-by (rule t F) (plan n s g) fits (chainOf n s g) (chain-chosen g n s h)
+  pub span-of : Paid g → Span t F (P.weight (chainOf F s g))
+  span-of h = span-by (rule t F) (plan F s g) fits (chainOf F s g) (chain-chosen g F s h)
 
   -- LAW: the chosen chain of the root is the recurrence's chain
-  pub chosen-of : Paid g → F ≡ root → Chosen t (linesIn (chainOf n s g))
-  chosen-of h r = subst (λ (G : ℕ). Over.Chosen (rule t G) (linesIn (chainOf n s g))) r (chosen-by (rule t F) (plan n s g) fits (chainOf n s g) (chain-chosen g n s h))
+  pub chosen-of : Paid g → F ≡ root → Chosen t (linesIn (chainOf F s g))
+  chosen-of h r = subst (λ (G : ℕ). Over.Chosen (rule t G) (linesIn (chainOf F s g))) r (chosen-by (rule t F) (plan F s g) fits (chainOf F s g) (chain-chosen g F s h))

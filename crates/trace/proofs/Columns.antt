@@ -1,7 +1,7 @@
 -- The five columns by the tree: what an engine adds up. Columns 4 and 5 by the costs of the plan, each with its row.
 use mathlib.Core.Path.{_≡_, refl, sym, _∙_, ap, subst}
 use mathlib.Core.Bool.{Bool, true, false, cond, _&&_, and-true}
-use mathlib.Core.List.{List, [], _∷_, _++_, append-assoc, append-nil}
+use mathlib.Core.List.{List, [], _∷_, _++_, append-assoc}
 use Prim.Native.Nat.{ℕ, zero, suc, _+_, _≤_}
 use native.Mathlib.Omega.{arith}
 use lib.ListN.{length}
@@ -10,18 +10,18 @@ use borrow.Author.Tests.{eq-eqb, ne-eqb}
 use Rattle.line.specs.declared.Frame.{Frame}
 use Rattle.line.specs.declared.Frame.the-variants.{Return}
 use Rattle.chain.specs.Plan.{CostLine, costs}
-use Rattle.trace.specs.Shape.{Is, root, step, walk, has, firstIs, sites}
+use Rattle.trace.specs.Shape.{Is, root, step, has, firstIs, sites}
 use Rattle.trace.specs.Series.{value}
 use Rattle.trace.specs.Rows.{makes, made, ofRow, sumOf, costsWhere, total, sum, Sum, calls, local, onSpan}
-use Rattle.trace.specs.Tree.{Way, opening, Leaf, spend, sync, lineOf, leafWork, Body, done, leaf, child, linesOf, size, Within, Parts, workOf, localOf, madeSum, callsIn, localIn, rootAt}
+use Rattle.trace.specs.Tree.{Way, opening, Leaf, spend, sync, note, lineOf, leafWork, Body, done, leaf, child, linesOf, size, Within, Parts, workOf, localOf, madeSum, callsIn, localIn}
 use Rattle.trace.specs.Fold.{costAt, plan}
 use Rattle.trace.proofs.Basics.{cond-same, cond-add, cond-le}
 use Rattle.trace.proofs.Tree.{leaf-step, opening-step, opening-makes, leaf-value, opening-value}
 use Rattle.trace.proofs.Apart.{costs-two}
 use Rattle.trace.proofs.Sums.{not-made, makesAt, has-made, sum-made, sum-zero, sum-add, sum-same}
 use Rattle.trace.proofs.Context.{Ctx, at-is}
-use Rattle.trace.proofs.Invocations.{ctx-leaf, ctx-child, ctx-skip, root-ctx, heads-open, whole, row-sum}
-use Rattle.trace.proofs.Stretches.{sum-append, all-costs, heads-sum}
+use Rattle.trace.proofs.Invocations.{ctx-leaf, ctx-child, ctx-skip, root-ctx, whole, row-sum}
+use Rattle.trace.proofs.Stretches.{all-costs}
 
 -- ── column 1 ──
 
@@ -36,7 +36,7 @@ count-from (x ∷ l) n h = omega (arith, h .2, h .4, count-from l (h .1) (h .3))
 module _ (D : ℕ) (t : List Frame) (p : Parts D t) (s : ℕ) where
   -- LAW
   pub calls-tree : calls t s ≡ callsIn s (p .body)
-  calls-tree = count-from (ofRow t s) (callsIn s (p .body)) (row-sum D t p (λ F a. a ≡ 1) (λ g. 1) (λ F n g i. refl) s)
+  calls-tree = count-from (ofRow t s) (callsIn s (p .body)) (row-sum D t p (λ F a. a ≡ 1) (λ g. 1) (λ F g i. refl) s)
 
 -- ── the costs of the plan, picked by row and by line ──
 
@@ -56,6 +56,7 @@ where-same w v h (x ∷ l) = omega (arith, ap (λ (b : Bool). cond b (x .value) 
 pub where-leaf : (w : CostLine → Bool) (l : Leaf) (n s : ℕ) (r : Body) → sumWhere w (costs (plan n s (leaf l r))) ≡ cond (w (costAt n s (leafWork l))) (leafWork l) 0 + sumWhere w (costs (plan (suc n) s r))
 where-leaf w (spend v) n s r = refl
 where-leaf w sync n s r = omega (arith, cond-same (w (costAt n s 0)))
+where-leaf w (note x) n s r = omega (arith, cond-same (w (costAt n s 0)))
 
 pub where-two : (w : CostLine → Bool) (m : Way) (n s i : ℕ) (g r : Body) → sumWhere w (costs (plan n s (child m i g r))) ≡ sumWhere w (costs (plan (suc n) i g)) + sumWhere w (costs (plan (suc n + size g) s r))
 where-two w m n s i g r =
@@ -88,19 +89,6 @@ known-made t n i w l h (suc s) v b =
 -- line n of the trace is the first of the context's lines
 pub first-is : (t : List Frame) (n : ℕ) (o : List ℕ) (e : Frame) (v : List Frame) → Ctx t n o (e ∷ v) → Is t n e
 first-is t n o e v x = let f : n + 0 ≡ n = omega arith in subst (λ (k : ℕ). Is t k e) f (subst (λ (A : Type 0). A) (sym (at-is t n o (e ∷ v) x 0 e)) refl)
-
--- the sites weigh nothing, and the root's body begins behind them
-pub behind-heads : (D : ℕ) (t : List Frame) (x : Parts D t) (w : ℕ → List ℕ → Bool) → costsWhere t w ≡ sumOf w (rootAt x) (root ∷ []) (linesOf (x .body) ++ [])
-behind-heads D t x w =
-    let e : 0 + rootAt x ≡ rootAt x = omega arith in
-    omega (
-      arith,
-      ap (sumOf w 0 (root ∷ [])) (whole D t x),
-      sum-append w 0 (root ∷ []) (x .heads) (linesOf (x .body) ++ []),
-      heads-sum w 0 (root ∷ []) (x .heads) (x .all-sites),
-      ap (λ (k : ℕ). sumOf w k (walk 0 (root ∷ []) (x .heads) (rootAt x)) (linesOf (x .body) ++ [])) e,
-      ap (λ (o : List ℕ). sumOf w (rootAt x) o (linesOf (x .body) ++ [])) (heads-open (x .heads) 0 (root ∷ []) (x .all-sites)),
-    )
 
 -- lines are picked by number, q, and for an invocation where it is the innermost
 module _ (t : List Frame) (s : ℕ) (q : ℕ → Bool) (pick : ℕ → ℕ → List ℕ → Bool) (is : (F k c : ℕ) (o : List ℕ) → pick F k (c ∷ o) ≡ (eqb F c && q k)) where
@@ -150,12 +138,12 @@ module _ (t : List Frame) (s : ℕ) (q : ℕ → Bool) (pick : ℕ → ℕ → L
         move (suc n + size g + size b) (n + suc (size g + size b)) o u (omega arith),
       )
 
-  pub column : (D : ℕ) (x : Parts D t) → sum (λ F. costsWhere t (pick F)) (ofRow t s) ≡ sumWhere picked (costs (plan (rootAt x) 0 (x .body)))
+  pub column : (D : ℕ) (x : Parts D t) → sum (λ F. costsWhere t (pick F)) (ofRow t s) ≡ sumWhere picked (costs (plan 0 0 (x .body)))
   column D x =
       omega (
         arith,
-        sum-same (λ F. costsWhere t (pick F)) (λ F. sumOf (pick F) (rootAt x) (root ∷ []) (linesOf (x .body) ++ [])) (λ F. behind-heads D t x (pick F)) (ofRow t s),
-        picks (x .body) (sites t) D 1 (rootAt x) root 0 [] [] (x .within) (known-root t) (root-ctx D t x),
+        ap (inRow 0 (root ∷ [])) (whole D t x),
+        picks (x .body) (sites t) D 1 0 root 0 [] [] (x .within) (known-root t) (root-ctx D t x),
         sum-zero (ofRow t s),
       )
 
@@ -183,7 +171,7 @@ local-below s (child w i g r) = omega (arith, cond-le (eqb i s) (localOf g), loc
 
 module _ (D : ℕ) (t : List Frame) (p : Parts D t) where
   abbrev all : List CostLine
-  all = costs (plan (rootAt p) 0 (p .body))
+  all = costs (plan 0 0 (p .body))
 
   pub local-costs : (s : ℕ) → local t s ≡ sumWhere (λ x. eqb (x .row) s && true) all
   local-costs s = column t s (λ k. true) (λ F k o. firstIs F o) (λ F k c o. sym (and-true (eqb F c))) D p
@@ -196,13 +184,12 @@ module _ (D : ℕ) (t : List Frame) (p : Parts D t) where
 
   -- LAW
   pub local-tree : (s : ℕ) → local t s ≡ localIn s (p .body)
-  local-tree zero = omega (arith, local-costs 0, plain 0, row-costs 0 (p .body) (rootAt p) 0, none-from-root localOf (sites t) D 1 (p .body) (p .within), ap (λ (b : Bool). cond b (localOf (p .body)) 0) (eq-eqb 0 0 refl))
-  local-tree (suc s) = omega (arith, local-costs (suc s), plain (suc s), row-costs (suc s) (p .body) (rootAt p) 0, ap (λ (b : Bool). cond b (localOf (p .body)) 0) (ne-eqb 0 (suc s) (λ q. omega arith)))
+  local-tree zero = omega (arith, local-costs 0, plain 0, row-costs 0 (p .body) 0 0, none-from-root localOf (sites t) D 1 (p .body) (p .within), ap (λ (b : Bool). cond b (localOf (p .body)) 0) (eq-eqb 0 0 refl))
+  local-tree (suc s) = omega (arith, local-costs (suc s), plain (suc s), row-costs (suc s) (p .body) 0 0, ap (λ (b : Bool). cond b (localOf (p .body)) 0) (ne-eqb 0 (suc s) (λ q. omega arith)))
 
   -- LAW: the total work is all that the root's body costs
   pub total-tree : total t ≡ workOf (p .body)
-  total-tree =
-      behind-heads D t p (λ k o. true) ∙ ap (sumOf (λ k o. true) (rootAt p) (root ∷ [])) (append-nil (linesOf (p .body))) ∙ all-costs (p .body) (rootAt p) (root ∷ [])
+  total-tree = ap (sumOf (λ k o. true) 0 (root ∷ [])) (p .lines) ∙ all-costs (p .body) 0 (root ∷ [])
 
   -- LAW: no row's local exceeds the total work
   pub local-le : (s : ℕ) → local t s ≤ total t

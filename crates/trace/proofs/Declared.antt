@@ -1,10 +1,11 @@
--- No two sites share a row: an accepted site line has the number of its line and one more, and its place is its own.
+-- No two sites share a row: an accepted site line has the number of the sites before it and one more, and its place is
+-- its own.
 use mathlib.Core.Path.{_≡_, refl, sym, _∙_, ap, subst}
 use mathlib.Core.Bool.{Bool, true, false, _&&_, _||_, or-true}
 use mathlib.Core.List.{List, [], _∷_, _++_, append-nil}
 use Prim.Native.Nat.{ℕ, zero, suc, _<_}
 use native.Mathlib.Omega.{arith}
-use lib.ListN.{length, take}
+use lib.ListN.{take}
 use lib.Seq.{append-snoc}
 use lib.Dec.{eqb}
 use borrow.Author.Tests.{eqb-true, eq-eqb}
@@ -16,7 +17,7 @@ use Rattle.trace.specs.Refusals.{misplaced, samePlace, placed, placeAgai
 use Rattle.trace.proofs.Basics.{no-way, both}
 use Rattle.trace.proofs.Cases.{by-site, other, either-way, both-ways}
 use Rattle.trace.proofs.Scan.{Clean, faultless, Fine}
-use Rattle.trace.proofs.Sites.{sites-before, number-is, Numbered, numbered-start, numbered-snoc}
+use Rattle.trace.proofs.Sites.{number-is, Numbered, numbered-start, numbered-snoc}
 
 -- a line is one frame
 pub is-one : (t : List Frame) (k : ℕ) (f g : Frame) → Is t k f → Is t k g → f ≡ g
@@ -47,11 +48,6 @@ counts (f ∷ t) zero (suc j) s p a l = subst (λ (g : Frame). 0 < sites (g ∷ 
 counts (f ∷ t) (suc i) (suc j) s p a l =
     let r = counts t i j s p a (omega arith) in
     both-ways (λ (x y : ℕ). x < y) f (λ u q. omega (arith, r)) r
-
-line-length : (t : List Frame) (i : ℕ) (f : Frame) → Is t i f → length (take i t) ≡ i
-line-length [] i f a = absurd a
-line-length (e ∷ t) zero f a = refl
-line-length (e ∷ t) (suc i) f a = ap suc (line-length t i f a)
 
 one-line : (i j : ℕ) → (i < j → ⊥) → (j < i → ⊥) → i ≡ j
 one-line i j a b = omega (arith, a, b)
@@ -115,21 +111,15 @@ module _ (D M : ℕ) (t : List Frame) (f : Fine D M t) where
   passed : (i s : ℕ) (p : Place) → Is t i (Site s p) → InOrder (take i t) (Site s p)
   passed i s p a = in-order D M [] t (f .clean) numbered-start i (Site s p) a
 
-  -- LAW: a site line's number is one above the number of sites before it
-  pub number-above : (i s : ℕ) (p : Place) → Is t i (Site s p) → s ≡ suc (sites (take i t))
-  number-above i s p a = let x = passed i s p a in omega (arith, number-is (take i t) s p (x .not8), x .numbered .last)
-
-  -- LAW: site lines are numbered 1, 2, 3 and on
-  pub site-number : (i s : ℕ) (p : Place) → Is t i (Site s p) → s ≡ suc i
-  site-number i s p a =
-      let first = eqb-true (sites (take i t)) (length (take i t)) (sites-before (take i t) s p (passed i s p a .not8)) in
-      omega (arith, number-above i s p a, first, line-length t i (Site s p) a)
+  -- LAW: site lines are numbered 1, 2, 3 and on: a site line's number is one above the number of sites before it
+  pub site-number : (i s : ℕ) (p : Place) → Is t i (Site s p) → s ≡ suc (sites (take i t))
+  site-number i s p a = let x = passed i s p a in omega (arith, number-is (take i t) s p (x .not8), x .numbered .last)
 
   -- LAW: no two sites share a row: two site lines with one number are one line, with one place
   pub row-once : (i j s : ℕ) (p q : Place) → Is t i (Site s p) → Is t j (Site s q) → (i ≡ j) × (p ≡ q)
   row-once i j s p q a b =
-      let x = number-above i s p a in
-      let y = number-above j s q b in
+      let x = site-number i s p a in
+      let y = site-number j s q b in
       let e = one-line i j (λ l. omega (arith, counts t i j s p a l)) (λ l. omega (arith, counts t j i s q b l)) in
       (e, (let z = is-one t j (Site s p) (Site s q) (subst (λ (k : ℕ). Is t k (Site s p)) e a) b in cc))
 

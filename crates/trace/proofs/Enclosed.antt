@@ -254,11 +254,11 @@ module _ (D : ℕ) (t : List Frame) (p : Parts D t) (s : ℕ) (a : Alone s (p .b
   alone-work =
       work-tree D t p s
       ∙ row-alone workOf s (p .body) a
-      ∙ sym (sum-from (inside t) (ofRow t s) (rowSum workOf s (p .body)) (row-sum D t p (λ F w. inside t F ≡ w) workOf (λ F n g i. inside-is t F n g i) s))
+      ∙ sym (sum-from (inside t) (ofRow t s) (rowSum workOf s (p .body)) (row-sum D t p (λ F w. inside t F ≡ w) workOf (λ F g i. inside-is t F g i) s))
 
   pub alone-spans : (n : ℕ) → Sum (Span t) (ofRow t s) n → Spans t s n
   alone-spans n h =
-      let all = row-sum D t p (Span t) spanOf (λ F n g i. span-is t F n g i) s in
+      let all = row-sum D t p (Span t) spanOf (λ F g i. span-is t F g i) s in
       subst (Spans t s)
       (row-alone spanOf s (p .body) a ∙ sum-unique (Span t) (span-unique t) (ofRow t s) (rowSum spanOf s (p .body)) n all h) (spans-tree D t p s)
 

@@ -1,12 +1,17 @@
--- The further traces of document 01 and one for each refusal: the verdict, computed.
+-- The further traces of document 01, those of request j and one for each refusal: the verdict, computed; and the span of
+-- a trace whose sites are met on the way.
 use mathlib.Core.Path.{_≡_, refl}
 use mathlib.Core.Bool.{Bool, true, false}
 use mathlib.Core.List.{List, [], _∷_, _++_, map}
 use Prim.Native.Nat.{ℕ}
 use lib.ListN.{take, replicate}
-use Rattle.line.specs.declared.Frame.the-variants.{Site, Return}
+use Rattle.line.specs.declared.Frame.the-variants.{Site, Spawn, Return, Cost}
+use Rattle.trace.specs.Shape.{root}
+use Rattle.trace.specs.Series.{Span}
 use Rattle.trace.specs.Refusals.{Verdict, accepted, refused, verdict}
+use Rattle.trace.specs.Tree.{spawn, site, spend, note, Body, done, leaf, child, linesOf}
 use Rattle.trace.specs.Twelve.{text}
+use Rattle.trace.proofs.Twelve.{span-here}
 
 record Ask : Type 0 where
   trace : List ℕ
@@ -37,10 +42,19 @@ asks =
     ∷ ask (0x0700000000000000000000 ∷ []) 4 2 (refused 6 0)
     ∷ ask (0x0100010000000a00010000 ∷ []) 4 2 (refused 6 0)
     ∷ ask (0x0500010000000000000000 ∷ []) 4 2 (refused 6 0)
-    -- the same place again, a number again, a site behind a cost
+    -- the same place again, a number again, a number passed over
     ∷ ask (0x0100010000000a00010005 ∷ 0x0100020000000a00010005 ∷ []) 4 2 (refused 10 1)
     ∷ ask (0x0100010000000a00010005 ∷ 0x0100010000000a00010006 ∷ []) 4 2 (refused 8 1)
-    ∷ ask (0x0600000000000100000000 ∷ 0x0100010000000a00010005 ∷ []) 4 2 (refused 8 1)
+    ∷ ask (0x0100010000000a00010005 ∷ 0x0600000000000100000000 ∷ 0x0100030000000a00010006 ∷ []) 4 4 (refused 8 2)
+    -- 02, request j: a site line behind a cost, between a spawn and its first cost, and directly before the root's return
+    ∷ ask (0x0600000000000100000000 ∷ 0x0100010000000a00010005 ∷ []) 4 2 (refused 14 2)
+    ∷ ask (0x0100010000000a00010005 ∷ 0x0300010000000000000000 ∷ 0x0100020000001400010009 ∷ 0x0600000000000700000000 ∷ 0x0500000000000000000000 ∷ 0x0500000000000000000000 ∷ []) 4 2
+    (accepted (Site 1 (record { file = 1; line = 10; column = 5 }) ∷ Spawn 1 ∷ Site 2 (record { file = 1; line = 20; column = 9 }) ∷ Cost 7 ∷ Return ∷ Return ∷ []))
+    ∷ ask (0x0600000000000100000000 ∷ 0x0100010000000a00010005 ∷ 0x0500000000000000000000 ∷ []) 4 2 (accepted (Cost 1 ∷ Site 1 (record { file = 1; line = 10; column = 5 }) ∷ Return ∷ []))
+    -- the call of a site that the next line declares; a place of before, behind another kind; a site line after the root's return
+    ∷ ask (0x0200010000000000000000 ∷ 0x0100010000000a00010005 ∷ []) 4 2 (refused 11 0)
+    ∷ ask (0x0100010000000a00010005 ∷ 0x0400000000000000000000 ∷ 0x0100020000000a00010005 ∷ []) 4 2 (refused 10 2)
+    ∷ ask (0x0500000000000000000000 ∷ 0x0100010000000a00010005 ∷ []) 4 2 (refused 7 1)
     -- places that differ in the file, in the line or in the column alone
     ∷ ask (0x0100010000000a00010005 ∷ 0x0100020000000a00020005 ∷ 0x0100030000000b00010005 ∷ 0x0100040000000a00010006 ∷ []) 4 4 (refused 14 4)
     -- within a line the smallest number: 7 before 11, but 6 and 5 before 7; 8 before 9 and 10
@@ -66,3 +80,17 @@ given a = verdict (a .trace) (a .D) (a .M) (a .room)
 
 pub further : map given asks ≡ map gives asks
 further = refl
+
+-- 02, request j: "Site lines weigh nothing and join nothing". Case D with its second site behind the spawn: site 1,
+-- spawn 1 {4}, site 2, cost 5.
+abbrev met : Body
+met =
+    leaf (note (site 1 (record { file = 1; line = 10; column = 5 })))
+    (child spawn 1 (leaf (spend 4) done) (leaf (note (site 2 (record { file = 1; line = 20; column = 9 }))) (leaf (spend 5) done)))
+
+abbrev met-text : List ℕ
+met-text =
+    text (0x0100010000000a00010005 ∷ 0x0300010000000000000000 ∷ 0x0600000000000400000000 ∷ 0x0500000000000000000000 ∷ 0x0100020000001400010009 ∷ 0x0600000000000500000000 ∷ 0x0500000000000000000000 ∷ [])
+
+pub still-parallel : (verdict met-text 4 2 true ≡ accepted (linesOf met)) × Span (linesOf met) root 5
+still-parallel = (refl, span-here met-text met refl)

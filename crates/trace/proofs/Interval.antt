@@ -15,10 +15,9 @@ use Rattle.trace.specs.Tree.{Body, done, leaf, child, linesOf, size}
 use Rattle.trace.proofs.Basics.{below}
 use Rattle.trace.proofs.Tree.{size-is}
 use Rattle.trace.proofs.Open.{first-has, first-of, first-eq, Below, Low, below-not}
-use Rattle.trace.proofs.Context.{Ctx, at-open, low-walk}
+use Rattle.trace.proofs.Context.{Ctx, at-open, low-walk, has-le}
 use Rattle.trace.proofs.Chains.{is-length, inside, within}
 use Rattle.trace.proofs.Invocations.{ctx-leaf, ctx-child, ctx-skip, Inv}
-use Rattle.trace.proofs.Stretches.{starts}
 use Rattle.trace.proofs.Columns.{first-is}
 
 -- the innermost invocation of a context is the one that its first line is directly in
@@ -53,31 +52,31 @@ open-suc n o (f ∷ u) (suc k) e h =
     let q : suc n + k ≡ n + suc k = omega arith in
     open-suc (suc n) (step n f o) u k e h ∙ ap (λ (m : ℕ). step m e (walk (suc n) (step n f o) u k)) q
 
-module _ (t : List Frame) (F n : ℕ) (g : Body) (i : Inv t F n g) where
+module _ (t : List Frame) (F : ℕ) (g : Body) (i : Inv t F g) where
   abbrev lines : List Frame
   lines = linesOf g ++ i .post
 
-  long : length t ≡ n + length lines
+  long : length t ≡ F + length lines
   long = ap length (i .ctx .whole) ∙ length-append (i .ctx .pre) lines ∙ ap (λ (m : ℕ). m + length lines) (i .ctx .count)
 
   -- LAW: the lines that an invocation contains, from its body's first line on
-  pub contains-iff : (k : ℕ) → n ≤ k → k < length t → Contains t F k ↔ (k < n + size g)
+  pub contains-iff : (k : ℕ) → F ≤ k → k < length t → Contains t F k ↔ (k < F + size g)
   contains-iff k l lk = (to (le-dest l), from (le-dest l))
     where
-      to : (j : ℕ) × (n + j ≡ k) → Contains t F k → k < n + size g
+      to : (j : ℕ) × (F + j ≡ k) → Contains t F k → k < F + size g
       to w h =
-          let m = within t n 0 F (i .around) g (i .post) (i .ctx) (starts t F n g i) (w .0) (omega (arith, w .1, long))
-          (subst (λ (l : List ℕ). T (has F l)) (at-open t n (F ∷ i .around) lines (i .ctx) (w .0)) (subst (λ (z : ℕ). T (has F (openAt t z))) (sym (w .1)) h)) in
+          let m = within t 0 F (i .around) g (i .post) (i .ctx) (w .0) (omega (arith, w .1, long))
+          (subst (λ (l : List ℕ). T (has F l)) (at-open t F (F ∷ i .around) lines (i .ctx) (w .0)) (subst (λ (z : ℕ). T (has F (openAt t z))) (sym (w .1)) h)) in
           omega (arith, w .1)
 
-      from : (j : ℕ) × (n + j ≡ k) → k < n + size g → Contains t F k
+      from : (j : ℕ) × (F + j ≡ k) → k < F + size g → Contains t F k
       from w m =
           subst (λ (z : ℕ). T (has F (openAt t z))) (w .1)
-          (subst (λ (l : List ℕ). T (has F l)) (sym (at-open t n (F ∷ i .around) lines (i .ctx) (w .0))) (inside t n 0 F (i .around) g (i .post) (i .ctx) (starts t F n g i) (w .0) (omega (arith, w .1))))
+          (subst (λ (l : List ℕ). T (has F l)) (sym (at-open t F (F ∷ i .around) lines (i .ctx) (w .0))) (inside t 0 F (i .around) g (i .post) (i .ctx) (w .0) (omega (arith, w .1))))
 
   -- LAW: its return is its last line, and no other
-  pub return-iff : (r : ℕ) → Returns t F r ↔ (suc r ≡ n + size g)
-  return-iff r = (to, last-line t g n F (i .around) (i .post) (i .ctx) r)
+  pub return-iff : (r : ℕ) → Returns t F r ↔ (suc r ≡ F + size g)
+  return-iff r = (to, last-line t g F F (i .around) (i .post) (i .ctx) r)
     where
       popped : (l : List ℕ) → Low (0 + r) l → T (firstIs F l) → T (has F (closed l)) → ⊥
       popped [] w f h = f
@@ -86,13 +85,13 @@ module _ (t : List Frame) (F n : ℕ) (g : Body) (i : Inv t F n g) where
       gone : Is t r Return → Directly t F r → Contains t F (suc r) → ⊥
       gone a d h = popped (openAt t r) (low-walk 0 (0 ∷ []) t r (omega arith, tt, tt)) d (subst (λ (l : List ℕ). T (has F l)) (open-suc 0 (0 ∷ []) t r Return a) h)
 
-      to : Returns t F r → suc r ≡ n + size g
+      to : Returns t F r → suc r ≡ F + size g
       to h =
           let l = is-length t r Return (h .is) in
           let m = first-has F (openAt t r) (h .its-own) in
-          elim (below n r) [
-            | inl k ↦ absurd (i .start r Return k (h .is) m)
-            | inr w ↦ elim (below (n + size g) (suc r)) [
+          elim (below F r) [
+            | inl k ↦ absurd (omega (arith, has-le t r F m))
+            | inr w ↦ elim (below (F + size g) (suc r)) [
               | inl k ↦ absurd (gone (h .is) (h .its-own) (contains-iff (suc r) (omega (arith, w .1)) (omega (arith, long, length-append (linesOf g) (i .post), size-is g)) .1 k))
               | inr v ↦ (let q = contains-iff r (omega (arith, w .1)) l .0 m in omega (arith, v .1))
             ]

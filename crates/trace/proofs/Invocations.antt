@@ -3,24 +3,22 @@ use mathlib.Core.Path.{_≡_, refl, sym, _∙_, ap, subst}
 use mathlib.Core.Logic.{inl, inr}
 use mathlib.Core.Bool.{Bool, true, false, cond}
 use mathlib.Core.List.{List, [], _∷_, _++_, append-assoc, append-nil}
-use Prim.Native.Nat.{ℕ, zero, suc, _+_, _<_}
+use Prim.Native.Nat.{ℕ, zero, suc, _+_}
 use native.Mathlib.Omega.{arith}
 use lib.ListN.{length, length-append}
 use lib.Seq.{append-snoc}
-use lib.Dec.{T, eqb}
+use lib.Dec.{eqb}
 use Rattle.line.specs.declared.Frame.{Frame}
 use Rattle.line.specs.declared.Frame.the-variants.{Return}
-use Rattle.trace.specs.Shape.{Is, root, step, walk, openAt, has, sites}
+use Rattle.trace.specs.Shape.{Is, root, step, walk, sites}
 use Rattle.trace.specs.Rows.{made, ofRow, Sum}
-use Rattle.trace.specs.Tree.{Way, opening, Leaf, lineOf, Body, done, leaf, child, linesOf, size, AllSites, Parts, madeSum, rowSum, rootAt}
+use Rattle.trace.specs.Tree.{Way, opening, Leaf, lineOf, Body, done, leaf, child, linesOf, size, Parts, madeSum, rowSum}
 use Rattle.trace.proofs.Basics.{below}
-use Rattle.trace.proofs.Cases.{IsSite, site-or-not, at-site, site-step}
-use Rattle.trace.proofs.Tree.{opening-not-site, size-is, no-sites-lines, leaf-step, opening-step, leaf-makes, opening-makes, return-not-opening, leaf-not-opening}
+use Rattle.trace.proofs.Tree.{size-is, leaf-step, opening-step, leaf-makes, opening-makes, return-not-opening, leaf-not-opening}
 use Rattle.trace.proofs.Scan.{now}
-use Rattle.trace.proofs.Sites.{sites-append, sites-all, sites-none}
 use Rattle.trace.proofs.Recurrence.{Paid, paid}
 use Rattle.trace.proofs.Parallels.{Alive, low-step}
-use Rattle.trace.proofs.Context.{Ctx, is-append, has-le}
+use Rattle.trace.proofs.Context.{Ctx, is-append}
 use Rattle.trace.proofs.Chains.{is-left}
 
 -- ── contexts ──
@@ -71,58 +69,38 @@ module _ (t : List Frame) where
 
 -- ── invocations ──
 
--- The invocation F has the body g, which begins at line n. Of the lines before only sites are inside it (the root's).
-pub record Inv (t : List Frame) (F n : ℕ) (g : Body) : Type 0 where
+-- The invocation F has the body g, which begins at line F.
+pub record Inv (t : List Frame) (F : ℕ) (g : Body) : Type 0 where
   pub around : List ℕ
   pub post : List Frame
-  pub ctx : Ctx t n (F ∷ around) (linesOf g ++ post)
-  pub start : (k : ℕ) (f : Frame) → k < n → Is t k f → T (has F (openAt t k)) → IsSite f
+  pub ctx : Ctx t F (F ∷ around) (linesOf g ++ post)
   pub paid : Paid g
 
 -- one that a line opened
-pub inner : (t : List Frame) (n : ℕ) (o : List ℕ) (g : Body) (u : List Frame) → Ctx t (suc n) (suc n ∷ o) (linesOf g ++ u) → Paid g → Inv t (suc n) (suc n) g
-inner t n o g u x h = record { around = o; post = u; ctx = x; start = λ k f l i m. absurd (omega (arith, has-le t k (suc n) m)); paid = h }
-
--- the sites of a trace leave the root open
-pub heads-open : (h : List Frame) (n : ℕ) (o : List ℕ) → AllSites h → walk n o h (length h) ≡ o
-heads-open [] n o s = refl
-heads-open (f ∷ h) n o s = ap (λ (x : List ℕ). walk (suc n) x h (length h)) (site-step f (s .0) n o) ∙ heads-open h (suc n) o (s .1)
-
-head-site : (h : List Frame) (k : ℕ) (f : Frame) → AllSites h → Is h k f → IsSite f
-head-site [] k f s i = absurd i
-head-site (e ∷ h) zero f s i = subst IsSite i (s .0)
-head-site (e ∷ h) (suc k) f s i = head-site h k f (s .1) i
+pub inner : (t : List Frame) (n : ℕ) (o : List ℕ) (g : Body) (u : List Frame) → Ctx t (suc n) (suc n ∷ o) (linesOf g ++ u) → Paid g → Inv t (suc n) g
+inner t n o g u x h = record { around = o; post = u; ctx = x; paid = h }
 
 module _ (D : ℕ) (t : List Frame) (p : Parts D t) where
-  -- LAW: the root's body begins behind the sites, at the line that has their number
-  pub root-behind-sites : rootAt p ≡ sites t
-  root-behind-sites =
-      omega (arith, ap sites (p .lines), sites-append (p .heads) (linesOf (p .body)), sites-all (p .heads) (p .all-sites), sites-none (linesOf (p .body)) (no-sites-lines (p .body)))
+  pub whole : t ≡ linesOf (p .body) ++ []
+  whole = p .lines ∙ sym (append-nil (linesOf (p .body)))
 
-  pub whole : t ≡ p .heads ++ (linesOf (p .body) ++ [])
-  whole = p .lines ∙ ap (λ (l : List Frame). p .heads ++ l) (sym (append-nil (linesOf (p .body))))
-
-  pub root-ctx : Ctx t (rootAt p) (root ∷ []) (linesOf (p .body) ++ [])
+  pub root-ctx : Ctx t root (root ∷ []) (linesOf (p .body) ++ [])
   root-ctx =
       record {
-        pre = p .heads;
+        pre = [];
         whole = whole;
         count = refl;
-        opened = heads-open (p .heads) 0 (root ∷ []) (p .all-sites);
+        opened = refl;
         low = (omega arith, tt, tt);
-        alive = alive (p .body) (rootAt p) root [] [] tt;
+        alive = alive (p .body) root root [] [] tt;
       }
 
   pub root-paid : Paid (p .body)
   root-paid = paid (sites t) D 1 (p .body) (p .within)
 
-  -- the lines before the body are sites
-  before-body : (k : ℕ) (f : Frame) → k < rootAt p → Is t k f → IsSite f
-  before-body k f l i = head-site (p .heads) k f (p .all-sites) (is-left (p .heads) (linesOf (p .body)) k f l (subst (λ (z : List Frame). Is z k f) (p .lines) i))
-
   -- LAW: the root is an invocation with the trace's body
-  pub root-inv : Inv t root (rootAt p) (p .body)
-  root-inv = record { around = []; post = []; ctx = root-ctx; start = λ k f l i m. before-body k f l i; paid = root-paid }
+  pub root-inv : Inv t root (p .body)
+  root-inv = record { around = []; post = []; ctx = root-ctx; paid = root-paid }
 
 -- ── the invocation that a line opens ──
 
@@ -131,13 +109,13 @@ Makes u k i = (w : Way) × Is u k (opening w i)
 
 module _ (t : List Frame) where
   abbrev Opens : Body → Type 0
-  Opens b = (n c : ℕ) (o : List ℕ) (u : List Frame) → Ctx t n (c ∷ o) (linesOf b ++ u) → Paid b → (k i : ℕ) → Makes (linesOf b) k i → (g : Body) × Inv t (suc (n + k)) (suc (n + k)) g
+  Opens b = (n c : ℕ) (o : List ℕ) (u : List Frame) → Ctx t n (c ∷ o) (linesOf b ++ u) → Paid b → (k i : ℕ) → Makes (linesOf b) k i → (g : Body) × Inv t (suc (n + k)) g
 
-  found-at : (m k : ℕ) → m ≡ k → (g : Body) × Inv t (suc m) (suc m) g → (g : Body) × Inv t (suc k) (suc k) g
-  found-at m k e w = subst (λ (j : ℕ). (g : Body) × Inv t (suc j) (suc j) g) e w
+  found-at : (m k : ℕ) → m ≡ k → (g : Body) × Inv t (suc m) g → (g : Body) × Inv t (suc k) g
+  found-at m k e w = subst (λ (j : ℕ). (g : Body) × Inv t (suc j) g) e w
 
   opens-two : (g r : Body) → Opens g → Opens r → (n c : ℕ) (o : List ℕ) (u : List Frame) → Ctx t (suc n) (suc n ∷ c ∷ o) (linesOf g ++ (linesOf r ++ u)) → Paid g → Paid r
-      → (k i : ℕ) → Makes (linesOf g ++ linesOf r) k i → (b : Body) × Inv t (suc (n + suc k)) (suc (n + suc k)) b
+      → (k i : ℕ) → Makes (linesOf g ++ linesOf r) k i → (b : Body) × Inv t (suc (n + suc k)) b
   opens-two g r f f′ n c o u x pg pr k i h = elim (below (size g) k) [
     | inl l ↦ found-at (suc n + k) (n + suc k) (omega arith) (f (suc n) (suc n) (c ∷ o) (linesOf r ++ u) x pg k i (h .0, is-left (linesOf g) (linesOf r) k (opening (h .0) i) (omega (arith, size-is g)) (h .1)))
     | inr w ↦ found-at (suc n + size g + w .0) (n + suc k) (omega (arith, w .1)) (f′ (suc n + size g) c o u (ctx-skip t g (suc n) (suc n) (c ∷ o) (linesOf r ++ u) x) pr (w .0) i (h .0, right w))
@@ -157,20 +135,14 @@ module _ (t : List Frame) where
   opens (child w s g r) n c o u x h (suc k) i m = opens-two g r (opens g) (opens r) n c o u (ctx-child t n c o w s g r u x) (h .0) (h .1) k i m
 
 -- LAW: every call or spawn line opens an invocation with a body
-pub made-inv : (D : ℕ) (t : List Frame) → Parts D t → (k i : ℕ) → Makes t k i → (g : Body) × Inv t (suc k) (suc k) g
-made-inv D t p k i m = elim (below (rootAt p) k) [
-  | inl l ↦ absurd (site-or-not (opening (m .0) i) (before-body D t p k (opening (m .0) i) l (m .1)) (opening-not-site (m .0) i))
-  | inr w ↦ found-at t (rootAt p + w .0) k (sym (w .1)) (opens t (p .body) (rootAt p) root [] [] (root-ctx D t p) (root-paid D t p) (w .0) i (m .0, late w))
-]
-  where
-    late : (w : (j : ℕ) × (k ≡ rootAt p + j)) → Is (linesOf (p .body)) (w .0) (opening (m .0) i)
-    late w =
-        subst (λ (A : Type 0). A) (is-append (p .heads) (linesOf (p .body)) (w .0) (opening (m .0) i))
-        (subst (λ (j : ℕ). Is (p .heads ++ linesOf (p .body)) j (opening (m .0) i)) (w .1) (subst (λ (z : List Frame). Is z k (opening (m .0) i)) (p .lines) (m .1)))
+pub made-inv : (D : ℕ) (t : List Frame) → Parts D t → (k i : ℕ) → Makes t k i → (g : Body) × Inv t (suc k) g
+made-inv D t p k i m =
+    found-at t (root + k) k (omega arith)
+    (opens t (p .body) root root [] [] (root-ctx D t p) (root-paid D t p) k i (m .0, subst (λ (z : List Frame). Is z k (opening (m .0) i)) (p .lines) (m .1)))
 
 -- ── sums over the invocations of a row ──
 
-module _ (t : List Frame) (s : ℕ) (p : ℕ → ℕ → Type 0) (h : Body → ℕ) (is : (F n : ℕ) (g : Body) → Inv t F n g → p F (h g)) where
+module _ (t : List Frame) (s : ℕ) (p : ℕ → ℕ → Type 0) (h : Body → ℕ) (is : (F : ℕ) (g : Body) → Inv t F g → p F (h g)) where
   abbrev Adds : Body → Type 0
   Adds b = (n c : ℕ) (o : List ℕ) (u : List Frame) (q : ℕ) → Paid b → Ctx t n (c ∷ o) (linesOf b ++ u) → Sum p (made (n + size b) u s) q → Sum p (made n (linesOf b ++ u) s) (madeSum h s b + q)
 
@@ -203,25 +175,12 @@ module _ (t : List Frame) (s : ℕ) (p : ℕ → ℕ → Type 0) (h : Body → �
       let e : cond (eqb i s) (h g) 0 + (madeSum h s g + (madeSum h s r + q)) ≡ cond (eqb i s) (h g) 0 + (madeSum h s g + madeSum h s r) + q = omega arith in
       subst (λ (z : List ℕ). Sum p z (madeSum h s (child m i g r) + q)) (sym (made-opening m i n v))
       (subst (Sum p (cond (eqb i s) (suc n ∷ made (suc n) v s) (made (suc n) v s))) e
-      (one-more (eqb i s) (suc n) (h g) (madeSum h s g + (madeSum h s r + q)) (made (suc n) v s) (is (suc n) (suc n) g (inner t n (c ∷ o) g (linesOf r ++ u) y (pd .0))) d))
-
--- sites make nothing
-pub made-heads : (h u : List Frame) (n s : ℕ) → AllSites h → made n (h ++ u) s ≡ made (n + length h) u s
-made-heads [] u n s k = let e : n ≡ n + 0 = omega arith in ap (λ (m : ℕ). made m u s) e
-made-heads (f ∷ h) u n s k =
-    let e : suc n + length h ≡ n + suc (length h) = omega arith in
-    at-site (λ g. made n (g ∷ (h ++ u)) s ≡ made (suc n) (h ++ u) s) (λ i p. refl) f (k .0) ∙ made-heads h u (suc n) s (k .1) ∙ ap (λ (m : ℕ). made m u s) e
-
--- so a site's invocations are made in the root's body
-pub made-whole : (D : ℕ) (t : List Frame) (x : Parts D t) (s : ℕ) → made 0 t s ≡ made (rootAt x) (linesOf (x .body) ++ []) s
-made-whole D t x s =
-    let e : 0 + rootAt x ≡ rootAt x = omega arith in
-    ap (λ (z : List Frame). made 0 z s) (whole D t x) ∙ made-heads (x .heads) (linesOf (x .body) ++ []) 0 s (x .all-sites) ∙ ap (λ (m : ℕ). made m (linesOf (x .body) ++ []) s) e
+      (one-more (eqb i s) (suc n) (h g) (madeSum h s g + (madeSum h s r + q)) (made (suc n) v s) (is (suc n) g (inner t n (c ∷ o) g (linesOf r ++ u) y (pd .0))) d))
 
 -- LAW: what is said of each invocation by its body adds up over a row as it does over the tree
-pub row-sum : (D : ℕ) (t : List Frame) (x : Parts D t) (p : ℕ → ℕ → Type 0) (h : Body → ℕ) → ((F n : ℕ) (g : Body) → Inv t F n g → p F (h g)) → (s : ℕ) → Sum p (ofRow t s) (rowSum h s (x .body))
-row-sum D t x p h is zero = (h (x .body), 0, is root (rootAt x) (x .body) (root-inv D t x), refl, omega arith)
+pub row-sum : (D : ℕ) (t : List Frame) (x : Parts D t) (p : ℕ → ℕ → Type 0) (h : Body → ℕ) → ((F : ℕ) (g : Body) → Inv t F g → p F (h g)) → (s : ℕ) → Sum p (ofRow t s) (rowSum h s (x .body))
+row-sum D t x p h is zero = (h (x .body), 0, is root (x .body) (root-inv D t x), refl, omega arith)
 row-sum D t x p h is (suc s) =
     let f : madeSum h (suc s) (x .body) + 0 ≡ madeSum h (suc s) (x .body) = omega arith in
-    subst (λ (z : List ℕ). Sum p z (madeSum h (suc s) (x .body))) (sym (made-whole D t x (suc s)))
-    (subst (Sum p (made (rootAt x) (linesOf (x .body) ++ []) (suc s))) f (adds t (suc s) p h is (x .body) (rootAt x) root [] [] 0 (root-paid D t x) (root-ctx D t x) refl))
+    subst (λ (z : List Frame). Sum p (made 0 z (suc s)) (madeSum h (suc s) (x .body))) (sym (whole D t x))
+    (subst (Sum p (made 0 (linesOf (x .body) ++ []) (suc s))) f (adds t (suc s) p h is (x .body) root root [] [] 0 (root-paid D t x) (root-ctx D t x) refl))

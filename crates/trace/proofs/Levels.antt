@@ -11,7 +11,7 @@ use native.Mathlib.Omega.{arith}
 use lib.Dec.{when}
 use Rattle.line.specs.declared.Frame.{Frame}
 use Rattle.line.specs.declared.Frame.the-variants.{Site, Call, Spawn, Sync, Return, Cost}
-use Rattle.trace.specs.Tree.{Way, call, spawn, opening, Leaf, spend, sync, lineOf, Body, done, leaf, child, linesOf, size}
+use Rattle.trace.specs.Tree.{Way, call, spawn, opening, Note, site, noteLine, Leaf, spend, sync, note, lineOf, Body, done, leaf, child, linesOf, size}
 use Rattle.trace.proofs.Basics.{below}
 
 -- A walk to the line that stands i lines on, which counts the invocations that open on the way. hit: what the line
@@ -61,9 +61,13 @@ Beside (Cost v ∷ t) (suc i) (suc j) = Beside t i j
 -- ── what both say of an item's first line ──
 
 module _ (hit : Type 0) (pass : Bool) (out : List Frame → ℕ → Type 0) where
+  climb-note : (x : Note) (k : ℕ) (t : List Frame) (i : ℕ) → climb hit pass out k (noteLine x ∷ t) (suc i) ≡ climb hit pass out k t i
+  climb-note (site s p) k t i = refl
+
   climb-leaf : (l : Leaf) (k : ℕ) (t : List Frame) (i : ℕ) → climb hit pass out (suc k) (lineOf l ∷ t) (suc i) ≡ climb hit pass out (suc k) t i
   climb-leaf (spend v) k t i = refl
   climb-leaf sync k t i = refl
+  climb-leaf (note x) k t i = climb-note x (suc k) t i
 
   climb-opening : (w : Way) (s k : ℕ) (t : List Frame) (i : ℕ) → climb hit pass out k (opening w s ∷ t) (suc i) ≡ climb hit pass out (suc k) t i
   climb-opening call s k t i = refl
@@ -73,10 +77,12 @@ module _ (hit : Type 0) (pass : Bool) (out : List Frame → ℕ → Type 0) wher
 climb-own : (hit : Type 0) (out : List Frame → ℕ → Type 0) (l : Leaf) (t : List Frame) (i : ℕ) → climb hit true out zero (lineOf l ∷ t) (suc i) ≡ climb hit true out zero t i
 climb-own hit out (spend v) t i = refl
 climb-own hit out sync t i = refl
+climb-own hit out (note x) t i = climb-note hit true out x zero t i
 
 pub beside-leaf : (l : Leaf) (t : List Frame) (i j : ℕ) → Beside (lineOf l ∷ t) (suc i) (suc j) ≡ Beside t i j
 beside-leaf (spend v) t i j = refl
 beside-leaf sync t i j = refl
+beside-leaf (note (site s p)) t i j = refl
 
 -- A, where the way is a spawn
 abbrev pub Spawning : Way → Type 0 → Type 0
@@ -107,6 +113,7 @@ abbrev pub bsize : Body → ℕ
 bsize done = 1
 bsize (leaf (spend v) r) = suc (bsize r)
 bsize (leaf sync r) = 1
+bsize (leaf (note x) r) = suc (bsize r)
 bsize (child w s g r) = suc (size g + bsize r)
 
 module _ (hit : Type 0) (pass : Bool) (out : List Frame → ℕ → Type 0) where
@@ -146,6 +153,7 @@ module _ (hit : Type 0) (pass : Bool) (out : List Frame → ℕ → Type 0) wher
   near (leaf l r) u zero h = refl
   near (leaf (spend v) r) u (suc i) h = near r u i (omega arith)
   near (leaf sync r) u (suc i) h = absurd (omega arith)
+  near (leaf (note x) r) u (suc i) h = climb-note hit pass out x zero (linesOf r ++ u) i ∙ near r u i (omega arith)
   near (child w s g r) u zero h = refl
   near (child w s g r) u (suc i) h = level w s g r zero u (bsize r) i hit (omega arith) (arrive g zero (linesOf r ++ u) i) (near r u)
 
@@ -170,6 +178,7 @@ pub bsize-le : (b : Body) → bsize b ≤ size b
 bsize-le done = omega arith
 bsize-le (leaf (spend v) r) = omega (arith, bsize-le r)
 bsize-le (leaf sync r) = omega arith
+bsize-le (leaf (note x) r) = omega (arith, bsize-le r)
 bsize-le (child w s g r) = omega (arith, bsize-le r)
 
 -- what In, Near and Past say of a body's lines
@@ -218,6 +227,8 @@ near-lt (leaf (spend v) r) u zero h = omega arith
 near-lt (leaf (spend v) r) u (suc i) h = omega (arith, near-lt r u i h)
 near-lt (leaf sync r) u zero h = omega arith
 near-lt (leaf sync r) u (suc i) h = absurd h
+near-lt (leaf (note x) r) u zero h = omega arith
+near-lt (leaf (note x) r) u (suc i) h = omega (arith, near-lt r u i (rw (climb-note (Unit {0}) false never x zero (linesOf r ++ u) i) at h))
 near-lt (child w s g r) u zero h = omega arith
 near-lt (child w s g r) u (suc i) h = near-level w s g r u i (near-lt r u) h
 

@@ -13,6 +13,7 @@ pub mod Context
 pub mod Chains
 pub mod Sites
 pub mod Parse
+pub mod Named
 pub mod Sums
 pub mod Accept
 pub mod Invocations
@@ -26,6 +27,7 @@ pub mod Outermost
 pub mod Small
 pub mod Outcome
 pub mod Unseen
+pub mod Blank
 pub mod Places
 pub mod Letters
 pub mod Declared

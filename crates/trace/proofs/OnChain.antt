@@ -16,7 +16,7 @@ use Rattle.chain.proofs.Lists.{all-map, all-both, all-at, all-append, pairs-map
 use Rattle.trace.specs.Shape.{root, has, sites}
 use Rattle.trace.specs.Series.{Span, Chosen}
 use Rattle.trace.specs.Rows.{total, local, onSpan}
-use Rattle.trace.specs.Tree.{spend, sync, Body, done, leaf, child, size, Within, Parts, workOf, rootAt}
+use Rattle.trace.specs.Tree.{spend, sync, note, Body, done, leaf, child, size, Within, Parts, workOf}
 use Rattle.trace.specs.Fold.{block, after, plan, onRow}
 use Rattle.trace.proofs.Basics.{cond-le}
 use Rattle.trace.proofs.Apart.{all-together, plan-ordered}
@@ -99,12 +99,12 @@ all-work (child w i g b) n r = omega (arith, where-two (λ x. true) w n r i g b,
 
 module _ (D : ℕ) (t : List Frame) (p : Parts D t) where
   abbrev all : List CostLine
-  all = costs (plan (rootAt p) 0 (p .body))
+  all = costs (plan 0 0 (p .body))
 
   on-root : (w : CostLine → Bool) → sumWhere (λ x. w x && has (x .line) (linesIn (rootChain D t p))) all ≡ sumWhere w (rootChain D t p)
   on-root w =
-      let c = chain-chosen (p .body) (rootAt p) 0 (root-paid D t p) .chain in
-      on-list w all (rootChain D t p) (plan-ordered (p .body) (rootAt p) 0) (pairs-map (λ x y r. r .0) (rootChain D t p) (c .series)) (c .on)
+      let c = chain-chosen (p .body) 0 0 (root-paid D t p) .chain in
+      on-list w all (rootChain D t p) (plan-ordered (p .body) 0 0) (pairs-map (λ x y r. r .0) (rootChain D t p) (c .series)) (c .on)
 
   -- LAW: column 5 is the chosen chain's part in the row
   pub on-span-tree : (s : ℕ) → onSpan t (linesIn (rootChain D t p)) s ≡ onRow s (rootChain D t p)
@@ -120,6 +120,7 @@ rows-within : (m D d : ℕ) (b : Body) (n r : ℕ) → r ≤ m → Within m D d 
 rows-within m D d done n r l w = (tt, tt)
 rows-within m D d (leaf (spend v) b) n r l w = let k = rows-within m D d b (suc n) r l (w .1) in ((l, k .0), k .1)
 rows-within m D d (leaf sync b) n r l w = let k = rows-within m D d b (suc n) r l (w .1) in (tt, all-append (Row-to m) (costs (block (suc n) r b)) (costs (after (suc n) r b)) (k .0) (k .1))
+rows-within m D d (leaf (note x) b) n r l w = rows-within m D d b (suc n) r l (w .1)
 rows-within m D d (child v i g b) n r l w =
     let h = rows-within m D (suc d) g (suc n) i (w .1) (w .3) in
     let k = rows-within m D d b (suc n + size g) r l (w .4) in
@@ -142,15 +143,15 @@ rows-add w m (x ∷ l) h =
 module _ (D : ℕ) (t : List Frame) (p : Parts D t) where
   rows-of-all : All (Row-to (sites t)) (all D t p)
   rows-of-all =
-      let k = rows-within (sites t) D 1 (p .body) (rootAt p) 0 (omega arith) (p .within) in
-      all-append (Row-to (sites t)) (costs (block (rootAt p) 0 (p .body))) (costs (after (rootAt p) 0 (p .body))) (k .0) (k .1)
+      let k = rows-within (sites t) D 1 (p .body) 0 0 (omega arith) (p .within) in
+      all-append (Row-to (sites t)) (costs (block 0 0 (p .body))) (costs (after 0 0 (p .body))) (k .0) (k .1)
 
   -- LAW: "Column 4 adds up to the total work"
   pub locals-add-up : upTo (local t) (sites t) ≡ total t
   locals-add-up =
       up-same (local t) (λ s. sumWhere (λ x. eqb (x .row) s && true) (all D t p)) (sites t) (λ s l. local-costs D t p s)
       ∙ rows-add (λ x. true) (sites t) (all D t p) rows-of-all
-      ∙ all-work (p .body) (rootAt p) 0
+      ∙ all-work (p .body) 0 0
       ∙ sym (total-tree D t p)
 
   -- LAW: "and column 5 to the total span"
@@ -161,5 +162,5 @@ module _ (D : ℕ) (t : List Frame) (p : Parts D t) where
       ∙ rows-add (λ x. has (x .line) (linesIn (rootChain D t p))) (sites t) (all D t p) rows-of-all
       ∙ on-root D t p (λ x. true)
       ∙ weight-of (rootChain D t p)
-      ∙ weight-chain (p .body) (rootAt p) 0
+      ∙ weight-chain (p .body) 0 0
       ∙ sym (root-span-only D t p n k)

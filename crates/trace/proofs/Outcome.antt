@@ -5,7 +5,7 @@ use mathlib.Core.Bool.{Bool, true, cond, _&&_}
 use mathlib.Core.List.{List, [], _∷_}
 use Prim.Native.Nat.{ℕ, zero, suc, _+_, _*_, _≤_, _<_}
 use native.Mathlib.Omega.{arith}
-use lib.ListN.{length, getD, replicate, length-append, List·getD-eq-default}
+use lib.ListN.{length, getD, replicate, List·getD-eq-default}
 use lib.Dec.{ltb, leb}
 use lib.Seq.{ext-getD}
 use borrow.Author.Tests.{leb-true, lt-ltb, le-ltb}
@@ -18,7 +18,7 @@ use Rattle.trace.specs.Rows.{columns, Spans}
 use Rattle.trace.specs.Column.{Column, slot}
 use Rattle.trace.specs.Refusals.{lineCount, Verdict, accepted, refused, verdict}
 use Rattle.trace.specs.Promise.{Engine, tables, marks, Lent, scratchRoom, marksRoom, rowsRoom, enough, acceptance, refusal, Row, Marked, Profile, Kept, Promise}
-use Rattle.trace.specs.Tree.{Body, linesOf, size, Parts, workOf, spanOf, rootAt}
+use Rattle.trace.specs.Tree.{Body, size, Parts, workOf, spanOf}
 use Rattle.trace.specs.Fold.{chainOf}
 use Rattle.trace.specs.ByTree.{cell, RowsBy, ProfileBy}
 use Rattle.trace.specs.Small.{Small}
@@ -41,27 +41,18 @@ lent-same a b x y z =
     ∙ ap (λ (s : List ℕ). record { scratch = b .scratch; rows = s; marks = a .marks }) y
     ∙ ap (λ (s : List ℕ). record { scratch = b .scratch; rows = b .rows; marks = s }) z
 
--- the same numbers and the same body
-pub profile-same : (e : Engine) (c : Lent) (q : Answer) (y : Lent) {m n i j : ℕ} {g b : Body} → m ≡ n → i ≡ j → g ≡ b → ProfileBy e n j b c q y → ProfileBy e m i g c q y
-profile-same e c q y {m} {n} {i} {j} {g} {b} h k l x =
-    subst (λ (z : ℕ). ProfileBy e z i g c q y) (sym h) (subst (λ (z : ℕ). ProfileBy e n z g c q y) (sym k) (subst (λ (z : Body). ProfileBy e n j z c q y) (sym l) x))
-
 -- ── a profile is what the tree says ──
 
 module _ (D : ℕ) (t : List Frame) (p : Parts D t) where
-  -- the line at which the root's body begins
-  abbrev m : ℕ
-  m = rootAt p
+  pub length-is : length t ≡ size (p .body)
+  length-is = ap length (p .lines) ∙ size-is (p .body)
 
-  pub length-is : length t ≡ m + size (p .body)
-  length-is = ap length (p .lines) ∙ length-append (p .heads) (linesOf (p .body)) ∙ ap (λ (k : ℕ). m + k) (size-is (p .body))
-
-  answer-is : acceptance t (spanOf (p .body)) ≡ Accepted (workOf (p .body)) (spanOf (p .body)) (sites t) (m + size (p .body))
+  answer-is : acceptance t (spanOf (p .body)) ≡ Accepted (workOf (p .body)) (spanOf (p .body)) (sites t) (size (p .body))
   answer-is =
       ap (λ (w : ℕ). Accepted w (spanOf (p .body)) (sites t) (length t)) (total-tree D t p)
       ∙ ap (Accepted (workOf (p .body)) (spanOf (p .body)) (sites t)) length-is
 
-  row-from : (l : List ℕ) (s : ℕ) → ((k : Column) → getD l (slot s k) 0 ≡ cell m (p .body) s k) → Row t (linesIn (rootChain D t p)) l s
+  row-from : (l : List ℕ) (s : ℕ) → ((k : Column) → getD l (slot s k) 0 ≡ cell (p .body) s k) → Row t (linesIn (rootChain D t p)) l s
   row-from l s h =
       record {
         calls-is = h Column.calls ∙ sym (calls-tree D t p s);
@@ -71,7 +62,7 @@ module _ (D : ℕ) (t : List Frame) (p : Parts D t) where
         on-span-is = h Column.onSpan ∙ sym (on-span-tree D t p s);
       }
 
-  row-to : (l : List ℕ) (s : ℕ) → Row t (linesIn (rootChain D t p)) l s → (k : Column) → getD l (slot s k) 0 ≡ cell m (p .body) s k
+  row-to : (l : List ℕ) (s : ℕ) → Row t (linesIn (rootChain D t p)) l s → (k : Column) → getD l (slot s k) 0 ≡ cell (p .body) s k
   row-to l s r Column.calls = r .calls-is ∙ calls-tree D t p s
   row-to l s r Column.work = r .work-is ∙ work-tree D t p s
   row-to l s r Column.span = spans-unique t s _ _ (r .span-is) (spans-tree D t p s)
@@ -79,7 +70,7 @@ module _ (D : ℕ) (t : List Frame) (p : Parts D t) where
   row-to l s r Column.onSpan = r .on-span-is ∙ on-span-tree D t p s
 
   -- LAW: what the tree says is a profile
-  pub tree-profile : (e : Engine) (before : Lent) (r : Answer) (after : Lent) → ProfileBy e (sites t) m (p .body) before r after → Profile e t before r after
+  pub tree-profile : (e : Engine) (before : Lent) (r : Answer) (after : Lent) → ProfileBy e (sites t) (p .body) before r after → Profile e t before r after
   tree-profile e before r after h =
       record {
         chain = linesIn (rootChain D t p);
@@ -97,7 +88,7 @@ module _ (D : ℕ) (t : List Frame) (p : Parts D t) where
       }
 
   -- LAW: and a profile is what the tree says
-  pub profile-tree : (e : Engine) (before : Lent) (r : Answer) (after : Lent) → Profile e t before r after → ProfileBy e (sites t) m (p .body) before r after
+  pub profile-tree : (e : Engine) (before : Lent) (r : Answer) (after : Lent) → Profile e t before r after → ProfileBy e (sites t) (p .body) before r after
   profile-tree e before r after h =
       let c = root-chosen-only D t p (h .chain) (h .chosen) in
       record {
@@ -117,8 +108,8 @@ module _ (D : ℕ) (t : List Frame) (p : Parts D t) where
 
 -- ── there is one ──
 
-rows-unique : (m first : ℕ) (b : Body) (before a c : List ℕ) → RowsBy m first b before a → RowsBy m first b before c → a ≡ c
-rows-unique m first b before a c h k = ext-getD 0 a c (h .same-length ∙ sym (k .same-length)) at
+rows-unique : (m : ℕ) (b : Body) (before a c : List ℕ) → RowsBy m b before a → RowsBy m b before c → a ≡ c
+rows-unique m b before a c h k = ext-getD 0 a c (h .same-length ∙ sym (k .same-length)) at
   where
     at : (i : ℕ) → i < length a → getD a i 0 ≡ getD c i 0
     at i l = elim (below (columns * (m + 1)) i) [
@@ -132,18 +123,18 @@ marked-unique marks n c before a d h k =
     ext-getD 0 a d (h .same-length ∙ sym (k .same-length))
     (λ i l. elim (below n i) [ inl g ↦ h .marks-are i g ∙ sym (k .marks-are i g) | inr w ↦ h .rest i (omega (arith, w .1)) ∙ sym (k .rest i (omega (arith, w .1))) ])
 
-pub by-tree-unique : (e : Engine) (m first : ℕ) (b : Body) (before : Lent) (r q : Answer) (x y : Lent) → ProfileBy e m first b before r x → ProfileBy e m first b before q y → (r ≡ q) × (x ≡ y)
-by-tree-unique e m first b before r q x y h k = (
+pub by-tree-unique : (e : Engine) (m : ℕ) (b : Body) (before : Lent) (r q : Answer) (x y : Lent) → ProfileBy e m b before r x → ProfileBy e m b before q y → (r ≡ q) × (x ≡ y)
+by-tree-unique e m b before r q x y h k = (
   h .answer ∙ sym (k .answer),
-  lent-same x y (h .scratch ∙ sym (k .scratch)) (rows-unique m first b (before .rows) (x .rows) (y .rows) (h .rows) (k .rows))
-      (marked-unique e (first + size b) (linesIn (chainOf first 0 b)) (before .marks) (x .marks) (y .marks) (h .marked) (k .marked)),
+  lent-same x y (h .scratch ∙ sym (k .scratch)) (rows-unique m b (before .rows) (x .rows) (y .rows) (h .rows) (k .rows))
+      (marked-unique e (size b) (linesIn (chainOf 0 0 b)) (before .marks) (x .marks) (y .marks) (h .marked) (k .marked)),
 )
 
 -- LAW: two outcomes that keep to a verdict for the same room are equal
 pub kept-unique : (e : Engine) (v : Verdict) (before : Lent) → ((t : List Frame) → v ≡ accepted t → (D : ℕ) × Parts D t) → (r q : Answer) (x y : Lent) → Kept e v before r x → Kept e v before q y → (r ≡ q) × (x ≡ y)
 kept-unique e (accepted t) before p r q x y h k =
     let d = p t refl in
-    by-tree-unique e (sites t) (rootAt (d .1)) (d .1 .body) before r q x y (profile-tree (d .0) t (d .1) e before r x (h .when-accepted t refl)) (profile-tree (d .0) t (d .1) e before q y (k .when-accepted t refl))
+    by-tree-unique e (sites t) (d .1 .body) before r q x y (profile-tree (d .0) t (d .1) e before r x (h .when-accepted t refl)) (profile-tree (d .0) t (d .1) e before q y (k .when-accepted t refl))
 kept-unique e (refused n l) before p r q x y h k =
     let u = h .when-refused n l refl in
     let v = k .when-refused n l refl in
@@ -190,40 +181,40 @@ module _ (f : ℕ → ℕ) (m : ℕ) (l : List ℕ) where
   ]
 
 -- as the tree says, in the room that is there
-module _ (m first : ℕ) (b : Body) (before : Lent) (rows-fit : columns * (m + 1) ≤ length (before .rows)) where
+module _ (m : ℕ) (b : Body) (before : Lent) (rows-fit : columns * (m + 1) ≤ length (before .rows)) where
   abbrev number : ℕ → ℕ
-  number i = cell first b (rowOf i) (columnOf i)
+  number i = cell b (rowOf i) (columnOf i)
 
   abbrev new-rows : List ℕ
   new-rows = over number (columns * (m + 1)) (before .rows)
 
-  rows-by : RowsBy m first b (before .rows) new-rows
+  rows-by : RowsBy m b (before .rows) new-rows
   rows-by =
       record {
         same-length = over-length number (columns * (m + 1)) (before .rows);
         cells = λ s k l.
             over-low number (columns * (m + 1)) (before .rows) (slot s k) (slot-in m s k l) rows-fit
-            ∙ ap (λ (r : ℕ). cell first b r (columnOf (slot s k))) (row-slot s k)
-            ∙ ap (cell first b s) (column-slot s k);
+            ∙ ap (λ (r : ℕ). cell b r (columnOf (slot s k))) (row-slot s k)
+            ∙ ap (cell b s) (column-slot s k);
         rest = over-high number (columns * (m + 1)) (before .rows);
       }
 
-  marked-by : (e : Engine) → (e ≡ marks → first + size b ≤ length (before .marks)) → (after : List ℕ) × Marked e (first + size b) (linesIn (chainOf first 0 b)) (before .marks) after
+  marked-by : (e : Engine) → (e ≡ marks → size b ≤ length (before .marks)) → (after : List ℕ) × Marked e (size b) (linesIn (chainOf 0 0 b)) (before .marks) after
   marked-by tables h = (before .marks, refl)
   marked-by marks h =
-      let f : ℕ → ℕ = λ k. cond (has k (linesIn (chainOf first 0 b))) 1 0 in (
-        over f (first + size b) (before .marks),
+      let f : ℕ → ℕ = λ k. cond (has k (linesIn (chainOf 0 0 b))) 1 0 in (
+        over f (size b) (before .marks),
         record {
-          same-length = over-length f (first + size b) (before .marks);
-          marks-are = λ k l. over-low f (first + size b) (before .marks) k l (h refl);
-          rest = over-high f (first + size b) (before .marks);
+          same-length = over-length f (size b) (before .marks);
+          marks-are = λ k l. over-low f (size b) (before .marks) k l (h refl);
+          rest = over-high f (size b) (before .marks);
         },
       )
 
-  some-profile : (e : Engine) → (e ≡ marks → first + size b ≤ length (before .marks)) → (r : Answer) × (after : Lent) × ProfileBy e m first b before r after
+  some-profile : (e : Engine) → (e ≡ marks → size b ≤ length (before .marks)) → (r : Answer) × (after : Lent) × ProfileBy e m b before r after
   some-profile e h =
       let w = marked-by e h in (
-        Accepted (workOf b) (spanOf b) m (first + size b),
+        Accepted (workOf b) (spanOf b) m (size b),
         record { scratch = replicate (length (before .scratch)) 0; rows = new-rows; marks = w .0 },
         record { answer = refl; rows = rows-by; scratch = refl; marked = w .1 },
       )
@@ -240,7 +231,7 @@ pub kept-met : (e : Engine) (v : Verdict) (before : Lent) → ((t : List Frame) 
 kept-met e (accepted t) before h =
     let a = h t refl in
     let p = a .parts in
-    let w = some-profile (sites t) (rootAt p) (p .body) before (a .rows-there) e (λ q. omega (arith, a .marks-there q, length-is (a .D) t p)) in (
+    let w = some-profile (sites t) (p .body) before (a .rows-there) e (λ q. omega (arith, a .marks-there q, length-is (a .D) t p)) in (
       w .0,
       w .1,
       record {

@@ -10,11 +10,11 @@ use Rattle.trace.specs.Shape.{Is, root, openAt, has}
 use Rattle.trace.specs.Series.{Span}
 use Rattle.trace.specs.Rows.{made, hasOf, enclosed, unenclosed, outermost, total, inside, Sum, work, Spans}
 use Rattle.trace.specs.Refusals.{accepted, verdict}
-use Rattle.trace.specs.Tree.{Way, opening, Body, done, leaf, child, linesOf, size, Parts, workOf, spanOf, outerSum, outerRow, workIn, spansIn, rootAt}
+use Rattle.trace.specs.Tree.{Way, opening, Body, done, leaf, child, linesOf, size, Parts, workOf, spanOf, outerSum, outerRow, workIn, spansIn}
 use Rattle.trace.proofs.Sums.{not-made, has-made}
 use Rattle.trace.proofs.Recurrence.{Paid}
 use Rattle.trace.proofs.Context.{Ctx, at-open}
-use Rattle.trace.proofs.Invocations.{Inv, inner, ctx-leaf, ctx-child, ctx-skip, root-ctx, root-inv, root-paid, made-leaf, made-opening, made-whole}
+use Rattle.trace.proofs.Invocations.{Inv, inner, ctx-leaf, ctx-child, ctx-skip, root-ctx, root-inv, root-paid, made-leaf, made-opening, whole}
 use Rattle.trace.proofs.Stretches.{span-is, inside-is}
 use Rattle.trace.proofs.Parse.{accepted-parts}
 use Rattle.trace.proofs.Columns.{sum-from, makes-at, first-is, total-tree}
@@ -33,7 +33,7 @@ of-site t n i s w h =
     ap (λ (c : ℕ). has c (made 0 t s)) q ∙ has-made 0 t n s ∙ makes-at t n i s w h
 
 -- the row of a site
-module _ (t : List Frame) (s : ℕ) (p : ℕ → ℕ → Type 0) (h : Body → ℕ) (is : (F n : ℕ) (g : Body) → Inv t F n g → p F (h g)) where
+module _ (t : List Frame) (s : ℕ) (p : ℕ → ℕ → Type 0) (h : Body → ℕ) (is : (F : ℕ) (g : Body) → Inv t F g → p F (h g)) where
   abbrev row : ℕ
   row = suc s
 
@@ -89,18 +89,18 @@ module _ (t : List Frame) (s : ℕ) (p : ℕ → ℕ → Type 0) (h : Body → �
       (subst (Sum p (unenclosed t row (cond (eqb i row) (suc n ∷ made (suc n) v row) (made (suc n) v row))))
       (together (eqb i row) z (h g) (outerSum h row g) (outerSum h row r) q)
       (one-more (eqb i row) z (suc n) (h g) (cond (eqb i row || z) 0 (outerSum h row g) + rest) (made (suc n) v row) around
-      (is (suc n) (suc n) g (inner t n (c ∷ o) g (linesOf r ++ u) y (pd .0))) d))
+      (is (suc n) g (inner t n (c ∷ o) g (linesOf r ++ u) y (pd .0))) d))
 
 -- LAW: what is said of each invocation by its body adds up over the outermost of a row as it does over those of the tree
 pub outer-sum : (D : ℕ) (t : List Frame) (x : Parts D t) (p : ℕ → ℕ → Type 0) (h : Body → ℕ)
-    → ((F n : ℕ) (g : Body) → Inv t F n g → p F (h g)) → (s : ℕ) → Sum p (outermost t s) (outerRow h s (x .body))
-outer-sum D t x p h is zero = (h (x .body), 0, is root (rootAt x) (x .body) (root-inv D t x), refl, omega arith)
+    → ((F : ℕ) (g : Body) → Inv t F g → p F (h g)) → (s : ℕ) → Sum p (outermost t s) (outerRow h s (x .body))
+outer-sum D t x p h is zero = (h (x .body), 0, is root (x .body) (root-inv D t x), refl, omega arith)
 outer-sum D t x p h is (suc s) =
     let f : outerSum h (suc s) (x .body) + 0 ≡ outerSum h (suc s) (x .body) = omega arith in
     let k : hasOf t (suc s) (root ∷ []) ≡ false = ap (λ (b : Bool). b || false) (not-made 0 t (suc s) root (omega arith)) in
-    subst (λ (z : List ℕ). Sum p (unenclosed t (suc s) z) (outerSum h (suc s) (x .body))) (sym (made-whole D t x (suc s)))
-    (subst (Sum p (unenclosed t (suc s) (made (rootAt x) (linesOf (x .body) ++ []) (suc s)))) f
-    (adds t s p h is (x .body) (rootAt x) root [] [] 0 false (root-paid D t x) k (root-ctx D t x) refl))
+    subst (λ (z : List Frame). Sum p (unenclosed t (suc s) (made 0 z (suc s))) (outerSum h (suc s) (x .body))) (sym (whole D t x))
+    (subst (Sum p (unenclosed t (suc s) (made 0 (linesOf (x .body) ++ []) (suc s)))) f
+    (adds t s p h is (x .body) 0 root [] [] 0 false (root-paid D t x) k (root-ctx D t x) refl))
 
 -- ── columns 2 and 3, and no row above the whole ──
 
@@ -123,11 +123,11 @@ module _ (D : ℕ) (t : List Frame) (p : Parts D t) (s : ℕ) where
   pub work-tree : work t s ≡ workIn s (p .body)
   work-tree =
       sum-from (inside t) (outermost t s) (workIn s (p .body))
-      (outer-sum D t p (λ F a. inside t F ≡ a) workOf (λ F n g i. inside-is t F n g i) s)
+      (outer-sum D t p (λ F a. inside t F ≡ a) workOf (λ F g i. inside-is t F g i) s)
 
   -- LAW
   pub spans-tree : Spans t s (spansIn s (p .body))
-  spans-tree = outer-sum D t p (Span t) spanOf (λ F n g i. span-is t F n g i) s
+  spans-tree = outer-sum D t p (Span t) spanOf (λ F g i. span-is t F g i) s
 
   -- LAW: no row's work exceeds the total work
   pub work-le : work t s ≤ total t

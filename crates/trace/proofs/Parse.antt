@@ -1,6 +1,6 @@
--- The lines of an accepted trace behind its sites are the lines of a body within the limits.
+-- The lines of an accepted trace are the lines of a body within the limits.
 use mathlib.Core.Path.{_≡_, refl, sym, _∙_, ap, subst}
-use mathlib.Core.Bool.{Bool, true, false, not, _||_}
+use mathlib.Core.Bool.{Bool, false, not, _||_}
 use mathlib.Core.List.{List, [], _∷_, _++_, append-assoc, append-nil}
 use Prim.Native.Nat.{ℕ, zero, suc, _≤_, _<_}
 use native.Mathlib.Omega.{arith}
@@ -8,66 +8,15 @@ use lib.ListN.{length}
 use lib.Seq.{append-snoc}
 use lib.Dec.{eqb, ltb}
 use borrow.Author.Tests.{eqb-false, ltb-false, not-false}
-use Rattle.line.specs.declared.Place.{Place}
 use Rattle.line.specs.declared.Frame.{Frame}
 use Rattle.line.specs.declared.Frame.the-variants.{Site, Call, Spawn, Sync, Return, Cost}
 use Rattle.trace.specs.Shape.{root, step, sites}
-use Rattle.trace.specs.Refusals.{openNow, empty, declared, accepted, verdict}
-use Rattle.trace.specs.Tree.{Way, call, spawn, opening, Leaf, spend, sync, lineOf, LeafWithin, Body, done, leaf, child, linesOf, Within, AllSites, Parts}
+use Rattle.trace.specs.Refusals.{openNow, empty, declared, fault, accepted, verdict}
+use Rattle.trace.specs.Tree.{Way, call, spawn, opening, site, Leaf, spend, sync, note, lineOf, LeafWithin, Body, done, leaf, child, linesOf, Within, Parts}
 use Rattle.trace.proofs.Basics.{no-way, neither}
-use Rattle.trace.proofs.Cases.{NotSite, NoSites, by-site}
-use Rattle.trace.proofs.Tree.{no-sites-right, leaf-not-site, opening-not-site, no-sites-lines, leaf-step, opening-step, parts-one}
+use Rattle.trace.proofs.Tree.{leaf-step, opening-step, body-one}
 use Rattle.trace.proofs.Scan.{Clean, Fine, accepted-fine, faultless, now}
-use Rattle.trace.proofs.Sites.{sites-append, other-before, no-sites-after, declared-same, Numbered, numbered-start, declared-upto, numbered-snoc}
-
--- the sites, and the rest
-pub record Split (D M : ℕ) (before u : List Frame) : Type 0 where
-  pub heads : List Frame
-  pub rest : List Frame
-  pub lines : u ≡ heads ++ rest
-  pub all-sites : AllSites heads
-  pub rest-are : NoSites rest
-  pub clean : Clean D M (before ++ heads) rest
-  pub opened : openNow (before ++ heads) ≡ root ∷ []
-  pub numb : Numbered (before ++ heads)
-
-at-rest : (D M : ℕ) (before u : List Frame) → openNow before ≡ root ∷ [] → Numbered before → NoSites u → Clean D M before u → Split D M before u
-at-rest D M before u o nb n c =
-    let e : before ≡ before ++ [] = sym (append-nil before) in
-    record {
-      heads = [];
-      rest = u;
-      lines = refl;
-      all-sites = tt;
-      rest-are = n;
-      clean = subst (λ (b : List Frame). Clean D M b u) e c;
-      opened = subst (λ (b : List Frame). openNow b ≡ root ∷ []) e o;
-      numb = subst Numbered e nb;
-    }
-
-one-head : (D M : ℕ) (before u : List Frame) (s : ℕ) (p : Place) → Split D M (before ++ Site s p ∷ []) u → Split D M before (Site s p ∷ u)
-one-head D M before u s p k =
-    let a = append-snoc before (Site s p) (k .heads) in
-    record {
-      heads = Site s p ∷ k .heads;
-      rest = k .rest;
-      lines = ap (λ (l : List Frame). Site s p ∷ l) (k .lines);
-      all-sites = (tt, k .all-sites);
-      rest-are = k .rest-are;
-      clean = subst (λ (b : List Frame). Clean D M b (k .rest)) a (k .clean);
-      opened = subst (λ (b : List Frame). openNow b ≡ root ∷ []) a (k .opened);
-      numb = subst Numbered a (k .numb);
-    }
-
-split : (D M : ℕ) (before u : List Frame) → openNow before ≡ root ∷ [] → Numbered before → Clean D M before u → Split D M before u
-split D M before [] o nb c = at-rest D M before [] o nb tt c
-split D M before (f ∷ u) o nb c =
-    by-site (λ g. Clean D M before (g ∷ u) → Numbered (before ++ g ∷ []) → Split D M before (g ∷ u))
-    (λ s p k n. one-head D M before u s p (split D M (before ++ Site s p ∷ []) u (now before (Site s p) ∙ o) n (k .2)))
-    (λ g n k m. at-rest D M before (g ∷ u) o nb (n, no-sites-after D M (before ++ g ∷ []) u (other-before before g n) (k .2)) k)
-    f c (numbered-snoc before f (faultless D M before f (c .0) .not8) nb)
-
--- ── the rest is a body ──
+use Rattle.trace.proofs.Sites.{sites-append, Numbered, numbered-start, declared-upto, numbered-snoc}
 
 module _ (D M m : ℕ) where
   pub record Found (before u : List Frame) (o : List ℕ) : Type 0 where
@@ -75,22 +24,39 @@ module _ (D M m : ℕ) where
     pub rest : List Frame
     pub lines : u ≡ linesOf body ++ rest
     pub now-open : openNow (before ++ linesOf body) ≡ o
+    pub numbered : Numbered (before ++ linesOf body)
     pub clean : Clean D M (before ++ linesOf body) rest
     pub within : Within m D (suc (length o)) body
     pub shorter : length rest < length u
 
+  -- the sites before are numbered, and with those of u there are at most m
+  pub record Counted (before u : List Frame) : Type 0 where
+    pub numbered : Numbered before
+    pub few : sites (before ++ u) ≤ m
+
+  counted-on : (before : List Frame) (f : Frame) (u : List Frame) → fault D M before f ≡ 0 → Counted before (f ∷ u) → Counted (before ++ f ∷ []) u
+  counted-on before f u e h =
+      record {
+        numbered = numbered-snoc before f (faultless D M before f e .not8) (h .numbered);
+        few = subst (λ (l : List Frame). sites l ≤ m) (sym (append-snoc before f u)) (h .few);
+      }
+
+  counted-behind : (before u : List Frame) (o : List ℕ) (x : Found before u o) → Counted before u → Counted (before ++ linesOf (x .body)) (x .rest)
+  counted-behind before u o x h =
+      record {
+        numbered = x .numbered;
+        few = subst (λ (l : List Frame). sites l ≤ m) (ap (λ (l : List Frame). before ++ l) (x .lines) ∙ sym (append-assoc before (linesOf (x .body)) (x .rest))) (h .few);
+      }
+
   abbrev Parsed : ℕ → Type 0
-  Parsed k = (before u : List Frame) (F : ℕ) (o : List ℕ) → length u ≤ k → NoSites u → ((s : ℕ) → declared s before ≡ true → s ≤ m) → openNow before ≡ F ∷ o → Clean D M before u → Found before u o
+  Parsed k = (before u : List Frame) (F : ℕ) (o : List ℕ) → length u ≤ k → Counted before u → openNow before ≡ F ∷ o → Clean D M before u → Found before u o
 
-  module _ (k : ℕ) (rec : Parsed k) (before u : List Frame) (F : ℕ) (o : List ℕ) (l : length u ≤ k) (n : NoSites u) (same : (s : ℕ) → declared s before ≡ true → s ≤ m) (op : openNow before ≡ F ∷ o) where
-    same-on : (f : Frame) → NotSite f → (s : ℕ) → declared s (before ++ f ∷ []) ≡ true → s ≤ m
-    same-on f h s d = same s (sym (declared-same s before (f ∷ []) (h, tt)) ∙ d)
-
-    allowed : (s : ℕ) → (eqb s 0 || not (declared s before)) ≡ false → (1 ≤ s) × (s ≤ m)
-    allowed s e =
+  module _ (k : ℕ) (rec : Parsed k) (before u : List Frame) (F : ℕ) (o : List ℕ) (l : length u ≤ k) (op : openNow before ≡ F ∷ o) where
+    allowed : (f : Frame) (s : ℕ) → Counted before (f ∷ u) → (eqb s 0 || not (declared s before)) ≡ false → (1 ≤ s) × (s ≤ m)
+    allowed f s n e =
         let h = neither (eqb s 0) (not (declared s before)) e in
         let z = eqb-false s 0 (h .0) in
-        (positive s z, same s (not-false (declared s before) (h .1)))
+        (positive s z, omega (arith, declared-upto before (n .numbered) s (not-false (declared s before) (h .1)), n .few, sites-append before (f ∷ u)))
       where
         positive : (s : ℕ) → (s ≡ 0 → ⊥) → 1 ≤ s
         positive zero z = absurd (z refl)
@@ -100,41 +66,46 @@ module _ (D M m : ℕ) where
     room e = omega (arith, ltb-false D (suc (length (openNow before))) e, ap length op)
 
     -- a line that opens and closes nothing
-    plain : (i : Leaf) → LeafWithin i → Clean D M (before ++ lineOf i ∷ []) u → Found before (lineOf i ∷ u) o
-    plain i w c =
+    plain : (i : Leaf) → LeafWithin i → Counted before (lineOf i ∷ u) → Clean D M before (lineOf i ∷ u) → Found before (lineOf i ∷ u) o
+    plain i w n c =
         let f = lineOf i in
-        let x = rec (before ++ f ∷ []) u F o l n (same-on f (leaf-not-site i)) (now before f ∙ leaf-step i (length before) (openNow before) ∙ op) c in
+        let x = rec (before ++ f ∷ []) u F o l (counted-on before f u (c .0) n) (now before f ∙ leaf-step i (length before) (openNow before) ∙ op) (c .2) in
         let a = append-snoc before f (linesOf (x .body)) in
         record {
           body = leaf i (x .body);
           rest = x .rest;
           lines = ap (λ (z : List Frame). f ∷ z) (x .lines);
           now-open = subst (λ (b : List Frame). openNow b ≡ o) a (x .now-open);
+          numbered = subst Numbered a (x .numbered);
           clean = subst (λ (b : List Frame). Clean D M b (x .rest)) a (x .clean);
           within = (w, x .within);
           shorter = omega (arith, x .shorter);
         }
 
     -- a line that opens an invocation
-    nested : (i : Way) (s : ℕ) → (eqb s 0 || not (declared s before)) ≡ false → ltb D (suc (length (openNow before))) ≡ false → Clean D M (before ++ opening i s ∷ []) u → Found before (opening i s ∷ u) o
-    nested i s d e c =
-        let f = opening i s in
-        opened (rec (before ++ f ∷ []) u (suc (length before)) (F ∷ o) l n (same-on f (opening-not-site i s))
-        (now before f ∙ opening-step i s (length before) (openNow before) ∙ ap (λ (z : List ℕ). suc (length before) ∷ z) op) c)
+    nested : (i : Way) (s : ℕ) → (eqb s 0 || not (declared s before)) ≡ false → ltb D (suc (length (openNow before))) ≡ false → Counted before (opening i s ∷ u) → Clean D M before (opening i s ∷ u)
+        → Found before (opening i s ∷ u) o
+    nested i s d e n c =
+        opened (rec (before ++ f ∷ []) u (suc (length before)) (F ∷ o) l on
+        (now before f ∙ opening-step i s (length before) (openNow before) ∙ ap (λ (z : List ℕ). suc (length before) ∷ z) op) (c .2))
       where
         f : Frame
         f = opening i s
+
+        on : Counted (before ++ f ∷ []) u
+        on = counted-on before f u (c .0) n
 
         both : (x : Found (before ++ f ∷ []) u (F ∷ o)) → Found ((before ++ f ∷ []) ++ linesOf (x .body)) (x .rest) o → Found before (f ∷ u) o
         both x y =
             let e′ : ((before ++ f ∷ []) ++ linesOf (x .body)) ++ linesOf (y .body) ≡ before ++ (f ∷ (linesOf (x .body) ++ linesOf (y .body))) =
             append-assoc (before ++ f ∷ []) (linesOf (x .body)) (linesOf (y .body)) ∙ append-snoc before f (linesOf (x .body) ++ linesOf (y .body)) in
-            let a = allowed s d in
+            let a = allowed f s n d in
             record {
               body = child i s (x .body) (y .body);
               rest = y .rest;
               lines = ap (λ (z : List Frame). f ∷ z) (x .lines ∙ ap (λ (z : List Frame). linesOf (x .body) ++ z) (y .lines) ∙ sym (append-assoc (linesOf (x .body)) (linesOf (y .body)) (y .rest)));
               now-open = subst (λ (b : List Frame). openNow b ≡ o) e′ (y .now-open);
+              numbered = subst Numbered e′ (y .numbered);
               clean = subst (λ (b : List Frame). Clean D M b (y .rest)) e′ (y .clean);
               within = (a .0, a .1, room e, x .within, y .within);
               shorter = omega (arith, x .shorter, y .shorter);
@@ -143,50 +114,46 @@ module _ (D M m : ℕ) where
         opened : Found (before ++ f ∷ []) u (F ∷ o) → Found before (f ∷ u) o
         opened x =
             both x
-            (rec ((before ++ f ∷ []) ++ linesOf (x .body)) (x .rest) F o (omega (arith, x .shorter)) (no-sites-right (linesOf (x .body)) (x .rest) (subst NoSites (x .lines) n))
-            (λ j q. same-on f (opening-not-site i s) j (sym (declared-same j (before ++ f ∷ []) (linesOf (x .body)) (no-sites-lines (x .body))) ∙ q)) (x .now-open) (x .clean))
+            (rec ((before ++ f ∷ []) ++ linesOf (x .body)) (x .rest) F o (omega (arith, x .shorter)) (counted-behind (before ++ f ∷ []) u (F ∷ o) x on) (x .now-open) (x .clean))
 
   pub parse : (k : ℕ) → Parsed k
-  parse zero before [] F o l n same op c = absurd (no-way (sym (ap empty op) ∙ c))
-  parse zero before (f ∷ u) F o l n same op c = absurd (omega arith)
-  parse (suc k) before [] F o l n same op c = absurd (no-way (sym (ap empty op) ∙ c))
-  parse (suc k) before (Site s p ∷ u) F o l n same op c = absurd (n .0)
-  parse (suc k) before (Cost v ∷ u) F o l n same op c = plain k (parse k) before u F o (omega arith) (n .1) same op (spend v) (c .1) (c .2)
-  parse (suc k) before (Sync ∷ u) F o l n same op c = plain k (parse k) before u F o (omega arith) (n .1) same op sync tt (c .2)
-  parse (suc k) before (Return ∷ u) F o l n same op c =
+  parse zero before [] F o l n op c = absurd (no-way (sym (ap empty op) ∙ c))
+  parse zero before (f ∷ u) F o l n op c = absurd (omega arith)
+  parse (suc k) before [] F o l n op c = absurd (no-way (sym (ap empty op) ∙ c))
+  parse (suc k) before (Site s p ∷ u) F o l n op c = plain k (parse k) before u F o (omega arith) op (note (site s p)) tt n c
+  parse (suc k) before (Cost v ∷ u) F o l n op c = plain k (parse k) before u F o (omega arith) op (spend v) (c .1) n c
+  parse (suc k) before (Sync ∷ u) F o l n op c = plain k (parse k) before u F o (omega arith) op sync tt n c
+  parse (suc k) before (Return ∷ u) F o l n op c =
       record {
         body = done;
         rest = u;
         lines = refl;
         now-open = now before Return ∙ ap (step (length before) Return) op;
+        numbered = counted-on before Return u (c .0) n .numbered;
         clean = c .2;
         within = tt;
         shorter = omega arith;
       }
-  parse (suc k) before (Call s ∷ u) F o l n same op c =
+  parse (suc k) before (Call s ∷ u) F o l n op c =
       let h = faultless D M before (Call s) (c .0) in
-      nested k (parse k) before u F o (omega arith) (n .1) same op call s (h .not11) (h .not12) (c .2)
-  parse (suc k) before (Spawn s ∷ u) F o l n same op c =
+      nested k (parse k) before u F o (omega arith) op call s (h .not11) (h .not12) n c
+  parse (suc k) before (Spawn s ∷ u) F o l n op c =
       let h = faultless D M before (Spawn s) (c .0) in
-      nested k (parse k) before u F o (omega arith) (n .1) same op spawn s (h .not11) (h .not12) (c .2)
+      nested k (parse k) before u F o (omega arith) op spawn s (h .not11) (h .not12) n c
 
 -- no line passes behind the root's return
 closed : (D M : ℕ) (before u : List Frame) → openNow before ≡ [] → Clean D M before u → u ≡ []
 closed D M before [] o c = refl
 closed D M before (f ∷ u) o c = no-way (sym (faultless D M before f (c .0) .not7) ∙ ap empty o)
 
--- LAW: the lines that pass are sites and then the lines of a body
+-- LAW: the lines that pass are the lines of a body
 pub parts : (D M : ℕ) (t : List Frame) → Fine D M t → Parts D t
 parts D M t f =
-    let s = split D M [] t refl numbered-start (f .clean) in
-    let upto : (i : ℕ) → declared i (s .heads) ≡ true → i ≤ sites t = λ i d. omega (arith, declared-upto (s .heads) (s .numb) i d, ap sites (s .lines), sites-append (s .heads) (s .rest)) in
-    let p = parse D M (sites t) (length (s .rest)) (s .heads) (s .rest) root [] (omega arith) (s .rest-are) upto (s .opened) (s .clean) in
-    let c = closed D M (s .heads ++ linesOf (p .body)) (p .rest) (p .now-open) (p .clean) in
+    let p = parse D M (sites t) (length t) [] t root [] (omega arith) (record { numbered = numbered-start; few = omega arith }) refl (f .clean) in
+    let c = closed D M (linesOf (p .body)) (p .rest) (p .now-open) (p .clean) in
     record {
-      heads = s .heads;
       body = p .body;
-      lines = s .lines ∙ ap (λ (z : List Frame). s .heads ++ z) (p .lines ∙ ap (λ (z : List Frame). linesOf (p .body) ++ z) c ∙ append-nil (linesOf (p .body)));
-      all-sites = s .all-sites;
+      lines = p .lines ∙ ap (λ (z : List Frame). linesOf (p .body) ++ z) c ∙ append-nil (linesOf (p .body));
       within = p .within;
     }
 
@@ -194,5 +161,5 @@ pub accepted-parts : (s : List ℕ) (D M : ℕ) (room : Bool) (t : List Frame) �
 accepted-parts s D M room t e = parts D M t (accepted-fine s D M room t e)
 
 -- LAW: there is one way to take a trace apart
-pub parts-unique : (D E : ℕ) (t : List Frame) (p : Parts D t) (q : Parts E t) → (p .heads ≡ q .heads) × (p .body ≡ q .body)
-parts-unique D E t p q = parts-one (p .heads) (q .heads) (p .body) (q .body) (p .all-sites) (q .all-sites) (sym (p .lines) ∙ q .lines)
+pub parts-unique : (D E : ℕ) (t : List Frame) (p : Parts D t) (q : Parts E t) → p .body ≡ q .body
+parts-unique D E t p q = body-one (p .body) (q .body) (sym (p .lines) ∙ q .lines)

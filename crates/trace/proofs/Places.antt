@@ -1,9 +1,9 @@
 -- Two texts that differ only in places get the same outcome from an engine, unless one is refused with 10. Where both
 -- are accepted, either engine gives one answer and rows; so the engines agree, and what the room held makes no
 -- difference.
-use mathlib.Core.Path.{_≡_, refl, sym, _∙_, ap}
+use mathlib.Core.Path.{_≡_, refl, sym, _∙_, ap, subst}
 use mathlib.Core.Bool.{Bool}
-use mathlib.Core.List.{List, [], _∷_, _++_}
+use mathlib.Core.List.{List}
 use Prim.Native.Nat.{ℕ, _+_, _*_, _/_, _<_}
 use lib.ListN.{length, getD}
 use Rattle.line.specs.declared.Frame.{Frame}
@@ -13,45 +13,26 @@ use Rattle.trace.specs.Rows.{columns}
 use Rattle.trace.specs.Refusals.{Verdict, accepted, refused, verdict}
 use Rattle.trace.specs.Promise.{Engine, Lent, enough, refusal, Promise}
 use Rattle.trace.specs.Places.{OnlyPlaces, RefusedWith}
-use Rattle.trace.specs.Tree.{Way, call, spawn, opening, Leaf, spend, sync, lineOf, Body, done, leaf, child, linesOf, AllSites, Parts, rootAt}
+use Rattle.trace.specs.Tree.{Body, Parts}
 use Rattle.trace.specs.ByTree.{ProfileBy}
-use Rattle.trace.proofs.Cases.{IsSite, at-site}
 use Rattle.trace.proofs.Checks.{same-room}
 use Rattle.trace.proofs.Slots.{by-slots}
-use Rattle.trace.proofs.Tree.{parts-one}
 use Rattle.trace.proofs.Parse.{accepted-parts}
-use Rattle.trace.proofs.Outcome.{profile-tree, by-tree-unique, profile-same}
-use Rattle.trace.proofs.Unseen.{blank, blanks, ButPlaces, blanks-append, blanks-length, sites-blank, SameVerdict, verdict-same}
+use Rattle.trace.proofs.Outcome.{profile-tree, by-tree-unique}
+use Rattle.trace.proofs.Blank.{blankBody, to-blank, from-blank, same-parts}
+use Rattle.trace.proofs.Unseen.{ButPlaces, sites-blank, SameVerdict, verdict-same}
 
-blank-leaf : (l : Leaf) → blank (lineOf l) ≡ lineOf l
-blank-leaf (spend v) = refl
-blank-leaf sync = refl
-
-blank-opening : (w : Way) (s : ℕ) → blank (opening w s) ≡ opening w s
-blank-opening call s = refl
-blank-opening spawn s = refl
-
-blanks-lines : (b : Body) → blanks (linesOf b) ≡ linesOf b
-blanks-lines done = refl
-blanks-lines (leaf l r) = rw (blank-leaf l, blanks-lines r)
-blanks-lines (child w s g r) = rw (blank-opening w s, blanks-append (linesOf g) (linesOf r), blanks-lines g, blanks-lines r)
-
-blanks-sites : (h : List Frame) → AllSites h → AllSites (blanks h)
-blanks-sites [] s = tt
-blanks-sites (f ∷ h) s = (at-site (λ g. IsSite (blank g)) (λ i p. tt) f (s .0), blanks-sites h (s .1))
-
--- LAW: they have one tree, which begins at one line
-pub same-parts : (D E : ℕ) (t u : List Frame) (p : Parts D t) (q : Parts E u) → ButPlaces t u → (rootAt p ≡ rootAt q) × (p .body ≡ q .body)
-same-parts D E t u p q e =
-    let w = parts-one (blanks (p .heads)) (blanks (q .heads)) (p .body) (q .body) (blanks-sites (p .heads) (p .all-sites)) (blanks-sites (q .heads) (q .all-sites)) (sym (apart D t p) ∙ e ∙ apart E u q) in
-    (sym (blanks-length (p .heads)) ∙ ap length (w .0) ∙ blanks-length (q .heads), w .1)
-  where
-    apart : (D : ℕ) (t : List Frame) (p : Parts D t) → blanks t ≡ blanks (p .heads) ++ linesOf (p .body)
-    apart D t p = ap blanks (p .lines) ∙ blanks-append (p .heads) (linesOf (p .body)) ∙ ap (λ (l : List Frame). blanks (p .heads) ++ l) (blanks-lines (p .body))
-
--- and as many sites
+-- traces that differ only in places have as many sites
 sites-same : (t u : List Frame) → ButPlaces t u → sites t ≡ sites u
 sites-same t u e = sym (sites-blank t) ∙ ap sites e ∙ sites-blank u
+
+-- what comes back of the one comes back of the other
+profile-same : (D E : ℕ) (t u : List Frame) (p : Parts D t) (o : Parts E u) → ButPlaces t u → (e : Engine) (c : Lent) (q : Answer) (y : Lent)
+    → ProfileBy e (sites u) (o .body) c q y → ProfileBy e (sites t) (p .body) c q y
+profile-same D E t u p o d e c q y h =
+    from-blank e (sites t) (p .body) c q y
+    (subst (λ (n : ℕ). ProfileBy e n (blankBody (p .body)) c q y) (sym (sites-same t u d))
+    (subst (λ (b : Body). ProfileBy e (sites u) b c q y) (sym (same-parts D E t u p o d)) (to-blank e (sites u) (o .body) c q y h)))
 
 -- "The two engines agree on the answer and on the rows written; numbers that neither writes are each caller's own."
 pub record Agree (t : List Frame) (r q : Answer) (x y : Lent) : Type 0 where
@@ -59,7 +40,7 @@ pub record Agree (t : List Frame) (r q : Answer) (x y : Lent) : Type 0 where
   pub rows-written : (i : ℕ) → i < columns * (sites t + 1) → getD (x .rows) i 0 ≡ getD (y .rows) i 0
 
 agree-by : (D : ℕ) (t : List Frame) (p : Parts D t) (e f : Engine) (b c : Lent) (r q : Answer) (x y : Lent)
-    → ProfileBy e (sites t) (rootAt p) (p .body) b r x → ProfileBy f (sites t) (rootAt p) (p .body) c q y → Agree t r q x y
+    → ProfileBy e (sites t) (p .body) b r x → ProfileBy f (sites t) (p .body) c q y → Agree t r q x y
 agree-by D t p e f b c r q x y h k =
     record {
       answers = h .answer ∙ sym (k .answer);
@@ -72,9 +53,8 @@ module _ (s z : List ℕ) (D M E N : ℕ) (e f : Engine) (b c : Lent) (r q : Ans
   accepted-agree t u i j d =
       let p = accepted-parts s D M (enough e s D M b) t i in
       let o = accepted-parts z E N (enough f z E N c) u j in
-      let w = same-parts D E t u p o d in
       agree-by D t p e f b c r q x y (profile-tree D t p e b r x (h .when-accepted t i))
-      (profile-same f c q y (sites-same t u d) (w .0) (w .1) (profile-tree E u o f c q y (k .when-accepted u j)))
+      (profile-same D E t u p o d f c q y (profile-tree E u o f c q y (k .when-accepted u j)))
 
 -- LAW: the two engines agree, with any room
 pub engines-agree : (s : List ℕ) (D M : ℕ) (e f : Engine) (b c : Lent) (r q : Answer) (x y : Lent) → Promise e s D M b r x → Promise f s D M c q y
@@ -117,10 +97,9 @@ places e s z D M before r q x y h k d a b =
     go (accepted t) (accepted u) i j c =
         let p = accepted-parts s D M room t i in
         let o = accepted-parts z D M room u j in
-        let w = same-parts D D t u p o c in
         let f = profile-tree D t p e before r x (h .when-accepted t i) in
         let g = profile-tree D u o e before q y (k .when-accepted u (lent (accepted u) j)) in
-        by-tree-unique e (sites t) (rootAt p) (p .body) before r q x y f (profile-same e before q y (sites-same t u c) (w .0) (w .1) g)
+        by-tree-unique e (sites t) (p .body) before r q x y f (profile-same D D t u p o c e before q y g)
     go (accepted t) (refused n l) i j c = absurd c
     go (refused n l) (accepted u) i j c = absurd c
     go (refused n l) (refused m o) i j c =

@@ -1,6 +1,6 @@
 -- Cilkprof's recurrence with the join at a return: with chains for numbers it gives the pick of the body's plan, and
 -- on numbers its weight.
-use mathlib.Core.Path.{_≡_, sym, _∙_, ap}
+use mathlib.Core.Path.{_≡_, refl, sym, _∙_, ap}
 use mathlib.Core.Logic.{_⊎_, inl, inr}
 use mathlib.Core.Bool.{Bool, true, false, cond}
 use mathlib.Core.List.{List, [], _∷_, _++_, append-nil, append-assoc}
@@ -12,7 +12,7 @@ use Rattle.chain.specs.Plan.{CostLine, costs, All, Worth, Positive, weight, cho
 use Rattle.chain.proofs.Lists.{all-append, weight-append}
 use Rattle.chain.proofs.Choose.{test, choose-cases, choose-left, choose-right, choose-empty}
 use Rattle.chain.proofs.Laws.{pick-worth, pick-chosen, chosen-unique}
-use Rattle.trace.specs.Tree.{Way, call, spawn, Leaf, spend, sync, LeafWithin, Body, done, leaf, child, size, Within, workOf, larger, spanFrom, spanOf}
+use Rattle.trace.specs.Tree.{Way, call, spawn, Leaf, spend, sync, note, LeafWithin, Body, done, leaf, child, size, Within, workOf, larger, spanFrom, spanOf}
 use Rattle.trace.specs.Fold.{costAt, block, after, plan, Chains, nothing, joined, spawned, leafChains, childChains, run, chainOf}
 use Rattle.trace.proofs.Apart.{all-together, plan-ordered}
 
@@ -20,6 +20,7 @@ use Rattle.trace.proofs.Apart.{all-together, plan-ordered}
 abbrev LeafPaid : Leaf → Type 0
 LeafPaid (spend v) = 1 ≤ v
 LeafPaid sync = Unit {0}
+LeafPaid (note x) = Unit {0}
 
 abbrev pub Paid : Body → Type 0
 Paid done = Unit {0}
@@ -29,6 +30,7 @@ Paid (child w i g r) = Paid g × Paid r
 leaf-paid : (l : Leaf) → LeafWithin l → LeafPaid l
 leaf-paid (spend v) h = h .0
 leaf-paid sync h = tt
+leaf-paid (note x) h = tt
 
 pub paid : (m D d : ℕ) (b : Body) → Within m D d b → Paid b
 paid m D d done h = tt
@@ -39,6 +41,7 @@ positive : (b : Body) (n s : ℕ) → Paid b → All Worth (costs (block n s b))
 positive done n s h = (tt, tt)
 positive (leaf (spend v) r) n s h = let k = positive r (suc n) s (h .1) in ((h .0, k .0), k .1)
 positive (leaf sync r) n s h = let k = positive r (suc n) s (h .1) in (tt, all-append Worth (costs (block (suc n) s r)) (costs (after (suc n) s r)) (k .0) (k .1))
+positive (leaf (note x) r) n s h = positive r (suc n) s (h .1)
 positive (child w i g r) n s h =
     let p = positive g (suc n) i (h .0) in
     let k = positive r (suc n + size g) s (h .1) in
@@ -90,6 +93,7 @@ Tests k g = ((weight (k .l) < weight (k .c) + weight g) × (ltb (weight (k .l)) 
 leaf-is : (l : Leaf) (r : Body) → LeafPaid l → Paid r → (n s : ℕ) (k : Chains) → Ends (suc n) s (leafChains n s l k) r ≡ Ends n s k (leaf l r)
 leaf-is (spend v) r q h n s k = rw (append-assoc (k .c) (costAt n s v ∷ []) (pick (block (suc n) s r)))
 leaf-is sync r q h n s k = rw (block-empty r (suc n) s h, append-nil (k .c)) (append-assoc (k .p ++ choose (k .l) (k .c)) (pick (block (suc n) s r)) (pick (after (suc n) s r)))
+leaf-is (note x) r q h n s k = refl
 
 child-is : (w : Way) (i : ℕ) (g r : Body) (n s : ℕ) (k : Chains) → chainOf (suc n) i g ≡ pick (plan (suc n) i g) → Ends (suc n + size g) s (childChains w (run (suc n) i g) k) r ≡ Ends n s k (child w i g r)
 child-is call i g r n s k e = rw (e, append-assoc (k .c) (pick (plan (suc n) i g)) (pick (block (suc n + size g) s r)))
@@ -143,6 +147,7 @@ leaf-spans (spend v) r n s k =
     let e : weight (k .c ++ costAt n s v ∷ []) ≡ weight (k .c) + v = omega (arith, weight-append (k .c) (costAt n s v ∷ [])) in
     ap (λ (c : ℕ). spanFrom (weight (k .p)) (weight (k .l)) c r) e
 leaf-spans sync r n s k = ap (λ (p : ℕ). spanFrom p 0 0 r) (weight-joined k)
+leaf-spans (note x) r n s k = refl
 
 child-spans : (w : Way) (i : ℕ) (g r : Body) (n : ℕ) (k : Chains) → weight (chainOf (suc n) i g) ≡ spanOf g → Spans (childChains w (run (suc n) i g) k) r ≡ Spans k (child w i g r)
 child-spans call i g r n k e =
@@ -180,6 +185,7 @@ span-le (leaf sync r) p l c = omega (arith, span-le r (p + larger l c) 0 0, go (
     go : (t : Bool) → cond t c l ≤ l + c
     go true = omega arith
     go false = omega arith
+span-le (leaf (note x) r) p l c = omega (arith, span-le r p l c)
 span-le (child call i g r) p l c = omega (arith, span-le g 0 0 0, span-le r p l (c + spanOf g))
 span-le (child spawn i g r) p l c = go (ltb l (c + spanOf g)) (span-le g 0 0 0) (span-le r (p + c) (spanOf g) 0) (span-le r p l c)
   where

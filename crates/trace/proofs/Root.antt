@@ -10,42 +10,41 @@ use Rattle.chain.specs.Over.{linesIn}
 use Rattle.chain.proofs.Over.{Found}
 use Rattle.trace.specs.Shape.{root, Parallel}
 use Rattle.trace.specs.Series.{valueAt, CostIn, Span, Chosen}
-use Rattle.trace.specs.Tree.{Parts, spanOf, rootAt}
+use Rattle.trace.specs.Tree.{Parts, spanOf}
 use Rattle.trace.specs.Fold.{plan, chainOf}
 use Rattle.trace.proofs.Unique.{span-unique, chosen-unique}
 use Rattle.trace.proofs.Chains.{cost-on, on-cost, apart-is-parallel, parallel-is-apart, chosen-of}
 use Rattle.trace.proofs.Invocations.{root-ctx, root-paid, root-inv}
-use Rattle.trace.proofs.Stretches.{starts, span-is}
+use Rattle.trace.proofs.Stretches.{span-is}
 
 module _ (D : ℕ) (t : List Frame) (p : Parts D t) where
   abbrev pub rootChain : List CostLine
-  rootChain = chainOf (rootAt p) 0 (p .body)
+  rootChain = chainOf 0 0 (p .body)
 
   abbrev pub rootPlan : Plan
-  rootPlan = plan (rootAt p) 0 (p .body)
+  rootPlan = plan 0 0 (p .body)
 
   -- LAW: two cost lines are parallel exactly where they are apart in the plan
   pub parallel-iff : (y z : CostLine) → On rootPlan y → On rootPlan z → y .line < z .line → Parallel t (y .line) (z .line) ↔ Apart rootPlan y z
-  parallel-iff y z my mz l =
-      let s = starts t root (rootAt p) (p .body) (root-inv D t p) in (
-        parallel-is-apart t (rootAt p) 0 root [] (p .body) [] (root-ctx D t p) s y z my mz l,
-        apart-is-parallel t (rootAt p) 0 root [] (p .body) [] (root-ctx D t p) s y z my mz l,
-      )
+  parallel-iff y z my mz l = (
+    parallel-is-apart t 0 root [] (p .body) [] (root-ctx D t p) y z my mz l,
+    apart-is-parallel t 0 root [] (p .body) [] (root-ctx D t p) y z my mz l,
+  )
 
   -- LAW: the costs of the plan are the cost lines of the trace
   pub plan-cost : (y : CostLine) → On rootPlan y → CostIn t root (y .line) × (valueAt t (y .line) ≡ y .value)
-  plan-cost = on-cost t (rootAt p) 0 root [] (p .body) [] (root-ctx D t p) (starts t root (rootAt p) (p .body) (root-inv D t p))
+  plan-cost = on-cost t 0 root [] (p .body) [] (root-ctx D t p)
 
   pub cost-plan : (k : ℕ) → CostIn t root k → Found (costs rootPlan) k (valueAt t k)
-  cost-plan = cost-on t (rootAt p) 0 root [] (p .body) [] (root-ctx D t p) (starts t root (rootAt p) (p .body) (root-inv D t p))
+  cost-plan = cost-on t 0 root [] (p .body) [] (root-ctx D t p)
 
   -- LAW
   pub root-span : Span t root (spanOf (p .body))
-  root-span = span-is t root (rootAt p) (p .body) (root-inv D t p)
+  root-span = span-is t root (p .body) (root-inv D t p)
 
   -- LAW
   pub root-chosen : Chosen t (linesIn rootChain)
-  root-chosen = chosen-of t (rootAt p) 0 root [] (p .body) [] (root-ctx D t p) (starts t root (rootAt p) (p .body) (root-inv D t p)) (root-paid D t p) refl
+  root-chosen = chosen-of t 0 root [] (p .body) [] (root-ctx D t p) (root-paid D t p) refl
 
   pub root-span-only : (n : ℕ) → Span t root n → n ≡ spanOf (p .body)
   root-span-only n s = span-unique t root n (spanOf (p .body)) s root-span

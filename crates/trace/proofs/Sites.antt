@@ -1,26 +1,24 @@
--- Site lines: how many there are, that they come first, and that they are numbered 1, 2, 3 and on.
+-- Site lines: how many there are, and that they are numbered 1, 2, 3 and on.
 use mathlib.Core.Path.{_≡_, refl, sym, _∙_, ap, subst}
-use mathlib.Core.Bool.{Bool, true, false, not, _||_, or-false, or-assoc}
+use mathlib.Core.Bool.{Bool, true, false, _||_, or-false, or-assoc}
 use mathlib.Core.List.{List, [], _∷_, _++_, append-nil}
 use Prim.Native.Nat.{ℕ, zero, suc, _+_, _≤_}
 use native.Mathlib.Omega.{arith}
-use lib.ListN.{length, length-append}
+use lib.ListN.{length}
 use lib.Seq.{append-snoc}
 use lib.Dec.{eqb, leb}
-use borrow.Author.Tests.{eqb-true, eqb-false, ltb-false, leb-true, leb-false, le-leb, lt-leb, ne-eqb, not-false}
+use borrow.Author.Tests.{eqb-true, eqb-false, ltb-false, leb-true, leb-false, le-leb, lt-leb, not-false}
 use Rattle.line.specs.declared.Place.{Place}
 use Rattle.line.specs.declared.Frame.{Frame}
 use Rattle.line.specs.declared.Frame.the-variants.{Site}
 use Rattle.trace.specs.Shape.{ifSite, sites}
-use Rattle.trace.specs.Refusals.{allSites, lastSite, misplaced, aboveM, declared}
-use Rattle.trace.specs.Tree.{AllSites}
-use Rattle.trace.proofs.Basics.{no-way, neither}
-use Rattle.trace.proofs.Cases.{NotSite, NoSites, by-site, other, at-site, either-way, both-ways}
+use Rattle.trace.specs.Refusals.{lastSite, misplaced, aboveM, declared}
+use Rattle.trace.proofs.Cases.{NotSite, by-site, other, either-way, both-ways}
 use Rattle.trace.proofs.Scan.{Clean, faultless}
 
-pub sites-none : (u : List Frame) → NoSites u → sites u ≡ 0
-sites-none [] h = refl
-sites-none (f ∷ t) h = other (λ s p. suc (sites t)) (sites t) f (h .0) ∙ sites-none t (h .1)
+-- a line that is no site line adds none
+pub sites-other : (f : Frame) (t : List Frame) → NotSite f → sites (f ∷ t) ≡ sites t
+sites-other f t h = other (λ s p. suc (sites t)) (sites t) f h
 
 pub sites-append : (t u : List Frame) → sites (t ++ u) ≡ sites t + sites u
 sites-append [] u = omega arith
@@ -30,34 +28,9 @@ pub sites-le : (t : List Frame) → sites t ≤ length t
 sites-le [] = omega arith
 sites-le (f ∷ t) = either-way (λ (x : ℕ). x ≤ suc (length t)) f (λ s p. omega (arith, sites-le t)) (omega (arith, sites-le t))
 
-pub sites-all : (t : List Frame) → AllSites t → sites t ≡ length t
-sites-all [] h = refl
-sites-all (f ∷ t) h = at-site (λ g. sites (g ∷ t) ≡ suc (length t)) (λ s p. ap suc (sites-all t (h .1))) f (h .0)
-
--- once another kind stood there, some line before is no site
-pub other-before : (before : List Frame) (f : Frame) → NotSite f → allSites (before ++ f ∷ []) ≡ false
-other-before before f h =
-    ne-eqb (sites (before ++ f ∷ [])) (length (before ++ f ∷ [])) (λ e. omega (arith, sites-append before (f ∷ []), sites-none (f ∷ []) (h, tt), length-append before (f ∷ []), sites-le before))
-
--- what refusal 8 leaves of a site line: only sites stand before it, and its number
-pub sites-before : (before : List Frame) (s : ℕ) (p : Place) → misplaced before (Site s p) ≡ false → allSites before ≡ true
-sites-before before s p m = not-false (allSites before) (neither (not (allSites before)) (not (eqb s (suc (lastSite 0 before)))) m .0)
-
+-- what refusal 8 leaves of a site line: its number
 pub number-is : (before : List Frame) (s : ℕ) (p : Place) → misplaced before (Site s p) ≡ false → s ≡ suc (lastSite 0 before)
-number-is before s p m =
-    eqb-true s (suc (lastSite 0 before)) (not-false (eqb s (suc (lastSite 0 before))) (neither (not (allSites before)) (not (eqb s (suc (lastSite 0 before)))) m .1))
-
-pub no-sites-after : (D M : ℕ) (before u : List Frame) → allSites before ≡ false → Clean D M before u → NoSites u
-no-sites-after D M before [] h c = tt
-no-sites-after D M before (f ∷ u) h c =
-    by-site (λ g. Clean D M before (g ∷ u) → NoSites (g ∷ u))
-    (λ s p k. no-way (sym h ∙ sites-before before s p (faultless D M before (Site s p) (k .0) .not8)))
-    (λ g n k. (n, no-sites-after D M (before ++ g ∷ []) u (other-before before g n) (k .2))) f c
-
-pub declared-same : (s : ℕ) (b u : List Frame) → NoSites u → declared s (b ++ u) ≡ declared s b
-declared-same s [] [] h = refl
-declared-same s [] (f ∷ u) h = other (λ i p. eqb s i || declared s u) (declared s u) f (h .0) ∙ declared-same s [] u (h .1)
-declared-same s (f ∷ b) u h = ap (λ (x : Bool). ifSite (λ i p. eqb s i || x) x f) (declared-same s b u h)
+number-is before s p m = eqb-true s (suc (lastSite 0 before)) (not-false (eqb s (suc (lastSite 0 before))) m)
 
 -- ── numbered 1, 2, 3 and on, over any lines ──
 
@@ -72,9 +45,6 @@ numbered-start = record { last = refl; each = λ s l. sym (lt-leb s 0 (omega ari
 pub declared-upto : (b : List Frame) → Numbered b → (s : ℕ) → declared s b ≡ true → s ≤ sites b
 declared-upto b h zero d = omega arith
 declared-upto b h (suc s) d = leb-true (suc s) (sites b) (sym (h .each (suc s) (omega arith)) ∙ d)
-
-pub upto-declared : (b : List Frame) → Numbered b → (s : ℕ) → 1 ≤ s → s ≤ sites b → declared s b ≡ true
-upto-declared b h s l m = h .each s l ∙ le-leb s (sites b) m
 
 pub last-snoc : (b : List Frame) (n : ℕ) (f : Frame) → lastSite n (b ++ f ∷ []) ≡ ifSite (λ s p. s) (lastSite n b) f
 last-snoc [] n f = refl
@@ -116,10 +86,15 @@ numbered-snoc before f m h = by-site (λ g. misplaced before g ≡ false → Num
 
     another : (g : Frame) → NotSite g → misplaced before g ≡ false → Numbered (before ++ g ∷ [])
     another g n m =
-        let e : sites (before ++ g ∷ []) ≡ sites before = omega (arith, sites-append before (g ∷ []), sites-none (g ∷ []) (n, tt)) in
+        let e : sites (before ++ g ∷ []) ≡ sites before = omega (arith, sites-append before (g ∷ []), sites-other g [] n) in
         record {
           last = last-snoc before 0 g ∙ other (λ s p. s) (lastSite 0 before) g n ∙ h .last ∙ sym e;
-          each = λ s l. declared-same s before (g ∷ []) (n, tt) ∙ h .each s l ∙ ap (leb s) (sym e);
+          each = λ s l.
+              declared-snoc before s g
+              ∙ ap (λ (y : Bool). declared s before || y) (other (λ i p. eqb s i || false) false g n)
+              ∙ or-false (declared s before)
+              ∙ h .each s l
+              ∙ ap (leb s) (sym e);
         }
 
 -- and refusal 9 keeps them within M
@@ -127,7 +102,7 @@ pub within-snoc : (M : ℕ) (before : List Frame) (f : Frame) → misplaced befo
 within-snoc M before f m a h l =
     by-site (λ g. misplaced before g ≡ false → aboveM M g ≡ false → sites (before ++ g ∷ []) ≤ M)
     (λ s p m a. omega (arith, ltb-false M s a, number-is before s p m, h .last, sites-append before (Site s p ∷ [])))
-    (λ g n m a. omega (arith, sites-append before (g ∷ []), sites-none (g ∷ []) (n, tt))) f m a
+    (λ g n m a. omega (arith, sites-append before (g ∷ []), sites-other g [] n)) f m a
 
 -- lines that pass have their sites within M
 pub clean-sites : (D M : ℕ) (before t : List Frame) → Clean D M before t → Numbered before → sites before ≤ M → sites (before ++ t) ≤ M

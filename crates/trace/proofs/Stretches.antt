@@ -1,24 +1,20 @@
 -- Sums of costs over a stretch of lines, and the work and the span of an invocation by its body.
 use mathlib.Core.Path.{_≡_, refl, sym, _∙_, ap, subst}
-use mathlib.Core.Logic.{inl, inr}
 use mathlib.Core.Bool.{Bool, true, false, cond}
 use mathlib.Core.List.{List, [], _∷_, _++_}
-use Prim.Native.Nat.{ℕ, zero, suc, _+_, _≤_, _<_}
+use Prim.Native.Nat.{ℕ, zero, suc, _+_, _<_}
 use native.Mathlib.Omega.{arith}
 use lib.ListN.{length, length-append}
 use lib.Dec.{T}
 use Rattle.line.specs.declared.Frame.{Frame}
-use Rattle.line.specs.declared.Frame.the-variants.{Cost}
 use Rattle.trace.specs.Shape.{Is, step, walk, openAt, has}
-use Rattle.trace.specs.Series.{value, valueAt, CostIn, Span}
+use Rattle.trace.specs.Series.{value, Span}
 use Rattle.trace.specs.Rows.{sumOf, inside}
-use Rattle.trace.specs.Tree.{opening, lineOf, Body, done, leaf, child, linesOf, AllSites, workOf, spanOf}
-use Rattle.trace.proofs.Basics.{below, cond-same}
-use Rattle.trace.proofs.Cases.{IsSite, at-site}
+use Rattle.trace.specs.Tree.{opening, lineOf, Body, done, leaf, child, linesOf, workOf, spanOf}
 use Rattle.trace.proofs.Tree.{size-is, leaf-value, opening-value}
 use Rattle.trace.proofs.Recurrence.{weight-chain}
-use Rattle.trace.proofs.Context.{walk-append}
-use Rattle.trace.proofs.Chains.{is-length, is-right, span-of}
+use Rattle.trace.proofs.Context.{walk-append, has-le}
+use Rattle.trace.proofs.Chains.{is-length, span-of}
 use Rattle.trace.proofs.Chains as C
 use Rattle.trace.proofs.Invocations.{Inv}
 
@@ -80,64 +76,53 @@ all-costs (child w s g r) n o =
       all-costs r (suc n + length (linesOf g)) (walk (suc n) k (linesOf g) (length (linesOf g))),
     )
 
-site-weighs : (f : Frame) → IsSite f → value f ≡ 0
-site-weighs f h = at-site (λ g. value g ≡ 0) (λ s p. refl) f h
-
--- site lines weigh nothing
-pub heads-sum : (p : ℕ → List ℕ → Bool) (n : ℕ) (o : List ℕ) (h : List Frame) → AllSites h → sumOf p n o h ≡ 0
-heads-sum p n o [] s = refl
-heads-sum p n o (f ∷ h) s = omega (arith, ap (λ (v : ℕ). cond (p n o) v 0) (site-weighs f (s .0)), cond-same (p n o), heads-sum p (suc n) (step n f o) h (s .1))
-
-module _ (t : List Frame) (F n : ℕ) (g : Body) (i : Inv t F n g) where
-  -- no cost line inside it is before its body
-  pub starts : (k : ℕ) → CostIn t F k → n ≤ k
-  starts k c = elim (below n k) [ inl l ↦ absurd (i .start k (Cost (valueAt t k)) l (c .is) (c .inside)) | inr w ↦ omega (arith, w .1) ]
-
+module _ (t : List Frame) (F : ℕ) (g : Body) (i : Inv t F g) where
   -- LAW: the span of an invocation is what Cilkprof's recurrence gives
   pub span-is : Span t F (spanOf g)
-  span-is = subst (Span t F) (weight-chain g n 0) (span-of t n 0 F (i .around) g (i .post) (i .ctx) starts (i .paid))
+  span-is = subst (Span t F) (weight-chain g F 0) (span-of t 0 F (i .around) g (i .post) (i .ctx) (i .paid))
 
   abbrev in-it : ℕ → List ℕ → Bool
   in-it k o = has F o
 
   abbrev opened : List ℕ
-  opened = walk n (F ∷ i .around) (linesOf g) (length (linesOf g))
+  opened = walk F (F ∷ i .around) (linesOf g) (length (linesOf g))
 
+  -- no line before its body is in it
   before : sumOf in-it 0 (0 ∷ []) (i .ctx .pre) ≡ 0
-  before = quiet in-it 0 (0 ∷ []) (i .ctx .pre) (λ j f h k. site-weighs f (site j f h k))
+  before = quiet in-it 0 (0 ∷ []) (i .ctx .pre) (λ j f h k. absurd (out j f h k))
     where
-      site : (j : ℕ) (f : Frame) → Is (i .ctx .pre) j f → T (has F (walk 0 (0 ∷ []) (i .ctx .pre) j)) → IsSite f
-      site j f h k =
+      out : (j : ℕ) (f : Frame) → Is (i .ctx .pre) j f → T (has F (walk 0 (0 ∷ []) (i .ctx .pre) j)) → ⊥
+      out j f h k =
           let l = is-length (i .ctx .pre) j f h in
           let e : openAt t j ≡ walk 0 (0 ∷ []) (i .ctx .pre) j = ap (λ (z : List Frame). openAt z j) (i .ctx .whole) ∙ walk-left 0 (0 ∷ []) (i .ctx .pre) (linesOf g ++ i .post) j l in
-          i .start j f (omega (arith, i .ctx .count)) (subst (λ (z : List Frame). Is z j f) (sym (i .ctx .whole)) (is-right (i .ctx .pre) (linesOf g ++ i .post) j f h)) (subst (λ (l : List ℕ). T (has F l)) (sym e) k)
+          omega (arith, i .ctx .count, has-le t j F (subst (λ (l : List ℕ). T (has F l)) (sym e) k))
 
-  within : sumOf in-it n (F ∷ i .around) (linesOf g) ≡ workOf g
+  within : sumOf in-it F (F ∷ i .around) (linesOf g) ≡ workOf g
   within =
-      every in-it n (F ∷ i .around) (linesOf g)
-      (λ j l. subst (λ (l : List ℕ). T (has F l)) (walk-left n (F ∷ i .around) (linesOf g) (i .post) j l) (C.inside t n 0 F (i .around) g (i .post) (i .ctx) starts j (omega (arith, size-is g))))
-      ∙ all-costs g n (F ∷ i .around)
+      every in-it F (F ∷ i .around) (linesOf g)
+      (λ j l. subst (λ (l : List ℕ). T (has F l)) (walk-left F (F ∷ i .around) (linesOf g) (i .post) j l) (C.inside t 0 F (i .around) g (i .post) (i .ctx) j (omega (arith, size-is g))))
+      ∙ all-costs g F (F ∷ i .around)
 
-  behind : sumOf in-it (n + length (linesOf g)) opened (i .post) ≡ 0
-  behind = quiet in-it (n + length (linesOf g)) opened (i .post) (λ j f h k. absurd (out j f h k))
+  behind : sumOf in-it (F + length (linesOf g)) opened (i .post) ≡ 0
+  behind = quiet in-it (F + length (linesOf g)) opened (i .post) (λ j f h k. absurd (out j f h k))
     where
-      out : (j : ℕ) (f : Frame) → Is (i .post) j f → T (has F (walk (n + length (linesOf g)) opened (i .post) j)) → ⊥
+      out : (j : ℕ) (f : Frame) → Is (i .post) j f → T (has F (walk (F + length (linesOf g)) opened (i .post) j)) → ⊥
       out j f h k =
-          let l = C.within t n 0 F (i .around) g (i .post) (i .ctx) starts (length (linesOf g) + j) (omega (arith, is-length (i .post) j f h, length-append (linesOf g) (i .post)))
-          (subst (λ (l : List ℕ). T (has F l)) (sym (walk-append n (F ∷ i .around) (linesOf g) (i .post) j)) k) in
+          let l = C.within t 0 F (i .around) g (i .post) (i .ctx) (length (linesOf g) + j) (omega (arith, is-length (i .post) j f h, length-append (linesOf g) (i .post)))
+          (subst (λ (l : List ℕ). T (has F l)) (sym (walk-append F (F ∷ i .around) (linesOf g) (i .post) j)) k) in
           omega (arith, size-is g)
 
   -- LAW: all costs inside an invocation are those of its body
   pub inside-is : inside t F ≡ workOf g
   inside-is =
-      let e : 0 + length (i .ctx .pre) ≡ n = omega (arith, i .ctx .count) in
+      let e : 0 + length (i .ctx .pre) ≡ F = omega (arith, i .ctx .count) in
       omega (
         arith,
         ap (λ (z : List Frame). sumOf in-it 0 (0 ∷ []) z) (i .ctx .whole),
         sum-append in-it 0 (0 ∷ []) (i .ctx .pre) (linesOf g ++ i .post),
         ap (λ (k : ℕ). sumOf in-it k (walk 0 (0 ∷ []) (i .ctx .pre) (length (i .ctx .pre))) (linesOf g ++ i .post)) e,
-        ap (λ (o : List ℕ). sumOf in-it n o (linesOf g ++ i .post)) (i .ctx .opened),
-        sum-append in-it n (F ∷ i .around) (linesOf g) (i .post),
+        ap (λ (o : List ℕ). sumOf in-it F o (linesOf g ++ i .post)) (i .ctx .opened),
+        sum-append in-it F (F ∷ i .around) (linesOf g) (i .post),
         before,
         within,
         behind,

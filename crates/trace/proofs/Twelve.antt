@@ -1,22 +1,19 @@
 -- The twelve traces of document 01: the definitions say of each what its table says.
 use mathlib.Core.Path.{_≡_, refl, sym, ap, subst}
 use mathlib.Core.Bool.{true}
-use mathlib.Core.List.{List, [], _∷_, _++_, map}
+use mathlib.Core.List.{List, [], _∷_, map}
 use Prim.Native.Nat.{ℕ}
-use lib.ListN.{length}
-use Rattle.line.specs.declared.Frame.{Frame}
-use Rattle.line.specs.declared.Frame.the-variants.{Site}
 use Rattle.chain.specs.Plan.{choose}
 use Rattle.chain.specs.Over.{linesIn}
 use Rattle.trace.specs.Shape.{root}
 use Rattle.trace.specs.Series.{Span, Chosen}
 use Rattle.trace.specs.Rows.{total, Spans, onSpan}
 use Rattle.trace.specs.Refusals.{Verdict, accepted, verdict}
-use Rattle.trace.specs.Tree.{call, spawn, spend, sync, Body, done, leaf, child, linesOf, Parts, spanOf, spansIn}
+use Rattle.trace.specs.Tree.{call, spawn, site, spend, sync, note, Body, done, leaf, child, linesOf, Parts, spanOf, spansIn}
 use Rattle.trace.specs.Fold.{chainOf}
 use Rattle.trace.specs.Twelve.{Case, twelve, Holds, AllHold, K, RowOne, Claim}
 use Rattle.trace.proofs.Basics.{clash}
-use Rattle.trace.proofs.Tree.{parts-one}
+use Rattle.trace.proofs.Tree.{body-one}
 use Rattle.trace.proofs.Parse.{accepted-parts}
 use Rattle.trace.proofs.Root.{root-span, root-chosen}
 use Rattle.trace.proofs.Outermost.{spans-tree}
@@ -38,9 +35,9 @@ trees =
     ∷ child spawn 1 (child spawn 2 (leaf (spend 6) done) (leaf (spend 1) done)) (leaf (spend 2) (leaf sync (leaf (spend 1) done)))
     ∷ []
 
--- the two sites
-abbrev pub heads : List Frame
-heads = Site 1 (record { file = 1; line = 10; column = 5 }) ∷ Site 2 (record { file = 1; line = 20; column = 9 }) ∷ []
+-- a body behind the two sites
+abbrev pub sited : Body → Body
+sited b = leaf (note (site 1 (record { file = 1; line = 10; column = 5 }))) (leaf (note (site 2 (record { file = 1; line = 20; column = 9 }))) b)
 
 pub record Row : Type 0 where
   pub answer : Verdict
@@ -56,12 +53,12 @@ expected c = record { answer = verdict (c .trace) 4 2 true; work = c .work; span
 abbrev pub computed : Body → Row
 computed b =
     record {
-      answer = accepted (heads ++ linesOf b);
-      work = total (heads ++ linesOf b);
-      span = spanOf b;
-      on0 = onSpan (heads ++ linesOf b) (linesIn (chainOf 2 0 b)) 0;
-      on1 = onSpan (heads ++ linesOf b) (linesIn (chainOf 2 0 b)) 1;
-      on2 = onSpan (heads ++ linesOf b) (linesIn (chainOf 2 0 b)) 2;
+      answer = accepted (linesOf (sited b));
+      work = total (linesOf (sited b));
+      span = spanOf (sited b);
+      on0 = onSpan (linesOf (sited b)) (linesIn (chainOf 0 0 (sited b))) 0;
+      on1 = onSpan (linesOf (sited b)) (linesIn (chainOf 0 0 (sited b))) 1;
+      on2 = onSpan (linesOf (sited b)) (linesIn (chainOf 0 0 (sited b))) 2;
     }
 
 -- the one computed test
@@ -69,38 +66,33 @@ pub test : map expected twelve ≡ map computed trees
 unfolding choose
 test = refl
 
--- what the laws say of a text that is accepted as the two sites and the body b
-module _ (s : List ℕ) (b : Body) (e : verdict s 4 2 true ≡ accepted (heads ++ linesOf b)) where
-  abbrev t : List Frame
-  t = heads ++ linesOf b
+-- what the laws say of a text that is accepted as the body b
+module _ (s : List ℕ) (b : Body) (e : verdict s 4 2 true ≡ accepted (linesOf b)) where
+  p : Parts 4 (linesOf b)
+  p = accepted-parts s 4 2 true (linesOf b) e
 
-  p : Parts 4 t
-  p = accepted-parts s 4 2 true t e
+  same : p .body ≡ b
+  same = body-one (p .body) b (sym (p .lines))
 
-  same : (p .heads ≡ heads) × (p .body ≡ b)
-  same = parts-one (p .heads) heads (p .body) b (p .all-sites) (tt, (tt, tt)) (sym (p .lines))
+  pub span-here : Span (linesOf b) root (spanOf b)
+  span-here = subst (λ (c : Body). Span (linesOf b) root (spanOf c)) same (root-span 4 (linesOf b) p)
 
-  pub span-here : Span t root (spanOf b)
-  span-here = subst (λ (c : Body). Span t root (spanOf c)) (same .1) (root-span 4 t p)
+  pub chosen-here : Chosen (linesOf b) (linesIn (chainOf 0 0 b))
+  chosen-here = subst (λ (c : Body). Chosen (linesOf b) (linesIn (chainOf 0 0 c))) same (root-chosen 4 (linesOf b) p)
 
-  pub chosen-here : Chosen t (linesIn (chainOf 2 0 b))
-  chosen-here =
-      subst (λ (h : List Frame). Chosen t (linesIn (chainOf (length h) 0 b))) (same .0)
-      (subst (λ (c : Body). Chosen t (linesIn (chainOf (length (p .heads)) 0 c))) (same .1) (root-chosen 4 t p))
-
-  spans-here : (i : ℕ) → Spans t i (spansIn i b)
-  spans-here i = subst (λ (c : Body). Spans t i (spansIn i c)) (same .1) (spans-tree 4 t p i)
+  spans-here : (i : ℕ) → Spans (linesOf b) i (spansIn i b)
+  spans-here i = subst (λ (c : Body). Spans (linesOf b) i (spansIn i c)) same (spans-tree 4 (linesOf b) p i)
 
 holds : (c : Case) (b : Body) → expected c ≡ computed b → Holds c
 holds c b e =
     let a = ap (λ (r : Row). r .answer) e in
     record {
-      t = heads ++ linesOf b;
+      t = linesOf (sited b);
       is-accepted = a;
       work-is = sym (ap (λ (r : Row). r .work) e);
-      span-is = subst (Span (heads ++ linesOf b) root) (sym (ap (λ (r : Row). r .span) e)) (span-here (c .trace) b a);
-      chain = linesIn (chainOf 2 0 b);
-      chosen = chosen-here (c .trace) b a;
+      span-is = subst (Span (linesOf (sited b)) root) (sym (ap (λ (r : Row). r .span) e)) (span-here (c .trace) (sited b) a);
+      chain = linesIn (chainOf 0 0 (sited b));
+      chosen = chosen-here (c .trace) (sited b) a;
       on0-is = sym (ap (λ (r : Row). r .on0) e);
       on1-is = sym (ap (λ (r : Row). r .on1) e);
       on2-is = sym (ap (λ (r : Row). r .on2) e);
@@ -118,7 +110,7 @@ abbrev pub K-tree : Body
 K-tree = child call 1 (leaf (spend 1) (child call 1 (leaf (spend 2) done) done)) done
 
 K-row : RowOne K 2 3 3 3
-K-row = record { t = heads ++ linesOf K-tree; is-accepted = refl; calls-is = refl; work-is = refl; span-is = spans-here (K .trace) K-tree refl 1; local-is = refl }
+K-row = record { t = linesOf (sited K-tree); is-accepted = refl; calls-is = refl; work-is = refl; span-is = spans-here (K .trace) (sited K-tree) refl 1; local-is = refl }
 
 -- THE CLAIM
 pub twelve-hold : Claim

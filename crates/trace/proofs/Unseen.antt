@@ -14,7 +14,7 @@ use Rattle.line.specs.declared.Read.{Read}
 use Rattle.line.specs.declared.Read.the-variants.{Line, Refused}
 use Rattle.line.specs.Read.{readAt}
 use Rattle.trace.specs.Shape.{ifSite, ifMakes, root, step, walk, openAt, sites}
-use Rattle.trace.specs.Refusals.{lineCount, checks, openNow, empty, afterRoot, allSites, lastSite, misplaced, aboveM, placeAgain, declared, undeclared, tooDeep, fault, Verdict, accepted, refused, judged, scan, readsFrom, reads, verdict}
+use Rattle.trace.specs.Refusals.{lineCount, checks, openNow, empty, afterRoot, lastSite, misplaced, aboveM, placeAgain, declared, undeclared, tooDeep, fault, Verdict, accepted, refused, judged, scan, readsFrom, reads, verdict}
 use Rattle.trace.specs.Places.{Alike, OnlyPlaces}
 use Rattle.trace.proofs.Basics.{no-way}
 use Rattle.trace.proofs.Cases.{by-site, other, both-ways, makes-same}
@@ -82,9 +82,7 @@ declared-blank s (f ∷ t) =
 misplaced-blank : (t : List Frame) (f : Frame) → misplaced (blanks t) (blank f) ≡ misplaced t f
 misplaced-blank t f =
     unseen (misplaced (blanks t)) (λ s p q. refl) f
-    ∙ ap (λ (n : ℕ). ifSite (λ s p. not (eqb n (length (blanks t))) || not (eqb s (suc (lastSite 0 (blanks t))))) false f) (sites-blank t)
-    ∙ ap (λ (n : ℕ). ifSite (λ s p. not (eqb (sites t) n) || not (eqb s (suc (lastSite 0 (blanks t))))) false f) (blanks-length t)
-    ∙ ap (λ (n : ℕ). ifSite (λ s p. not (allSites t) || not (eqb s (suc n))) false f) (last-blank 0 t)
+    ∙ ap (λ (n : ℕ). ifSite (λ s p. not (eqb s (suc n))) false f) (last-blank 0 t)
 
 above-blank : (M : ℕ) (f : Frame) → aboveM M (blank f) ≡ aboveM M f
 above-blank M f = unseen (aboveM M) (λ s p q. refl) f

@@ -1,5 +1,5 @@
 -- For proofs and engines, not for the reader of document 01: what comes back of an accepted trace, by its tree.
--- m is the number of its sites, first the line at which the body of its root begins, and b that body.
+-- m is the number of its sites, and b the body of its root.
 use Prim.Native.Nat.{ℕ, _+_, _*_, _≤_}
 use mathlib.Core.Path.{_≡_}
 use mathlib.Core.List.{List}
@@ -14,20 +14,20 @@ use Rattle.trace.specs.Tree.{Body, size, workOf, spanOf, callsIn, workIn
 use Rattle.trace.specs.Fold.{chainOf, onRow}
 
 -- each column of row s
-abbrev pub cell : ℕ → Body → ℕ → Column → ℕ
-cell first b s Column.calls = callsIn s b
-cell first b s Column.work = workIn s b
-cell first b s Column.span = spansIn s b
-cell first b s Column.local = localIn s b
-cell first b s Column.onSpan = onRow s (chainOf first 0 b)
+abbrev pub cell : Body → ℕ → Column → ℕ
+cell b s Column.calls = callsIn s b
+cell b s Column.work = workIn s b
+cell b s Column.span = spansIn s b
+cell b s Column.local = localIn s b
+cell b s Column.onSpan = onRow s (chainOf 0 0 b)
 
-pub record RowsBy (m first : ℕ) (b : Body) (before after : List ℕ) : Type 0 where
+pub record RowsBy (m : ℕ) (b : Body) (before after : List ℕ) : Type 0 where
   pub same-length : length after ≡ length before
-  pub cells : (s : ℕ) (k : Column) → s ≤ m → getD after (slot s k) 0 ≡ cell first b s k
+  pub cells : (s : ℕ) (k : Column) → s ≤ m → getD after (slot s k) 0 ≡ cell b s k
   pub rest : (i : ℕ) → columns * (m + 1) ≤ i → getD after i 0 ≡ getD before i 0
 
-pub record ProfileBy (e : Engine) (m first : ℕ) (b : Body) (before : Lent) (r : Answer) (after : Lent) : Type 0 where
-  pub answer : r ≡ Accepted (workOf b) (spanOf b) m (first + size b)
-  pub rows : RowsBy m first b (before .rows) (after .rows)
+pub record ProfileBy (e : Engine) (m : ℕ) (b : Body) (before : Lent) (r : Answer) (after : Lent) : Type 0 where
+  pub answer : r ≡ Accepted (workOf b) (spanOf b) m (size b)
+  pub rows : RowsBy m b (before .rows) (after .rows)
   pub scratch : after .scratch ≡ replicate (length (before .scratch)) 0
-  pub marked : Marked e (first + size b) (linesIn (chainOf first 0 b)) (before .marks) (after .marks)
+  pub marked : Marked e (size b) (linesIn (chainOf 0 0 b)) (before .marks) (after .marks)

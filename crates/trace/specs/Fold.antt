@@ -5,7 +5,7 @@ use mathlib.Core.Bool.{cond}
 use mathlib.Core.List.{List, [], _∷_, _++_}
 use lib.Dec.{eqb, ltb}
 use Rattle.chain.specs.Plan.{CostLine, Plan, none, cost, seq, par, weight, choose}
-use Rattle.trace.specs.Tree.{Way, call, spawn, Leaf, spend, sync, Body, done, leaf, child, size}
+use Rattle.trace.specs.Tree.{Way, call, spawn, Leaf, spend, sync, note, Body, done, leaf, child, size}
 
 abbrev pub costAt : ℕ → ℕ → ℕ → CostLine
 costAt n s v = record { line = n; row = s; value = v }
@@ -21,6 +21,7 @@ abbrev mutual
   block n s done = none
   block n s (leaf (spend v) r) = seq (cost (costAt n s v)) (block (suc n) s r)
   block n s (leaf sync r) = none
+  block n s (leaf (note x) r) = block (suc n) s r
   block n s (child w i g r) = together w (seq (block (suc n) i g) (after (suc n) i g)) (block (suc n + size g) s r)
 
   -- what stands behind that sync
@@ -28,6 +29,7 @@ abbrev mutual
   after n s done = none
   after n s (leaf (spend v) r) = after (suc n) s r
   after n s (leaf sync r) = seq (block (suc n) s r) (after (suc n) s r)
+  after n s (leaf (note x) r) = after (suc n) s r
   after n s (child w i g r) = after (suc n + size g) s r
 
 abbrev pub plan : ℕ → ℕ → Body → Plan
@@ -60,6 +62,7 @@ spawned g k = cond (ltb (weight (k .l)) (weight (k .c) + weight g)) (record { p 
 abbrev pub leafChains : ℕ → ℕ → Leaf → Chains → Chains
 leafChains n s (spend v) k = spent (costAt n s v) k
 leafChains n s sync k = joined k
+leafChains n s (note x) k = k
 
 -- the chain of an invocation whose items make this of its chains, with the join at its return
 abbrev pub ended : (Chains → Chains) → List CostLine

@@ -10,7 +10,7 @@ use Rattle.line.specs.declared.Frame.{Frame}
 use Rattle.line.specs.declared.Read.{Read}
 use Rattle.line.specs.declared.Read.the-variants.{Line, Refused}
 use Rattle.line.specs.Read.{width, readAt}
-use Rattle.trace.specs.Shape.{ifSite, ifMakes, openAt, sites}
+use Rattle.trace.specs.Shape.{ifSite, ifMakes, openAt}
 
 -- 1: "D or M outside its range": "a depth limit D, 1 to 64, counting the root, and a site limit M, 0 to 255"
 abbrev pub outOfRange : ℕ → ℕ → Bool
@@ -54,18 +54,15 @@ empty (x ∷ o) = false
 abbrev pub afterRoot : List Frame → Bool
 afterRoot before = empty (openNow before)
 
--- "All site lines come first": a site line does not follow another kind
-abbrev pub allSites : List Frame → Bool
-allSites t = eqb (sites t) (length t)
-
 -- the number of the last site line, n where there is none
 abbrev pub lastSite : ℕ → List Frame → ℕ
 lastSite n [] = n
 lastSite n (f ∷ t) = ifSite (λ s p. lastSite s t) (lastSite n t) f
 
--- 8: "a site line after another kind, or not numbered one above the last (the first is 1)"
+-- 8: "not numbered one above the last (the first is 1)". 02, request j: "8 loses its first ground": "A site line may
+-- stand anywhere before the root's return".
 abbrev pub misplaced : List Frame → Frame → Bool
-misplaced before f = ifSite (λ s p. not (allSites before) || not (eqb s (suc (lastSite 0 before)))) false f
+misplaced before f = ifSite (λ s p. not (eqb s (suc (lastSite 0 before)))) false f
 
 -- 9: "a site line whose number is above M"
 abbrev pub aboveM : ℕ → Frame → Bool
@@ -87,7 +84,7 @@ abbrev pub declared : ℕ → List Frame → Bool
 declared s [] = false
 declared s (f ∷ t) = ifSite (λ i p. eqb s i || declared s t) (declared s t) f
 
--- 11: "call or spawn of site 0 or one not declared"
+-- 11: "call or spawn of site 0 or one not declared"; 02, request j: "declared on an earlier line"
 abbrev pub undeclared : List Frame → Frame → Bool
 undeclared before f = ifMakes (λ s. eqb s 0 || not (declared s before)) false f
 

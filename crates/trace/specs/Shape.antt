@@ -66,8 +66,7 @@ walk n o [] j = o
 walk n o (e ∷ t) zero = o
 walk n o (e ∷ t) (suc j) = walk (suc n) (step n e o) t j
 
--- The invocations open at line j, innermost first. "After the sites the root invocation is open": it is listed from
--- the first line on, and no rule asks which invocations a site line is in.
+-- The invocations open at line j, innermost first. 02, request j: "the root is open from the start".
 abbrev pub openAt : List Frame → ℕ → List ℕ
 openAt t j = walk 0 (root ∷ []) t j
 

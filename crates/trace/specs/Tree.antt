@@ -2,13 +2,13 @@
 -- numbers by the tree.
 use Prim.Native.Nat.{ℕ, zero, suc, _+_, _≤_}
 use mathlib.Core.Path.{_≡_}
-use mathlib.Core.Bool.{true, false, cond}
+use mathlib.Core.Bool.{cond}
 use mathlib.Core.List.{List, [], _∷_, _++_}
-use lib.Dec.{T, eqb, ltb}
-use lib.ListN.{length}
+use lib.Dec.{eqb, ltb}
+use Rattle.line.specs.declared.Place.{Place}
 use Rattle.line.specs.declared.Frame.{Frame}
-use Rattle.line.specs.declared.Frame.the-variants.{Call, Spawn, Sync, Return, Cost}
-use Rattle.trace.specs.Shape.{ifSite, sites}
+use Rattle.line.specs.declared.Frame.the-variants.{Site, Call, Spawn, Sync, Return, Cost}
+use Rattle.trace.specs.Shape.{sites}
 
 -- how an invocation is made
 pub data Way : Type 0 where
@@ -19,24 +19,35 @@ abbrev pub opening : Way → ℕ → Frame
 opening call s = Call s
 opening spawn s = Spawn s
 
+-- 02, request j: "Site lines weigh nothing and join nothing": a line that says something and does neither
+pub data Note : Type 0 where
+  site : ℕ → Place → Note
+
+abbrev pub noteLine : Note → Frame
+noteLine (site s p) = Site s p
+
 -- a line that neither opens nor closes an invocation
 pub data Leaf : Type 0 where
   spend : ℕ → Leaf
   sync : Leaf
+  note : Note → Leaf
 
 abbrev pub lineOf : Leaf → Frame
 lineOf (spend v) = Cost v
 lineOf sync = Sync
+lineOf (note x) = noteLine x
 
 -- what it weighs
 abbrev pub leafWork : Leaf → ℕ
 leafWork (spend v) = v
 leafWork sync = 0
+leafWork (note x) = 0
 
 -- a cost is in the table
 abbrev pub LeafWithin : Leaf → Type 0
 LeafWithin (spend v) = (1 ≤ v) × (v ≤ 4294967295)
 LeafWithin sync = Unit {0}
+LeafWithin (note x) = Unit {0}
 
 -- the items of a body, each with the rest of the body behind it; an invocation has its way, its site and its own body
 pub data Body : Type 0 where
@@ -62,21 +73,11 @@ Within m D d done = Unit {0}
 Within m D d (leaf l r) = LeafWithin l × Within m D d r
 Within m D d (child w s g r) = (1 ≤ s) × (s ≤ m) × (suc d ≤ D) × Within m D (suc d) g × Within m D d r
 
-abbrev pub AllSites : List Frame → Type 0
-AllSites [] = Unit {0}
-AllSites (f ∷ t) = T (ifSite (λ s p. true) false f) × AllSites t
-
--- a trace taken apart: its site lines, and the body of its root
+-- a trace taken apart: it is the body of its root, which is open from the start
 pub record Parts (D : ℕ) (t : List Frame) : Type 0 where
-  pub heads : List Frame
   pub body : Body
-  pub lines : t ≡ heads ++ linesOf body
-  pub all-sites : AllSites heads
+  pub lines : t ≡ linesOf body
   pub within : Within (sites t) D 1 body
-
--- the line at which the root's body begins
-abbrev pub rootAt : {D : ℕ} {t : List Frame} → Parts D t → ℕ
-rootAt p = length (p .heads)
 
 -- all costs of a body, and those directly in it
 abbrev pub workOf : Body → ℕ
@@ -98,6 +99,7 @@ abbrev pub spanFrom : ℕ → ℕ → ℕ → Body → ℕ
 spanFrom p l c done = p + larger l c
 spanFrom p l c (leaf (spend v) r) = spanFrom p l (c + v) r
 spanFrom p l c (leaf sync r) = spanFrom (p + larger l c) 0 0 r
+spanFrom p l c (leaf (note x) r) = spanFrom p l c r
 spanFrom p l c (child call s g r) = spanFrom p l (c + spanFrom 0 0 0 g) r
 spanFrom p l c (child spawn s g r) = cond (ltb l (c + spanFrom 0 0 0 g)) (spanFrom (p + c) (spanFrom 0 0 0 g) 0 r) (spanFrom p l c r)
 

@@ -1,6 +1,6 @@
 -- The root of an accepted trace, whichever engine reads it: its limits and room, the cleared rows, and what its
 -- reading comes to in them.
-use mathlib.Core.Path.{_≡_, refl, ap, _∙_, subst}
+use mathlib.Core.Path.{_≡_, _∙_, subst, sym}
 use mathlib.Core.Bool.{_&&_}
 use mathlib.Core.List.{List, [], _∷_, _++_}
 use Prim.Native.Nat.{ℕ, _+_, _*_, _-_, _^_, _≤_, _<_}
@@ -15,15 +15,14 @@ use Rattle.trace.specs.Column.{Column, slot}
 use Rattle.trace.specs.Refusals.{accepted, verdict}
 use Rattle.trace.specs.declared.Answer.{Answer}
 use Rattle.trace.specs.Promise.{Engine, Lent, enough, scratchRoom, rowsRoom, marksRoom, Profile}
-use Rattle.trace.specs.Tree.{Body, size, Within, workOf, spanOf, Parts, rootAt}
+use Rattle.trace.specs.Tree.{Body, size, Within, workOf, spanOf, Parts}
 use Rattle.trace.specs.Fold.{nothing}
 use Rattle.trace.specs.ByTree.{cell, ProfileBy}
 use Rattle.trace.proofs.Basics.{both}
 use Rattle.trace.proofs.Slots.{slot-in}
 use Rattle.trace.proofs.Scan.{Fine, accepted-is, accepted-fine}
-use Rattle.trace.proofs.Invocations.{root-behind-sites}
 use Rattle.trace.proofs.Accept.{sites-le-M}
-use Rattle.trace.proofs.Outcome.{tree-profile, length-is, profile-same}
+use Rattle.trace.proofs.Outcome.{tree-profile, length-is}
 use Rattle.weigh.specs.Weighed.{Weigh, Tabled}
 use Rattle.weigh.proofs.Alike.{alike-length}
 use Rattle.weigh.proofs.Accepted.{reweighed-alike, reweighed-sites}
@@ -63,10 +62,6 @@ module _ (e : Engine) (s : List ℕ) (D M : ℕ) (x : Lent) (t : List Frame) (is
   pub cleared-long : length cleared ≡ length (x .rows)
   cleared-long = cleared-length (x .rows) (columns * (count + 1)) rows-room
 
-  -- the line at which the root's body begins
-  abbrev pub first : ℕ
-  first = count
-
   -- the row of the root is there
   pub row-there : slot 0 Column.span < length cleared
   row-there = omega (arith, cleared-long, rows-room)
@@ -85,12 +80,9 @@ module _ (e : Engine) (s : List ℕ) (D M : ℕ) (x : Lent) (t : List Frame) (is
     sites-are : sites trace ≡ count
     sites-are = reweighed-sites w t 0 (0 ∷ []) ∙ count-is
 
-    pub first-is : rootAt root ≡ first
-    first-is = root-behind-sites D trace root ∙ sites-are
-
     -- the body ends where the trace does
-    pub lines-are : length t ≡ first + size body
-    lines-are = omega (arith, alike-length t trace (reweighed-alike w t 0 (0 ∷ [])), length-is D trace root, first-is)
+    pub lines-are : length t ≡ size body
+    lines-are = omega (arith, alike-length t trace (reweighed-alike w t 0 (0 ∷ [])), length-is D trace root)
 
     pub within : Within count D 1 body
     within = subst (λ (m : ℕ). Within m D 1 body) sites-are (root .within)
@@ -98,8 +90,8 @@ module _ (e : Engine) (s : List ℕ) (D M : ℕ) (x : Lent) (t : List Frame) (is
     pub small : size body + workOf body < 2 ^ 55
     small = root-small w tabled D M t fine
 
-    pub reads : Reads w s first 0 body
-    reads = subst (λ (k : ℕ). Reads w s k 0 body) first-is (root-reads w tabled D M t fine s (enough e s D M x) is)
+    pub reads : Reads w s 0 0 body
+    reads = root-reads w tabled D M t fine s (enough e s D M x) is
 
     zeros : (i : ℕ) → i < columns * (sites trace + 1) → getD cleared i 0 ≡ 0
     zeros i l = cleared-front (x .rows) (columns * (count + 1)) rows-room i (omega (arith, sites-are))
@@ -107,20 +99,19 @@ module _ (e : Engine) (s : List ℕ) (D M : ℕ) (x : Lent) (t : List Frame) (is
     long : columns * (sites trace + 1) ≤ length cleared
     long = omega (arith, cleared-long, rows-room, sites-are)
 
-    pub ready : Ready w s 0 count (D - 1) (numbers first 0 nothing) cleared
+    pub ready : Ready w s 0 count (D - 1) (numbers 0 0 nothing) cleared
     ready =
-        subst (λ (m : ℕ). Ready w s 0 m (D - 1) (numbers first 0 nothing) cleared) sites-are
-        (subst (λ (k : ℕ). Ready w s 0 (sites trace) (D - 1) (numbers k 0 nothing) cleared) first-is (root-ready w tabled D M t fine s (enough e s D M x) is cleared long zeros))
+        subst (λ (m : ℕ). Ready w s 0 m (D - 1) (numbers 0 0 nothing) cleared) sites-are (root-ready w tabled D M t fine s (enough e s D M x) is cleared long zeros)
 
     -- what the tree says of an outcome is the profile of the weighed trace
-    pub profiled : (r : Answer) (y : Lent) → ProfileBy e count first body x r y → Profile e trace x r y
-    profiled r y h = tree-profile D trace root e x r y (profile-same e x r y sites-are first-is refl h)
+    pub profiled : (r : Answer) (y : Lent) → ProfileBy e count body x r y → Profile e trace x r y
+    profiled r y h = tree-profile D trace root e x r y (subst (λ (m : ℕ). ProfileBy e m body x r y) (sym sites-are) h)
 
     -- The root's body was read: its numbers are c, and before is what columns 2 and 3 of its row held.
     module _ (before : Credit) (before-is : before ≡ creditOf cleared 0) (c : Open) (rows₁ : List ℕ) (same : length rows₁ ≡ length (x .rows))
-        (done : BodyDone first 0 cleared body c rows₁) where
+        (done : BodyDone 0 0 cleared body c rows₁) where
       read : Came 0 body cleared before (c .work) (c .prefix) rows₁
-      read = came first 0 body cleared before c rows₁ before-is (omega (arith, same, cleared-long)) done
+      read = came 0 0 body cleared before c rows₁ before-is (omega (arith, same, cleared-long)) done
 
       pub work-is : c .work ≡ workOf body
       work-is = read .work-is
@@ -136,8 +127,8 @@ module _ (e : Engine) (s : List ℕ) (D M : ℕ) (x : Lent) (t : List Frame) (is
         grown : Grown cleared (made 0 body) rows₂
         grown = made-grown read rows₂ counts
 
-        pub cells : (k : ℕ) (j : Column) → k ≤ count → (j ≡ Column.onSpan → ⊥) → getD rows₂ (slot k j) 0 ≡ cell count body k j
-        cells k j h l = cells-are D trace root cleared rows₂ long zeros grown k j (omega (arith, sites-are)) l ∙ ap (λ (m : ℕ). cell m body k j) sites-are
+        pub cells : (k : ℕ) (j : Column) → k ≤ count → (j ≡ Column.onSpan → ⊥) → getD rows₂ (slot k j) 0 ≡ cell body k j
+        cells k j h l = cells-are D trace root cleared rows₂ long zeros grown k j (omega (arith, sites-are)) l
 
         -- column 5 is still zero
         pub none-on : (k : ℕ) → k ≤ count → getD rows₂ (slot k Column.onSpan) 0 ≡ 0

@@ -46,10 +46,10 @@ module _ (w : Weigh) (s : List ℕ) (n row kind : ℕ) (says : Says kindOf s n k
         let q : site ≡ e .0 = sited (Call (e .0)) (z .0) in
         (e .1, e .2, e .3 ∙ ap (λ (x : ℕ). child call x (e .1) (e .2)) (sym q), subst (λ (x : ℕ). Reads w s (n + 1) x (e .1)) (sym q) (z .1))
 
-    module _ (k6 : kind ≡ 6 → ⊥) (k4 : kind ≡ 4 → ⊥) where
+    module _ (k6 : kind ≡ 6 → ⊥) (k4 : kind ≡ 4 → ⊥) (k1 : kind ≡ 1 → ⊥) where
       pub spawn-is : (b : Body) → Reads w s n row b → More b → (kind ≡ 2 → ⊥) → (g : Body) × (r : Body) × (b ≡ child spawn site g r) × Reads w s (n + 1) site g
       spawn-is b h m k2 =
-          let e = is-spawn w s n row kind says b h k2 k4 k6 m in
+          let e = is-spawn w s n row kind says b h k1 k2 k4 k6 m in
           let z = subst (Reads w s n row) (e .3) h in
           let q : site ≡ e .0 = sited (Spawn (e .0)) (z .0) in
           (e .1, e .2, e .3 ∙ ap (λ (x : ℕ). child spawn x (e .1) (e .2)) (sym q), subst (λ (x : ℕ). Reads w s (n + 1) x (e .1)) (sym q) (z .1))
@@ -62,13 +62,13 @@ pub record Child (w : Weigh) (s : List ℕ) (n site : ℕ) (b : Body) : Type 0 w
   pub is : b ≡ child way site g r
   pub reads : Reads w s (n + 1) site g
 
-pub child-is : (w : Weigh) (s : List ℕ) (n row kind site : ℕ) → Says kindOf s n kind → Says siteOf s n site → (kind ≡ 6 → ⊥) → (kind ≡ 4 → ⊥) → (b : Body) → Reads w s n row b → More b
+pub child-is : (w : Weigh) (s : List ℕ) (n row kind site : ℕ) → Says kindOf s n kind → Says siteOf s n site → (kind ≡ 6 → ⊥) → (kind ≡ 4 → ⊥) → (kind ≡ 1 → ⊥) → (b : Body) → Reads w s n row b → More b
     → Child w s n site b
-child-is w s n row kind site says sited k6 k4 b h m = go (eqb kind 2) refl
+child-is w s n row kind site says sited k6 k4 k1 b h m = go (eqb kind 2) refl
   where
     go : (t : Bool) → eqb kind 2 ≡ t → Child w s n site b
     go true e = let q = call-is w s n row kind says site sited b h (eqb-true kind 2 e) in record { way = call; g = q .0; r = q .1; is = q .2; reads = q .3 }
-    go false e = let q = spawn-is w s n row kind says site sited k6 k4 b h m (eqb-false kind 2 e) in record { way = spawn; g = q .0; r = q .1; is = q .2; reads = q .3 }
+    go false e = let q = spawn-is w s n row kind says site sited k6 k4 k1 b h m (eqb-false kind 2 e) in record { way = spawn; g = q .0; r = q .1; is = q .2; reads = q .3 }
 
 -- a child's lines are among the item's, and its invocation is one more that is open
 pub within-child : (w : Weigh) (s : List ℕ) (n site m D d : ℕ) (b : Body) (c : Child w s n site b) → Within m D d b → (site ≤ m) × (suc d ≤ D) × Within m D (suc d) (c .g) × (1 + size (c .g) ≤ size b)

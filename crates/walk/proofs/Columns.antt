@@ -145,19 +145,19 @@ module _ (m D d : ℕ) (b : Body) (w : Within m D d b) where
   root-out i h = returned-out m i h 0 (workOf b) (spanOf b) (gain 0 b i) (omega arith) ∙ gain-out m i h D d 0 b w (omega arith)
 
   -- columns 1 to 4 by the tree
-  pub root-cell : (n s : ℕ) (k : Column) → (k ≡ Column.onSpan → ⊥) → made 0 b (slot s k) ≡ cell n b s k
-  root-cell n zero Column.calls h = omega (arith, root-own Column.calls, gain-calls 0 0 b, none-from-root (λ g. 1) m D d b w)
-  root-cell n zero Column.work h = root-own Column.work
-  root-cell n zero Column.span h = root-own Column.span
-  root-cell n zero Column.local h = omega (arith, root-own Column.local, gain-local 0 0 b, none-from-root localOf m D d b w)
-  root-cell n (suc s) Column.calls h = root-site s Column.calls ∙ gain-calls 0 (suc s) b
-  root-cell n (suc s) Column.work h = root-site s Column.work ∙ gain-outer Column.work workOf (λ g x. refl) (λ v. refl) 0 (suc s) b
-  root-cell n (suc s) Column.span h = root-site s Column.span ∙ gain-outer Column.span spanOf (λ g x. refl) (λ v. refl) 0 (suc s) b
-  root-cell n (suc s) Column.local h =
+  pub root-cell : (s : ℕ) (k : Column) → (k ≡ Column.onSpan → ⊥) → made 0 b (slot s k) ≡ cell b s k
+  root-cell zero Column.calls h = omega (arith, root-own Column.calls, gain-calls 0 0 b, none-from-root (λ g. 1) m D d b w)
+  root-cell zero Column.work h = root-own Column.work
+  root-cell zero Column.span h = root-own Column.span
+  root-cell zero Column.local h = omega (arith, root-own Column.local, gain-local 0 0 b, none-from-root localOf m D d b w)
+  root-cell (suc s) Column.calls h = root-site s Column.calls ∙ gain-calls 0 (suc s) b
+  root-cell (suc s) Column.work h = root-site s Column.work ∙ gain-outer Column.work workOf (λ g x. refl) (λ v. refl) 0 (suc s) b
+  root-cell (suc s) Column.span h = root-site s Column.span ∙ gain-outer Column.span spanOf (λ g x. refl) (λ v. refl) 0 (suc s) b
+  root-cell (suc s) Column.local h =
       omega (
         arith,
         root-site s Column.local,
         gain-local 0 (suc s) b,
         ap (λ (t : Bool). cond t (localOf b) 0) (ne-eqb 0 (suc s) (λ z. omega arith)),
       )
-  root-cell n s Column.onSpan h = absurd (h refl)
+  root-cell s Column.onSpan h = absurd (h refl)

@@ -11,7 +11,7 @@ use Rattle.chain.specs.Plan.{CostLine, weight, choose}
 use Rattle.chain.proofs.Lists.{weight-append}
 use Rattle.chain.proofs.Choose.{choose-cases}
 use Rattle.trace.specs.Column.{Column, slot}
-use Rattle.trace.specs.Tree.{Way, call, spawn, Leaf, spend, sync, leafWork, Body, done, leaf, child, size, Within, workOf}
+use Rattle.trace.specs.Tree.{Way, call, spawn, Leaf, spend, sync, note, leafWork, Body, done, leaf, child, size, Within, workOf}
 use Rattle.trace.specs.Fold.{costAt, Chains, nothing, joined, spawned, leafChains, ended, childChains, run, chainOf}
 use Rattle.trace.proofs.Basics.{cond-le}
 use Rattle.weigh.specs.Weighed.{Weigh}
@@ -80,6 +80,7 @@ spawn-load k g = go (ltb (weight (k .l)) (weight (k .c) + weight g))
 leaf-load : (l : Leaf) (n s : ℕ) (k : Chains) → load (leafChains n s l k) ≤ load k + leafWork l
 leaf-load (spend v) n s k = omega (arith, weight-append (k .c) (costAt n s v ∷ []))
 leaf-load sync n s k = omega (arith, join-load k)
+leaf-load (note x) n s k = omega arith
 
 child-load : (w : Way) (f : Chains → Chains) (k : Chains) → load (childChains w f k) ≤ load k + load (f nothing)
 child-load call f k = omega (arith, weight-append (k .c) (ended f), join-load (f nothing))

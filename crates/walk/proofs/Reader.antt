@@ -3,14 +3,17 @@ use mathlib.Core.Path.{_≡_, refl, ap, _∙_, sym, subst}
 use mathlib.Core.List.{List}
 use Prim.Native.Nat.{ℕ, _+_, _<_}
 use native.Mathlib.Omega.{arith}
+use lib.Dec.{eqb}
 use lib.ListN.{length}
-use Rattle.trace.specs.Tree.{Body, done, size, workOf}
-use Rattle.trace.specs.Fold.{Chains, nothing, joined, run}
+use Rattle.trace.specs.Column.{Column, slot}
+use Rattle.trace.specs.Tree.{Leaf, leafWork, Body, done, leaf, size, workOf}
+use Rattle.trace.specs.Fold.{Chains, nothing, joined, leafChains, run}
+use Rattle.trace.proofs.Basics.{cond-same}
 use Rattle.weigh.specs.Weighed.{Weigh}
 use Rattle.walk.specs.declared.Open.{Open}
 use Rattle.walk.specs.Reads.{Reads}
 use Rattle.walk.specs.Numbers.{numbers, load}
-use Rattle.walk.specs.Gain.{gain}
+use Rattle.walk.specs.Gain.{one, gain}
 use Rattle.walk.specs.Item.{More, rest, itemSize, itemWork, itemChains}
 use Rattle.walk.specs.Reader.{Ready, ItemDone, ItemsDone, BodyDone, Turn}
 use Rattle.walk.proofs.Items.{size-item, item-some, work-item, gain-item, item-gain-le, run-item, load-item, reads-rest, within-rest}
@@ -22,6 +25,15 @@ load-is f k e = omega (arith, ap (λ (x : Open). x .prefix) e, ap (λ (x : Open)
 -- the numbers of chains at some line and work are so at their own
 pub own-numbers : (f : Open) (n w : ℕ) (k : Chains) → f ≡ numbers n w k → f ≡ numbers (f .at) (f .work) k
 own-numbers f n w k e = e ∙ ap (λ (j : ℕ). numbers j w k) (sym (ap (λ (x : Open). x .at) e)) ∙ ap (λ (j : ℕ). numbers (f .at) j k) (sym (ap (λ (x : Open). x .work) e))
+
+-- behind a leaf that weighs nothing: one line further, and the rows are as they were
+pub weightless : (row : ℕ) (f : Open) (rows : List ℕ) (l : Leaf) (b : Body) (k : Chains) (r : Open) → leafWork l ≡ 0 → r ≡ numbers (f .at + 1) (f .work) (leafChains (f .at) row l k) → ItemDone row f rows (leaf l b) k r rows
+weightless row f rows l b k r z e =
+    let w : f .work ≡ f .work + leafWork l = omega (arith, z) in
+    record {
+      numbers-are = e ∙ ap (λ (x : ℕ). numbers (f .at + 1) x (leafChains (f .at) row l k)) w;
+      rows-are = λ i h. omega (arith, ap (λ (v : ℕ). one (slot row Column.local) v i) z, cond-same (eqb (slot row Column.local) i));
+    }
 
 module _ (w : Weigh) (s : List ℕ) (row m deep : ℕ) (f : Open) (rows : List ℕ) (r : Ready w s row m deep f rows) (more : More (r .body))
     (k : Chains) (weighs : f ≡ numbers (f .at) (f .work) k) (f′ : Open) (rows′ : List ℕ) (len : length rows′ ≡ length rows)

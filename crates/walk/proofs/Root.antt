@@ -13,7 +13,7 @@ use Rattle.trace.specs.Rows.{columns}
 use Rattle.trace.specs.Column.{Column, slot}
 use Rattle.trace.specs.Refusals.{verdict, accepted}
 use Rattle.trace.specs.ByTree.{cell}
-use Rattle.trace.specs.Tree.{Body, linesOf, size, workOf, Parts, rootAt}
+use Rattle.trace.specs.Tree.{Body, size, workOf, Parts}
 use Rattle.trace.specs.Fold.{nothing}
 use Rattle.trace.proofs.Slots.{slot-in}
 use Rattle.trace.proofs.Scan.{Fine, accepted-reads}
@@ -26,7 +26,7 @@ use Rattle.walk.specs.Reads.{Reads}
 use Rattle.walk.specs.Numbers.{numbers}
 use Rattle.walk.specs.Gain.{made, Grown}
 use Rattle.walk.specs.Reader.{Ready}
-use Rattle.walk.proofs.Stands.{stands-all, stands-right, stands-reads}
+use Rattle.walk.proofs.Stands.{stands-all, stands-reads}
 use Rattle.walk.proofs.Columns.{root-cell, root-out}
 
 module _ (w : Weigh) (tabled : Tabled w) (D M : ℕ) (t : List Frame) (fine : Fine D M t) where
@@ -48,17 +48,15 @@ module _ (w : Weigh) (tabled : Tabled w) (D M : ℕ) (t : List Frame) (fine : Fi
   root-small = omega (arith, length-is D other tree, fine-too .lines-most, work-small D other tree M fine-too)
 
   module _ (s : List ℕ) (room : Bool) (acc : verdict s D M room ≡ accepted t) where
-    pub root-reads : Reads w s (rootAt tree) 0 body
+    pub root-reads : Reads w s 0 0 body
     root-reads =
         let p = parts D M t fine in
         let all = stands-all s t 0 (λ i f h. let z : i ≡ 0 + i = omega arith in subst (λ (k : ℕ). readAt s k ≡ Line k f) z (accepted-reads s D M room t acc i f h)) in
-        let here = stands-right s (p .heads) (linesOf (p .body)) 0 (subst (Stands s 0) (p .lines) all) in
-        let e : 0 + rootAt p ≡ rootAt p = omega arith in
-        stands-reads w s (p .body) (rootAt p) 0 (subst (λ (k : ℕ). Stands s k (linesOf (p .body))) e here)
+        stands-reads w s (p .body) 0 0 (subst (Stands s 0) (p .lines) all)
 
     -- what a reader asks for at the root, where the row numbers of the trace are zero
     pub root-ready : (rows : List ℕ) → columns * (sites other + 1) ≤ length rows → ((i : ℕ) → i < columns * (sites other + 1) → getD rows i 0 ≡ 0)
-        → Ready w s 0 (sites other) (D - 1) (numbers (rootAt tree) 0 nothing) rows
+        → Ready w s 0 (sites other) (D - 1) (numbers 0 0 nothing) rows
     root-ready rows long zeros =
         record {
           body = body;
@@ -79,10 +77,10 @@ module _ (w : Weigh) (tabled : Tabled w) (D M : ℕ) (t : List Frame) (fine : Fi
 -- it was.
 module _ (D : ℕ) (t : List Frame) (x : Parts D t) (rows₀ rows₂ : List ℕ) (long : columns * (sites t + 1) ≤ length rows₀)
     (zeros : (i : ℕ) → i < columns * (sites t + 1) → getD rows₀ i 0 ≡ 0) (grown : Grown rows₀ (made 0 (x .body)) rows₂) where
-  pub cells-are : (s : ℕ) (k : Column) → s ≤ sites t → (k ≡ Column.onSpan → ⊥) → getD rows₂ (slot s k) 0 ≡ cell (sites t) (x .body) s k
+  pub cells-are : (s : ℕ) (k : Column) → s ≤ sites t → (k ≡ Column.onSpan → ⊥) → getD rows₂ (slot s k) 0 ≡ cell (x .body) s k
   cells-are s k h l =
       let i = slot-in (sites t) s k h in
-      omega (arith, grown (slot s k) (omega arith), zeros (slot s k) i, root-cell (sites t) D 1 (x .body) (x .within) (sites t) s k l)
+      omega (arith, grown (slot s k) (omega arith), zeros (slot s k) i, root-cell (sites t) D 1 (x .body) (x .within) s k l)
 
   pub behind : (i : ℕ) → columns * (sites t + 1) ≤ i → i < length rows₀ → getD rows₂ i 0 ≡ getD rows₀ i 0
   behind i h l = omega (arith, grown i l, root-out (sites t) D 1 (x .body) (x .within) i h)

@@ -9,7 +9,7 @@ use Rattle.line.specs.declared.Frame.{Frame}
 use Rattle.line.specs.declared.Read.the-variants.{Line}
 use Rattle.line.specs.Read.{readAt}
 use Rattle.trace.specs.Shape.{Is}
-use Rattle.trace.specs.Tree.{Leaf, spend, sync, lineOf, Body, done, leaf, child, linesOf, size}
+use Rattle.trace.specs.Tree.{Leaf, spend, sync, note, lineOf, Body, done, leaf, child, linesOf, size}
 use Rattle.trace.proofs.Tree.{size-is}
 use Rattle.weigh.specs.Weighed.{Weigh, weighedLeaf, weighed}
 use Rattle.weigh.proofs.Weighed.{weighed-size}
@@ -28,7 +28,7 @@ stands-left : (s : List ℕ) (u v : List Frame) (n : ℕ) → Stands s n (u ++ v
 stands-left s [] v n h = tt
 stands-left s (f ∷ u) v n h = (h .0, stands-left s u v (n + 1) (h .1))
 
-pub stands-right : (s : List ℕ) (u v : List Frame) (n : ℕ) → Stands s n (u ++ v) → Stands s (n + length u) v
+stands-right : (s : List ℕ) (u v : List Frame) (n : ℕ) → Stands s n (u ++ v) → Stands s (n + length u) v
 stands-right s [] v n h = let e : n ≡ n + 0 = omega arith in subst (λ (k : ℕ). Stands s k v) e h
 stands-right s (f ∷ u) v n h =
     let e : n + 1 + length u ≡ n + suc (length u) = omega arith in
@@ -38,6 +38,7 @@ module _ (w : Weigh) (s : List ℕ) where
   leaf-reads : (l : Leaf) (n row : ℕ) → readAt s n ≡ Line n (lineOf l) → LeafReads w s n row (weighedLeaf w n row l)
   leaf-reads (spend v) n row h = (v, h, refl)
   leaf-reads sync n row h = h
+  leaf-reads (note x) n row h = h
 
   -- LAW: where the lines of a body stand, the body is read as it is weighed
   pub stands-reads : (b : Body) (n row : ℕ) → Stands s n (linesOf b) → Reads w s n row (weighed w n row b)

@@ -15,6 +15,10 @@ numbers n w k = record { at = n; work = w; prefix = weight (k .p); longest = wei
 abbrev pub spentN : ℕ → Open → Open
 spentN v f = record { at = f .at + 1; work = f .work + v; prefix = f .prefix; longest = f .longest; since = f .since + v }
 
+-- behind a line that weighs nothing and joins nothing
+abbrev pub passedN : Open → Open
+passedN f = record { at = f .at + 1; work = f .work; prefix = f .prefix; longest = f .longest; since = f .since }
+
 -- at a join: the continuation is heavier than the longest child
 abbrev pub laterHeavier : Open → Bool
 laterHeavier f = ltb (f .longest) (f .since)

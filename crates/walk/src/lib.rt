@@ -12,7 +12,7 @@ ghost use Rattle.trace.specs.Column.{Column, slot};
 ghost use Rattle.trace.specs.Fold.{nothing};
 ghost use Rattle.walk.specs.Weight.{weightAt};
 ghost use Rattle.walk.specs.Gain.{ColumnFits, creditOf, credited, ReturnFits, one, oneCall, Returned, Grown};
-ghost use Rattle.walk.specs.Numbers.{numbers, spentN, laterHeavier, joinedN, calledN, childLonger, spawnedN};
+ghost use Rattle.walk.specs.Numbers.{numbers, spentN, passedN, laterHeavier, joinedN, calledN, childLonger, spawnedN};
 
 // An open invocation: its next line, the work so far, and what its three chains weigh: up to the last join, the
 // longest child's since, and that since the spawn of this child.
@@ -49,6 +49,20 @@ impl Open {
             prefix: self.prefix,
             longest: self.longest,
             since: self.since + v,
+        }
+    }
+
+    // After a line that weighs nothing and joins nothing.
+    pub fn passed(self) -> Open
+        requires { ⌜ self .at + 1 < 2 ^ 64 ⌝ }
+        ensures { λ r. ⌜ r ≡ passedN self ⌝ }
+    {
+        Open {
+            at: self.at + 1,
+            work: self.work,
+            prefix: self.prefix,
+            longest: self.longest,
+            since: self.since,
         }
     }
 

@@ -3,11 +3,9 @@ use mathlib.Core.Path.{_≡_, refl, sym, _∙_, ap}
 use mathlib.Core.List.{List, [], _∷_, _++_, append-assoc, append-nil}
 use Prim.Native.Nat.{ℕ, suc, _+_}
 use native.Mathlib.Omega.{arith}
-use lib.ListN.{length}
 use Rattle.line.specs.declared.Frame.{Frame}
 use Rattle.line.specs.declared.Frame.the-variants.{Site, Call, Spawn, Sync, Return, Cost}
-use Rattle.trace.specs.Tree.{Way, call, spawn, opening, Leaf, spend, sync, lineOf, LeafWithin, Body, done, leaf, child, linesOf, size, Within, AllSites}
-use Rattle.trace.proofs.Cases.{IsSite, at-site}
+use Rattle.trace.specs.Tree.{Way, call, spawn, opening, site, Leaf, spend, sync, note, lineOf, LeafWithin, Body, done, leaf, child, linesOf, size, Within}
 use Rattle.weigh.specs.Cost.{costing}
 use Rattle.weigh.specs.Weighed.{Weigh, plainly, Tabled, weighedLeaf, weighed, innermost, rowStep, reweighed}
 
@@ -19,6 +17,7 @@ weighed-size w (child y i g r) n s = omega (arith, weighed-size w g (suc n) i, w
 plain-leaf : (l : Leaf) (n s : ℕ) → weighedLeaf plainly n s l ≡ l
 plain-leaf (spend v) n s = refl
 plain-leaf sync n s = refl
+plain-leaf (note x) n s = refl
 
 -- LAW: weighed as it stands, a body is as it was
 pub weighed-plainly : (b : Body) (n s : ℕ) → weighed plainly n s b ≡ b
@@ -29,6 +28,7 @@ weighed-plainly (child y i g r) n s = rw (weighed-plainly g (suc n) i, weighed-p
 within-leaf : (w : Weigh) → Tabled w → (l : Leaf) (n s : ℕ) → LeafWithin l → LeafWithin (weighedLeaf w n s l)
 within-leaf w h (spend v) n s k = h n s v (k .0) (k .1)
 within-leaf w h sync n s k = tt
+within-leaf w h (note x) n s k = tt
 
 -- LAW: it keeps its sites and its depth, and its costs stay in the table
 pub weighed-within : (w : Weigh) → Tabled w → (m D d : ℕ) (b : Body) (n s : ℕ) → Within m D d b → Within m D d (weighed w n s b)
@@ -42,10 +42,12 @@ weighed-within w h m D d (child y i g r) n s k =
 pub leaf-costing : (w : Weigh) (l : Leaf) (n s : ℕ) → costing (w n s) (lineOf l) ≡ lineOf (weighedLeaf w n s l)
 leaf-costing w (spend v) n s = refl
 leaf-costing w sync n s = refl
+leaf-costing w (note (site i p)) n s = refl
 
 leaf-rows : (l : Leaf) (o : List ℕ) → rowStep (lineOf l) o ≡ o
 leaf-rows (spend v) o = refl
 leaf-rows sync o = refl
+leaf-rows (note (site i p)) o = refl
 
 pub opening-costing : (g : ℕ → ℕ) (y : Way) (i : ℕ) → costing g (opening y i) ≡ opening y i
 opening-costing g call i = refl
@@ -76,24 +78,10 @@ module _ (w : Weigh) where
       ∙ ap (λ (k : List Frame). opening y i ∷ k)
       (sym (append-assoc (linesOf (weighed w (suc n) i g)) (linesOf (weighed w (suc n + size g) s r)) (reweighed w (n + suc (size g + size r)) o u)))
 
-  site-line : (f : Frame) → IsSite f → (n : ℕ) (o : List ℕ) (t : List Frame) → reweighed w n o (f ∷ t) ≡ f ∷ reweighed w (suc n) o t
-  site-line f h n o t = at-site (λ (g : Frame). reweighed w n o (g ∷ t) ≡ g ∷ reweighed w (suc n) o t) (λ s p. refl) f h
-
-  reweighed-heads : (h : List Frame) (n : ℕ) (o : List ℕ) (u : List Frame) → AllSites h → reweighed w n o (h ++ u) ≡ h ++ reweighed w (n + length h) o u
-  reweighed-heads [] n o u s = let e : n ≡ n + 0 = omega arith in ap (λ (k : ℕ). reweighed w k o u) e
-  reweighed-heads (f ∷ h) n o u s =
-      let e : suc n + length h ≡ n + suc (length h) = omega arith in
-      site-line f (s .0) n o (h ++ u)
-      ∙ ap (λ (l : List Frame). f ∷ l) (reweighed-heads h (suc n) o u (s .1) ∙ ap (λ (k : ℕ). h ++ reweighed w k o u) e)
-
   -- LAW: so of a whole trace
-  pub reweighed-trace : (h : List Frame) (b : Body) → AllSites h → reweighed w 0 (0 ∷ []) (h ++ linesOf b) ≡ h ++ linesOf (weighed w (length h) 0 b)
-  reweighed-trace h b s =
-      let e : 0 + length h ≡ length h = omega arith in
-      reweighed-heads h 0 (0 ∷ []) (linesOf b) s
-      ∙ ap (λ (k : ℕ). h ++ reweighed w k (0 ∷ []) (linesOf b)) e
-      ∙ ap (λ (l : List Frame). h ++ reweighed w (length h) (0 ∷ []) l) (sym (append-nil (linesOf b)))
-      ∙ ap (λ (l : List Frame). h ++ l) (reweighed-lines b (length h) 0 [] [] ∙ append-nil (linesOf (weighed w (length h) 0 b)))
+  pub reweighed-trace : (b : Body) → reweighed w 0 (0 ∷ []) (linesOf b) ≡ linesOf (weighed w 0 0 b)
+  reweighed-trace b =
+      ap (reweighed w 0 (0 ∷ [])) (sym (append-nil (linesOf b))) ∙ reweighed-lines b 0 0 [] [] ∙ append-nil (linesOf (weighed w 0 0 b))
 
 -- ── by what else the lines are weighed ──
 

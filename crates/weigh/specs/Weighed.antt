@@ -4,7 +4,7 @@ use mathlib.Core.List.{List, [], _∷_}
 use Rattle.line.specs.declared.Frame.{Frame}
 use Rattle.line.specs.declared.Frame.the-variants.{Site, Call, Spawn, Sync, Return, Cost}
 use Rattle.trace.specs.Shape.{closed}
-use Rattle.trace.specs.Tree.{Leaf, spend, sync, Body, done, leaf, child, size}
+use Rattle.trace.specs.Tree.{Leaf, spend, sync, note, Body, done, leaf, child, size}
 use Rattle.weigh.specs.Cost.{costing}
 
 -- what a cost line weighs: by its number, the row of the invocation that it is directly in, and its value
@@ -23,6 +23,7 @@ Tabled w = (n s v : ℕ) → 1 ≤ v → v ≤ 4294967295 → (1 ≤ w n s v) ×
 abbrev pub weighedLeaf : Weigh → ℕ → ℕ → Leaf → Leaf
 weighedLeaf w n s (spend v) = spend (w n s v)
 weighedLeaf w n s sync = sync
+weighedLeaf w n s (note x) = note x
 
 -- the body b of an invocation of row s, whose first line is line n
 abbrev pub weighed : Weigh → ℕ → ℕ → Body → Body

@@ -1,6 +1,7 @@
 //! Forecasts to time: with no entry, one and as many as there may be, by the proved engines and the plain one, beside the plain
 //! profile by the same engines.
 
+use super::engines::{self, rooms};
 use super::timing::{medians, Run};
 use super::traces::{DEPTH, SHAPES};
 use crate::check::Limits;
@@ -79,56 +80,13 @@ fn entries(count: usize) -> Vec<Entry> {
     (0..count as u64).map(|n| Entry { row: 2 * n, factor: 2 + n }).collect()
 }
 
-/// What the engines are lent.
-struct Room {
-    scratch: Vec<u64>,
-    marks: Vec<u8>,
-    rows: Vec<u64>,
-    answer: [u64; 4],
-}
-
-impl Room {
-    fn new(scratch: usize) -> Room {
-        Room { scratch: vec![0; scratch], marks: vec![0; LINES], rows: vec![0; LIMITS.rows()], answer: [0; 4] }
-    }
-}
-
-/// The runs of both engines in their rooms; with entries, where there are some to lend.
-fn engines<'a>(
-    library: &'a dyn Library,
-    trace: &'a [u8],
-    entries: Option<&'a [Entry]>,
-    [tables, marked]: &'a mut [Room; 2],
-) -> [Run<'a>; 2] {
-    [
-        Box::new(move || {
-            let Room { scratch, rows, answer, .. } = &mut *tables;
-            let trace = black_box(trace);
-            let given = match entries {
-                None => library.tables(trace, LIMITS, scratch, rows, answer),
-                Some(entries) => library.forecast_tables(trace, LIMITS, entries, scratch, rows, answer),
-            };
-            assert_eq!(given, 0, "accepted");
-        }),
-        Box::new(move || {
-            let Room { scratch, marks, rows, answer } = &mut *marked;
-            let trace = black_box(trace);
-            let given = match entries {
-                None => library.marks(trace, LIMITS, scratch, marks, rows, answer),
-                Some(entries) => library.forecast_marks(trace, LIMITS, entries, scratch, marks, rows, answer),
-            };
-            assert_eq!(given, 0, "accepted");
-        }),
-    ]
-}
-
 fn time(library: &dyn Library, shape: &'static str, trace: &[u8], samples: usize) -> Vec<Forecast> {
-    let rooms = || [Room::new(LIMITS.table_scratch()), Room::new(LIMITS.marks_scratch())];
+    let rooms = || rooms(LIMITS, LINES);
     let (lists, lent) = (COUNTS.map(entries), LIMITS.for_marks(LINES));
     let (mut plain_rooms, mut all_rooms) = (rooms(), [rooms(), rooms(), rooms()]);
-    let mut runs: Vec<Run> = engines(library, trace, None, &mut plain_rooms).into();
+    let mut runs: Vec<Run> = engines::runs(library, trace, LIMITS, None, &mut plain_rooms).into();
     for (list, rooms) in lists.iter().zip(&mut all_rooms) {
-        runs.extend(engines(library, trace, Some(list), rooms));
+        runs.extend(engines::runs(library, trace, LIMITS, Some(list), rooms));
         runs.push(Box::new(|| _ = black_box(plain::forecast(black_box(trace), LIMITS, list, &lent))));
     }
     let seconds = medians(&mut runs, samples, |_| ());

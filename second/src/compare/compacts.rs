@@ -16,11 +16,11 @@ pub struct Compacted {
     pub left: &'static str,
 }
 
-const fn of(name: &'static str, events: &'static str, left: &'static str) -> Compacted {
+pub const fn of(name: &'static str, events: &'static str, left: &'static str) -> Compacted {
     Compacted { name, events, left }
 }
 
-const fn same(name: &'static str, events: &'static str) -> Compacted {
+pub const fn same(name: &'static str, events: &'static str) -> Compacted {
     of(name, events, events)
 }
 
@@ -115,7 +115,7 @@ pub fn long() -> Vec<Long> {
 }
 
 /// Just enough, more, and too little in every way.
-const ROOMS: [CompactSpare; 6] = [
+pub const ROOMS: [CompactSpare; 6] = [
     CompactSpare { out: 0, written: 0 },
     CompactSpare { out: 5, written: 2 },
     CompactSpare { out: -1, written: 0 },

@@ -2,6 +2,7 @@
 
 use super::case::Spare;
 use super::rng::Rng;
+use super::sites;
 use crate::check::Limits;
 use crate::line::CHARS;
 use std::ops::Range;
@@ -10,7 +11,7 @@ use std::ops::Range;
 pub fn some(rng: &mut Rng, trace: &mut Vec<u8>, limits: &mut Limits, spare: &mut Spare) {
     let times = rng.pick(&[1, 1, 1, 2, 3]);
     for _ in 0..times {
-        match rng.below(13) {
+        match rng.below(15) {
             0 => wrong_limits(rng, limits),
             1 => too_little_room(rng, spare),
             2 => cut(rng, trace),
@@ -23,7 +24,8 @@ pub fn some(rng: &mut Rng, trace: &mut Vec<u8>, limits: &mut Limits, spare: &mut
             9 => zero_field(rng, trace),
             10 => another_line(rng, trace),
             11 => line_after(rng, trace),
-            _ => copy_place(rng, trace),
+            12 => copy_place(rng, trace),
+            _ => sites::damage(rng, trace, limits),
         }
     }
 }

@@ -2,8 +2,8 @@
 //! generated ones.
 
 use super::case::{Case, Question, Spare};
-use super::generate;
 use super::rng::Rng;
+use super::{generate, sites};
 use crate::check::{Limits, MOST_LINES};
 use crate::forecast::{Entry, MOST_ENTRIES};
 use crate::line::CHARS;
@@ -163,7 +163,7 @@ pub fn cases() -> Vec<Case> {
 /// A trace with entries, both as often good as not.
 pub fn forecast(rng: &mut Rng) -> Question {
     let (trace, limits, spare) = generate::trace(rng);
-    let declared = trace.chunks(CHARS).filter(|line| line.starts_with(b"01")).count() as u64;
+    let declared = sites::declared(&trace);
     let mut entries = entries(rng, declared);
     if rng.once_in(3) {
         (0..rng.between(1, 2)).for_each(|_| damage(rng, &mut entries, declared));

@@ -2,7 +2,7 @@
 
 use super::case::{Case, CompactSpare, Question, Spare};
 use super::rng::Rng;
-use super::{compacts, damage, forecasts, moves, shapes, sheets, stacks};
+use super::{compacts, damage, forecasts, moves, shapes, sheets, sites, stacks};
 use crate::check::Limits;
 use crate::line::{chars, Fields, CHARS, WIDTHS};
 use crate::report::{REFUSAL_CHARS, ROW_CHARS};
@@ -28,30 +28,34 @@ pub fn case(seed: u64, number: u64) -> Case {
     Case { question, rubbish: rng.number() }
 }
 
-/// Every trace that begins with a site line and has so many lines after it, each one of six: costs of 1 and 2, a sync, a
-/// call, a spawn and a return; for the engines and for the compactor.
+/// How many lines `every` tries in each place of a trace.
+pub const KINDS: u64 = 7;
+
+/// Every trace that begins with a site line and has so many lines after it, each one of seven: costs of 1 and 2, a sync, a
+/// call, a spawn, a return and the next site line; for the engines and for the compactor.
 pub fn every(lines: u32) -> impl Iterator<Item = Case> {
     let of = move |number: u64| {
         let mut trace = Trace::with_sites(1);
-        (0..lines).for_each(|place| one_of_six(&mut trace, number / 6_u64.pow(place) % 6));
+        (0..lines).for_each(|place| one_of_seven(&mut trace, number / KINDS.pow(place) % KINDS));
         let trace = trace.chars;
         let compact = Question::Compact { trace: trace.clone(), limits: SMALL, spare: CompactSpare::default() };
         let engines = Question::Engines { trace, limits: SMALL, spare: Spare::default() };
         [engines, compact].map(|question| Case { question, rubbish: number })
     };
-    (0..6_u64.pow(lines)).flat_map(of)
+    (0..KINDS.pow(lines)).flat_map(of)
 }
 
 /// Limits that some of those traces break.
-const SMALL: Limits = Limits { depth: 3, sites: 1 };
+const SMALL: Limits = Limits { depth: 3, sites: 2 };
 
-fn one_of_six(trace: &mut Trace, which: u64) {
+fn one_of_seven(trace: &mut Trace, which: u64) {
     match which {
         0 | 1 => trace.cost(which + 1),
         2 => trace.sync(),
         3 => trace.call(1),
         4 => trace.spawn(1),
-        _ => trace.leave(),
+        5 => trace.leave(),
+        _ => trace.declare(sites::declared(&trace.chars) + 1),
     };
 }
 

@@ -1,14 +1,17 @@
 //! Good traces of many shapes.
 
 use super::rng::Rng;
+use super::sites;
 use crate::check::MOST_LINES;
 use crate::trace::Trace;
 
-/// A good trace of some shape and length.
+/// A good trace of some shape and length, its site lines at the start or on the way.
 pub fn trace(rng: &mut Rng) -> Trace {
     let lines = length(rng);
     let shape = rng.pick(&SHAPES);
-    shape(rng, lines)
+    let mut trace = shape(rng, lines);
+    sites::scatter(rng, &mut trace);
+    trace
 }
 
 /// A length in lines: mostly short, now and then long, seldom the most there may be.

@@ -4,7 +4,7 @@ use super::case::{Case, CompactSpare, FoldedSpare, Question, Spare};
 use super::moves::costs;
 use crate::check::Limits;
 use crate::forecast::Entry;
-use crate::line::{chars, read, Fields, Kind, CHARS};
+use crate::line::{chars, read, Fields, Kind, Line, CHARS};
 use std::ops::Range;
 
 /// How much is tried for one case, counted in lines of all smaller cases together; a case counts as no less than 100.
@@ -33,6 +33,7 @@ impl<D: Fn(&Case) -> bool> Shrinker<D> {
         for run in RUNS {
             smaller |= self.leave_out_runs(run);
         }
+        smaller |= self.leave_out_sites();
         smaller |= self.unwrap_invocations();
         smaller |= self.smaller_values();
         smaller | self.smaller_room()
@@ -77,6 +78,21 @@ impl<D: Fn(&Case) -> bool> Shrinker<D> {
                 smaller = true;
             } else {
                 line = if run == 1 { line + 1 } else { end };
+            }
+        }
+        smaller
+    }
+
+    /// Leaves out sites, with those of higher numbers one lower, wherever that keeps the difference.
+    fn leave_out_sites(&mut self) -> bool {
+        let mut smaller = false;
+        let mut line = 0;
+        while self.trace().is_some_and(|trace| line < trace.len() / CHARS) {
+            let rest = self.trace().and_then(|trace| without_site(trace, line));
+            if rest.is_some_and(|rest| self.keep_trace(rest)) {
+                smaller = true;
+            } else {
+                line += 1;
             }
         }
         smaller
@@ -167,6 +183,16 @@ fn item_end(trace: &[u8], line: usize) -> usize {
 fn without(trace: &[u8], lines: Range<usize>) -> Vec<u8> {
     let end = (lines.end * CHARS).min(trace.len());
     [&trace[..lines.start * CHARS], &trace[end..]].concat()
+}
+
+/// A trace without a site line, the higher sites of its good lines one lower.
+fn without_site(trace: &[u8], line: usize) -> Option<Vec<u8>> {
+    let own = read(&trace[line * CHARS..(line + 1) * CHARS]).ok().filter(|own| own.kind == Kind::Site)?;
+    let lower = |chars_of: &[u8]| match read(chars_of) {
+        Ok(line) if line.site > own.site => chars(&Line { site: line.site - 1, ..line }.fields()),
+        _ => chars_of.to_vec(),
+    };
+    Some(without(trace, line..line + 1).chunks(CHARS).flat_map(lower).collect())
 }
 
 /// The trace with one field of one line lower, or of every line like it, in each way that is tried.

@@ -17,7 +17,7 @@ pub fn each_line(
     let mut checks = Checks { limits, places: vec![], open: 1 };
     for (number, chars) in trace.chunks_exact(CHARS).enumerate() {
         let chars = chars.try_into().expect("a whole line");
-        take(&checks.line(number, chars).map_err(|ground| ground.at(number))?);
+        take(&checks.line(chars).map_err(|ground| ground.at(number))?);
     }
     if checks.open > 0 {
         return Err(Ground::Unfinished.at(lines));
@@ -33,7 +33,7 @@ struct Checks {
 
 impl Checks {
     /// Takes one line, or gives the smallest number that it is refused with.
-    fn line(&mut self, number: usize, chars: &[u8; CHARS]) -> Result<Fields, Ground> {
+    fn line(&mut self, chars: &[u8; CHARS]) -> Result<Fields, Ground> {
         let fields = Fields::read(chars)?;
         if self.open == 0 {
             return Err(Ground::AfterEnd);
@@ -41,16 +41,16 @@ impl Checks {
         match fields.kind {
             CALL | SPAWN => self.enter(fields.site)?,
             RETURN => self.open -= 1,
-            SITE => self.site(number, &fields)?,
+            SITE => self.site(&fields)?,
             _ => (),
         }
         Ok(fields)
     }
 
     /// Refusals 8, 9 and 10.
-    fn site(&mut self, number: usize, fields: &Fields) -> Result<(), Ground> {
+    fn site(&mut self, fields: &Fields) -> Result<(), Ground> {
         let sites = self.places.len();
-        if number > sites || usize::from(fields.site) != sites + 1 {
+        if usize::from(fields.site) != sites + 1 {
             return Err(Ground::SiteOrder);
         }
         if u64::from(fields.site) > self.limits.sites {

@@ -13,7 +13,7 @@ use Rattle.marks.specs.Reader.{begun}
 use Rattle.marks.specs.Steps.{Called, Spawned}
 use Rattle.marks.proofs.Park.{Stored, stored-room, part-zero, part-length, back-room, load-is, load-clear}
 use Rattle.marks.proofs.Bodies.{begins, Loop, loop-start, loop-asks, Next, loop-less, loop-again, loop-done, body-leaves}
-use Rattle.marks.proofs.Items.{line-fits, join-asks, sync-leaves, Costs, rows-asks, spend-asks, cost-leaves, Calls, deeper, room, credit-asks, body-asks, Back, count-asks, called-asks, spawned-asks, call-leaves, spawn-leaves}
+use Rattle.marks.proofs.Items.{line-fits, join-asks, sync-leaves, note-leaves, Costs, rows-asks, spend-asks, cost-leaves, Calls, deeper, room, credit-asks, body-asks, Back, count-asks, called-asks, spawned-asks, call-leaves, spawn-leaves}
 use borrow.Fn.Kinds.{In, Out}
 use borrow.Fn.PlainCycle.{Measures, is, falls, and}
 use Rattle.marks.proofs.body.Reads as body
@@ -32,6 +32,7 @@ use Rattle.marks.proofs.Zones.prefix.Reads as prefix-reads
 use Rattle.marks.proofs.called.Reads as called-reads
 use Rattle.marks.proofs.join.Reads as join-reads
 use Rattle.marks.proofs.load.Reads as load-reads
+use Rattle.marks.proofs.pass.Reads as pass-reads
 use Rattle.marks.proofs.spawned.Reads as spawned-reads
 use Rattle.marks.proofs.spend.Reads as spend-reads
 use Rattle.marks.proofs.store.Reads as store-reads
@@ -77,7 +78,7 @@ abbrev items-calls : ℕ → items-lts.Claims
 items-calls t = (kind-at-reads.Asked, kind-at-reads.Learnt, item-below t, item.Post)
 
 abbrev item-calls : ℕ → item-lts.Claims
-item-calls t = (weight-at-reads.Asked, weight-at-reads.Learnt, spend-reads′.Asked, spend-reads′.Learnt, spend-reads.Asked, spend-reads.Learnt, join-reads.Asked, join-reads.Learnt, site-at-reads.Asked, site-at-reads.Learnt, credit-of-reads.Asked, credit-of-reads.Learnt, store-reads.Asked, store-reads.Learnt, body-below t, body.Post, load-reads.Asked, load-reads.Learnt, returned-reads.Asked, returned-reads.Learnt, called-reads.Asked, called-reads.Learnt, spawned-reads.Asked, spawned-reads.Learnt)
+item-calls t = (weight-at-reads.Asked, weight-at-reads.Learnt, spend-reads′.Asked, spend-reads′.Learnt, spend-reads.Asked, spend-reads.Learnt, join-reads.Asked, join-reads.Learnt, pass-reads.Asked, pass-reads.Learnt, site-at-reads.Asked, site-at-reads.Learnt, credit-of-reads.Asked, credit-of-reads.Learnt, store-reads.Asked, store-reads.Learnt, body-below t, body.Post, load-reads.Asked, load-reads.Learnt, returned-reads.Asked, returned-reads.Learnt, called-reads.Asked, called-reads.Learnt, spawned-reads.Asked, spawned-reads.Learnt)
 
 abbrev Inv-loop : items-lts.InvT-loop
 Inv-loop trace deep t₀ marks₀ rows₀ factors z₀ kind₀ t marks rows z kind = Loop (byFactors factors) trace deep z₀ t₀ marks₀ rows₀ t marks rows z kind
@@ -237,8 +238,17 @@ module _ (t : ℕ) where
   abbrev item-join : Item item-lts.After-slice-known6 → Item item-lts.After-join
   item-join c = c .before .before
 
+  abbrev pass-test : Item item-lts.After-pass-arg → Item item-lts.Then3
+  pass-test c = c .before
+
+  abbrev note-start : Item item-lts.Then3 → Item item-lts.Start
+  note-start c = item-start (c .before .before .before)
+
+  abbrev item-pass : Item item-lts.After-slice-known7 → Item item-lts.After-pass
+  item-pass c = c .before .before
+
   abbrev child-start : Item item-lts.After-site-at → Item item-lts.Start
-  child-start c = item-start (c .before .before .before)
+  child-start c = item-start (c .before .before .before .before)
 
   abbrev credit-site : Item item-lts.After-credit-of → Item item-lts.After-site-at
   credit-site c = c .before .before
@@ -249,10 +259,10 @@ module _ (t : ℕ) where
   abbrev store-site : Item item-lts.After-store → Item item-lts.After-site-at
   store-site c = credit-site (store-credit c)
 
-  abbrev part-store : Item item-lts.After-slice-known7 → Item item-lts.After-store
+  abbrev part-store : Item item-lts.After-slice-known8 → Item item-lts.After-store
   part-store c = c .before .before
 
-  abbrev body-part : Item item-lts.After-body-arg3 → Item item-lts.After-slice-known7
+  abbrev body-part : Item item-lts.After-body-arg3 → Item item-lts.After-slice-known8
   body-part c = c .before .before .before
 
   abbrev body-store : Item item-lts.After-body → Item item-lts.After-store
@@ -264,19 +274,19 @@ module _ (t : ℕ) where
   abbrev returned-load : Item item-lts.After-returned-arg → Item item-lts.After-load
   returned-load c = c .before .before .before
 
-  abbrev test-returned : Item item-lts.After-slice-known12 → Item item-lts.After-returned
+  abbrev test-returned : Item item-lts.After-slice-known13 → Item item-lts.After-returned
   test-returned c = c .before .before
 
-  abbrev called-test : Item item-lts.After-called-arg → Item item-lts.Then3
+  abbrev called-test : Item item-lts.After-called-arg → Item item-lts.Then4
   called-test c = c .before
 
-  abbrev spawned-test : Item item-lts.After-spawned-arg → Item item-lts.Else3
+  abbrev spawned-test : Item item-lts.After-spawned-arg → Item item-lts.Else4
   spawned-test c = c .before
 
-  abbrev item-called : Item item-lts.After-slice-known13 → Item item-lts.After-called
+  abbrev item-called : Item item-lts.After-slice-known14 → Item item-lts.After-called
   item-called c = c .before .before
 
-  abbrev item-spawned : Item item-lts.After-slice-known14 → Item item-lts.After-spawned
+  abbrev item-spawned : Item item-lts.After-slice-known15 → Item item-lts.After-spawned
   item-spawned c = c .before .before
 
   -- what the child left of the scratch, of the marks and of the rows
@@ -297,7 +307,7 @@ module _ (t : ℕ) where
   -- where a site was read
   at-site : (c : Item item-lts.After-site-at) → (
       let a = child-start c .args in Calls (byFactors (a .factors .now)) (a .trace .now) (a .deep) (a .z) (a .t .now) (a .marks .now) (a .rows .now) (a .kind) (c .site-at .result))
-  at-site c = record { asks = child-start c .pre .1; site-is = c .site-at .ensures; no-cost = c .before .before .if1 .left; no-sync = c .before .if2 .left }
+  at-site c = record { asks = child-start c .pre .1; site-is = c .site-at .ensures; no-cost = c .before .before .before .if1 .left; no-sync = c .before .before .if2 .left; no-note = c .before .if3 .left }
 
   -- where the invocation is stored
   at-store : (c : Item item-lts.After-store) → (
@@ -349,6 +359,19 @@ module _ (t : ℕ) where
       let a = sync-start e in
       (sync-leaves (a .pre .1 .lent) (a .args .kind) (a .pre .1 .kind-is) (e .if2 .taken) (j .join .result) (j .join .last .0) (j .join .ensures), refl)
 
+  item-pass-requires : Item item-lts.Need-pass-requires
+  item-pass-requires c κs = let l = note-start (pass-test c) .pre .1 .lent in (join-asks l, line-fits l)
+
+  item-same-length-4 : Item item-lts.Need-same-length-4
+  item-same-length-4 c = search needs
+
+  item-returns-3 : Item item-lts.Need-returns-3
+  item-returns-3 c =
+      let j = item-pass c in
+      let e = pass-test (j .before) in
+      let a = note-start e in
+      (note-leaves (a .pre .1 .lent) (a .args .kind) (a .pre .1 .kind-is) (e .if3 .taken) (j .pass .result) (j .pass .last .0) (j .pass .ensures), refl)
+
   item-site-at-requires : Item item-lts.Need-site-at-requires
   item-site-at-requires c κs = search needs
 
@@ -395,54 +418,54 @@ module _ (t : ℕ) where
       let l = returned-load (test-returned (called-test c .before) .before) in
       rw (loaded l) (called-asks _ (at-body (load-body (l .before))))
 
-  item-same-length-4 : Item item-lts.Need-same-length-4
-  item-same-length-4 c = ap length (unloaded (returned-load (test-returned (called-test (item-called c .before) .before) .before)))
-
   item-same-length-5 : Item item-lts.Need-same-length-5
-  item-same-length-5 c =
-      let r = item-called c in
-      r .called .kept .0 ∙ at-body (load-body (returned-load (test-returned (called-test (r .before) .before) .before) .before)) .marks-long
+  item-same-length-5 c = ap length (unloaded (returned-load (test-returned (called-test (item-called c .before) .before) .before)))
 
   item-same-length-6 : Item item-lts.Need-same-length-6
   item-same-length-6 c =
+      let r = item-called c in
+      r .called .kept .0 ∙ at-body (load-body (returned-load (test-returned (called-test (r .before) .before) .before) .before)) .marks-long
+
+  item-same-length-7 : Item item-lts.Need-same-length-7
+  item-same-length-7 c =
       let k = test-returned (called-test (item-called c .before) .before) in
       k .returned .kept .0 ∙ at-body (load-body (returned-load (k .before) .before)) .rows-long
 
-  item-returns-3 : Item item-lts.Need-returns-3
-  item-returns-3 c =
+  item-returns-4 : Item item-lts.Need-returns-4
+  item-returns-4 c =
       let r = item-called c in
       let e = called-test (r .before) in
       let k = test-returned (e .before) in
       let l = returned-load (k .before) in
       let b = load-body (l .before) in
-      (call-leaves _ (at-body b) (k .returned .ensures) (r .called .result) (r .called .last .0) (e .if3 .taken) (subst (λ (x : Zones). Called (body-marks b) x (b .body .result) (r .called .result) (r .called .last .0)) (loaded l) (r .called .ensures)), unloaded l)
+      (call-leaves _ (at-body b) (k .returned .ensures) (r .called .result) (r .called .last .0) (e .if4 .taken) (subst (λ (x : Zones). Called (body-marks b) x (b .body .result) (r .called .result) (r .called .last .0)) (loaded l) (r .called .ensures)), unloaded l)
 
   item-spawned-requires : Item item-lts.Need-spawned-requires
   item-spawned-requires c κs =
       let l = returned-load (test-returned (spawned-test c .before) .before) in
       rw (loaded l) (spawned-asks _ (at-body (load-body (l .before))))
 
-  item-same-length-7 : Item item-lts.Need-same-length-7
-  item-same-length-7 c = ap length (unloaded (returned-load (test-returned (spawned-test (item-spawned c .before) .before) .before)))
-
   item-same-length-8 : Item item-lts.Need-same-length-8
-  item-same-length-8 c =
-      let r = item-spawned c in
-      r .spawned .kept .0 ∙ at-body (load-body (returned-load (test-returned (spawned-test (r .before) .before) .before) .before)) .marks-long
+  item-same-length-8 c = ap length (unloaded (returned-load (test-returned (spawned-test (item-spawned c .before) .before) .before)))
 
   item-same-length-9 : Item item-lts.Need-same-length-9
   item-same-length-9 c =
+      let r = item-spawned c in
+      r .spawned .kept .0 ∙ at-body (load-body (returned-load (test-returned (spawned-test (r .before) .before) .before) .before)) .marks-long
+
+  item-same-length-10 : Item item-lts.Need-same-length-10
+  item-same-length-10 c =
       let k = test-returned (spawned-test (item-spawned c .before) .before) in
       k .returned .kept .0 ∙ at-body (load-body (returned-load (k .before) .before)) .rows-long
 
-  item-returns-4 : Item item-lts.Need-returns-4
-  item-returns-4 c =
+  item-returns-5 : Item item-lts.Need-returns-5
+  item-returns-5 c =
       let r = item-spawned c in
       let e = spawned-test (r .before) in
       let k = test-returned (e .before) in
       let l = returned-load (k .before) in
       let b = load-body (l .before) in
-      (spawn-leaves _ (at-body b) (k .returned .ensures) (r .spawned .result) (r .spawned .last .0) (e .if3 .left) (subst (λ (x : Zones). Spawned (body-marks b) x (b .body .result) (r .spawned .result) (r .spawned .last .0)) (loaded l) (r .spawned .ensures)), unloaded l)
+      (spawn-leaves _ (at-body b) (k .returned .ensures) (r .spawned .result) (r .spawned .last .0) (e .if4 .left) (subst (λ (x : Zones). Spawned (body-marks b) x (b .body .result) (r .spawned .result) (r .spawned .last .0)) (loaded l) (r .spawned .ensures)), unloaded l)
 
 pub +body+item+read-items-spec : {M : Type 1} → statement M
 +body+item+read-items-spec = close μ-body μ-item μ-items (λ t. body-lts.spec (body-calls t)
@@ -468,6 +491,9 @@ pub +body+item+read-items-spec : {M : Type 1} → statement M
     (item-join-requires t)
     (item-same-length-3 t)
     (item-returns-2 t)
+    (item-pass-requires t)
+    (item-same-length-4 t)
+    (item-returns-3 t)
     (item-site-at-requires t)
     (item-cast-site t)
     (item-credit-of-requires t)
@@ -481,15 +507,15 @@ pub +body+item+read-items-spec : {M : Type 1} → statement M
     (item-load-requires t)
     (item-returned-requires t)
     (item-called-requires t)
-    (item-same-length-4 t)
     (item-same-length-5 t)
     (item-same-length-6 t)
-    (item-returns-3 t)
-    (item-spawned-requires t)
     (item-same-length-7 t)
+    (item-returns-4 t)
+    (item-spawned-requires t)
     (item-same-length-8 t)
     (item-same-length-9 t)
-    (item-returns-4 t))
+    (item-same-length-10 t)
+    (item-returns-5 t))
     λ t. items-lts.spec (items-calls t)
     (items-at t)
     items.Post

@@ -1,7 +1,7 @@
 -- `marks::accepted` meets its contract: what is cleared, read, counted and read once more comes to the promise.
 use Prim.Native.Nat.{ℕ}
 use mathlib.Core.List.{List}
-use Rattle.marks.proofs.Whole.{bounds, rows-in, marks-in, Blank, credit-asks, body-asks, Read, count-asks, on-asks, promised}
+use Rattle.marks.proofs.Whole.{bounds, rows-in, Blank, credit-asks, body-asks, Read, count-asks, on-asks, promised}
 use Rattle.weigh.specs.Weighed.{Tabled}
 use Rattle.walk.specs.Weight.{byFactors}
 use Rattle.walk.proofs.Weight.{factors-tabled}
@@ -20,14 +20,8 @@ zero-start c = c .before .before .before .before .before .before
 abbrev zeros : tie.After-zero-arg2 → tie.After-zero
 zeros c = c .before .before .before
 
-abbrev wipe-zeros : tie.After-wipe-lines-arg → tie.After-zero2
-wipe-zeros c = c .before .before .before
-
-abbrev credit-wipe : tie.After-credit-of-arg → tie.After-wipe-lines
-credit-wipe c = c .before .before .before
-
-abbrev body-wipe : tie.After-credit-of → tie.After-wipe-lines
-body-wipe c = credit-wipe (c .before)
+abbrev credit-zeros : tie.After-credit-of-arg → tie.After-zero2
+credit-zeros c = c .before .before .before
 
 abbrev body-credit : tie.After-body-arg3 → tie.After-credit-of
 body-credit c = c .before .before .before
@@ -38,18 +32,15 @@ returned-body c = c .before .before .before .before .before .before .before
 abbrev column-returned : tie.After-column-arg3 → tie.After-returned
 column-returned c = c .before .before .before .before .before
 
-abbrev end-column : tie.After-slice-known12 → tie.After-column
+abbrev end-column : tie.After-slice-known11 → tie.After-column
 end-column c = c .before .before .before .before
 
 -- the arguments, from where the room is cleared and from where the root is read
 abbrev cleared : tie.After-zero-arg2 → tie.Start
 cleared c = zero-start (zeros c .before)
 
-abbrev wiped : tie.After-wipe-lines-arg → tie.Start
-wiped c = cleared (wipe-zeros c .before)
-
 abbrev begun : tie.After-credit-of → tie.Start
-begun c = wiped (body-wipe c .before)
+begun c = cleared (credit-zeros (c .before) .before)
 
 abbrev root-start : tie.After-returned → tie.Start
 root-start c = begun (body-credit (returned-body (c .before) .before))
@@ -66,38 +57,28 @@ root-rows c = c .body .last .1 .1 .1 .1 .1 .1 .0
 
 -- what the second reading left of them
 abbrev column-scratch : tie.After-column → List ℕ
-column-scratch c = c .column .last .1 .1 .1 .0
+column-scratch c = c .column .last .1 .1 .0
 
 abbrev column-rows : tie.After-column → List ℕ
-column-rows c = c .column .last .1 .1 .1 .1 .1 .0
+column-rows c = c .column .last .1 .1 .1 .1 .0
 
 -- a cost stays in the table
 tabled : (c : tie.Start) → Tabled (byFactors (c .args .factors .now))
 tabled c = factors-tabled (c .args .factors .now) (c .pre .1)
 
-blank : (c : tie.After-wipe-lines) → (
-    let z = wipe-zeros (c .before) in Blank (wiped (c .before) .pre .0) (zeros (z .before) .zero .last .0) (c .wipe-lines .last .0) (z .zero2 .last .0))
-blank c =
-    let z = wipe-zeros (c .before) in
-    record {
-      scratch-is = zeros (z .before) .zero .ensures ∙ cleared-all (wiped (c .before) .args .scratch .now);
-      sites-off = c .wipe-lines .ensures;
-      marks-same = c .wipe-lines .kept .0;
-      rows-are = z .zero2 .ensures;
-    }
+blank : (c : tie.After-zero2) → Blank (cleared (c .before) .pre .0) (zeros (c .before) .zero .last .0) (c .zero2 .last .0)
+blank c = record { scratch-is = zeros (c .before) .zero .ensures ∙ cleared-all (cleared (c .before) .args .scratch .now); rows-are = c .zero2 .ensures }
 
 read : (c : tie.After-body) → Read (begun (body-credit (c .before)) .pre .0) (byFactors (begun (body-credit (c .before)) .args .factors .now)) (tabled (begun (body-credit (c .before)))) (body-credit (c .before) .credit-of .result) (c .body .result) (root-scratch c) (root-marks c) (root-rows c)
 read c =
-    let w = body-wipe (body-credit (c .before)) in
-    let z = wipe-zeros (w .before) in
+    let z = credit-zeros (body-credit (c .before) .before) in
     record {
       t₁ = zeros (z .before) .zero .last .0;
-      m₁ = w .wipe-lines .last .0;
       r₁ = z .zero2 .last .0;
-      blank = blank w;
+      blank = blank z;
       taken = body-credit (c .before) .credit-of .ensures;
-      zero = c .body .ensures .1 ∙ blank w .scratch-is;
-      marks-same = c .body .kept .1 .1 .1 .1 .1 .0 ∙ w .wipe-lines .kept .0;
+      zero = c .body .ensures .1 ∙ blank z .scratch-is;
+      marks-same = c .body .kept .1 .1 .1 .1 .1 .0;
       rows-same = c .body .kept .1 .1 .1 .1 .1 .1 .0 ∙ z .zero2 .kept .0;
       leaves = c .body .ensures .0;
     }
@@ -106,7 +87,7 @@ counts-long : (c : tie.After-returned) → length (c .returned .last .0) ≡ len
 counts-long c = c .returned .kept .0 ∙ read (returned-body (c .before)) .rows-same
 
 rows-long : (c : tie.After-column) → length (column-rows c) ≡ length (root-start (column-returned (c .before)) .args .rows .now)
-rows-long c = c .column .kept .1 .1 .1 .1 .1 .0 ∙ counts-long (column-returned (c .before))
+rows-long c = c .column .kept .1 .1 .1 .1 .0 ∙ counts-long (column-returned (c .before))
 
 zero-requires : tie.Need-zero-requires
 zero-requires c κs = search needs
@@ -120,17 +101,14 @@ mul-zero c = let l = bounds (cleared c .pre .0) in omega (arith, l .2, l .3)
 zero-requires-2 : tie.Need-zero-requires-2
 zero-requires-2 c κs = rows-in (cleared c .pre .0)
 
-wipe-lines-requires : tie.Need-wipe-lines-requires
-wipe-lines-requires c κs = (omega arith, marks-in (wiped c .pre .0) _ (tabled (wiped c)))
-
 credit-of-requires : tie.Need-credit-of-requires
-credit-of-requires c κs = credit-asks _ (blank (credit-wipe c))
+credit-of-requires c κs = credit-asks _ (blank (credit-zeros c))
 
 sub-body : tie.Need-sub-body
 sub-body c = bounds (begun c .pre .0) .0
 
 body-requires : tie.Need-body-requires
-body-requires c κs = let a = begun (body-credit c) in body-asks (a .pre .0) (byFactors (a .args .factors .now)) (tabled a) (blank (body-wipe (body-credit c)))
+body-requires c κs = let a = begun (body-credit c) in body-asks (a .pre .0) (byFactors (a .args .factors .now)) (tabled a) (blank (credit-zeros (body-credit c .before)))
 
 returned-requires : tie.Need-returned-requires
 returned-requires c κs = count-asks _ _ _ (read (returned-body c))
@@ -166,7 +144,6 @@ accepted-spec =
     add-zero
     mul-zero
     zero-requires-2
-    wipe-lines-requires
     credit-of-requires
     sub-body
     body-requires

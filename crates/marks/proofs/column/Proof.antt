@@ -9,10 +9,10 @@ use Rattle.marks.proofs.column.Statement.{statement}
 use Rattle.marks.proofs.column.Tie as tie
 
 abbrev Inv-loop : tie.InvT-loop
-Inv-loop trace from lines t₀ marks rows₀ factors a₀ at₀ t rows a at = Loop (byFactors factors) trace from lines t₀ marks rows₀ at a t rows
+Inv-loop trace lines t₀ marks rows₀ factors a₀ at₀ t rows a at = Loop (byFactors factors) trace lines t₀ marks rows₀ at a t rows
 
 abbrev μ-loop : tie.MeasureT-loop
-μ-loop trace from lines t₀ marks rows₀ factors a₀ at₀ t rows a at = lines - at
+μ-loop trace lines t₀ marks rows₀ factors a₀ at₀ t rows a at = lines - at
 
 -- from each place that has a name to the one before it
 abbrev start : tie.After-shared-slice-known3 Inv-loop μ-loop → tie.Start Inv-loop μ-loop
@@ -27,7 +27,7 @@ line-read c = c .before .before .before .before
 loop-holds : tie.Need-loop-holds Inv-loop μ-loop
 loop-holds c =
     let a = start c .args in
-    turn-start (byFactors (a .factors .now)) (a .trace .now) (a .from) (a .lines) (a .t .now) (a .marks .now) (a .rows .now)
+    turn-start (byFactors (a .factors .now)) (a .trace .now) (a .lines) (a .t .now) (a .marks .now) (a .rows .now)
 
 on-line-requires : tie.Need-on-line-requires Inv-loop μ-loop
 on-line-requires c κs =

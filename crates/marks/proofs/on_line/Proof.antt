@@ -1,5 +1,5 @@
 -- `marks::on_line` meets its contract: what a line asks for and leaves, by its kind.
-use Rattle.marks.proofs.Columns.{leave-asks, enter-asks, sync-leaves, return-leaves, add-asks, cost-leaves, child-leaves}
+use Rattle.marks.proofs.Columns.{leave-asks, enter-asks, sync-leaves, note-leaves, return-leaves, add-asks, cost-leaves, child-leaves}
 use borrow.Author.Needs.{needs}
 use Rattle.marks.proofs.on_line.Statement.{statement}
 use Rattle.marks.proofs.on_line.Tie as tie
@@ -26,7 +26,10 @@ end-return c = c .before .before
 abbrev other-kind : tie.Else2 → tie.After-kind-at
 other-kind c = c .before .before
 
-abbrev child-test : tie.After-site-at → tie.Else3
+abbrev late-kind : tie.Else3 → tie.After-kind-at
+late-kind c = other-kind (c .before)
+
+abbrev child-test : tie.After-site-at → tie.Else4
 child-test c = c .before .before
 
 abbrev end-child : tie.After-slice-known5 → tie.After-enter
@@ -67,6 +70,11 @@ returns-3 c =
     let k = other-kind (c .before) in
     sync-leaves (start k .pre) (k .kind-at .result) (k .kind-at .ensures) (c .if3 .taken)
 
+returns-4 : tie.Need-returns-4
+returns-4 c =
+    let k = late-kind (c .before) in
+    note-leaves (start k .pre) (k .kind-at .result) (k .kind-at .ensures) (c .if4 .taken)
+
 site-at-requires : tie.Need-site-at-requires
 site-at-requires c κs = search needs
 
@@ -74,18 +82,18 @@ cast-enter : tie.Need-cast-enter
 cast-enter c = search needs
 
 enter-requires : tie.Need-enter-requires
-enter-requires c κs = enter-asks (start (other-kind (child-test c .before)) .pre)
+enter-requires c κs = enter-asks (start (late-kind (child-test c .before)) .pre)
 
 same-length-3 : tie.Need-same-length-3
 same-length-3 c = search needs
 
-returns-4 : tie.Need-returns-4
-returns-4 c =
+returns-5 : tie.Need-returns-5
+returns-5 c =
     let r = end-child c in
     let s = r .before in
     let e = child-test s in
-    let k = other-kind (e .before) in
-    child-leaves (start k .pre) (k .kind-at .result) (k .kind-at .ensures) (s .site-at .result) (s .site-at .ensures) (e .before .before .if1 .left) (e .before .if2 .left) (e .if3 .left) (r .enter .result) (r .enter .last .0) (r .enter .ensures .0) (r .enter .ensures .1)
+    let k = late-kind (e .before) in
+    child-leaves (start k .pre) (k .kind-at .result) (k .kind-at .ensures) (s .site-at .result) (s .site-at .ensures) (e .before .before .before .if1 .left) (e .before .before .if2 .left) (e .before .if3 .left) (e .if4 .left) (r .enter .result) (r .enter .last .0) (r .enter .ensures .0) (r .enter .ensures .1)
 
 pub on-line-spec : {M : Type 1} → statement M
 on-line-spec =
@@ -99,8 +107,9 @@ on-line-spec =
     same-length-2
     returns-2
     returns-3
+    returns-4
     site-at-requires
     cast-enter
     enter-requires
     same-length-3
-    returns-4)
+    returns-5)

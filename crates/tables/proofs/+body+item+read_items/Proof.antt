@@ -7,7 +7,7 @@ use native.Mathlib.Omega.{arith}
 use borrow.Author.Needs.{needs}
 use Rattle.walk.specs.Weight.{byFactors}
 use Rattle.tables.proofs.Bodies.{begins, Loop, loop-start, loop-asks, Next, loop-less, loop-again, loop-done, body-leaves}
-use Rattle.tables.proofs.Items.{line-fits, own-room, join-asks, sync-leaves, Costs, rows-asks, spend-asks, cost-leaves, Calls, deeper, room, credit-asks, body-asks, Back, back-long, count-asks, called-asks, spawned-asks, call-leaves, spawn-leaves}
+use Rattle.tables.proofs.Items.{line-fits, own-room, join-asks, sync-leaves, note-leaves, Costs, rows-asks, spend-asks, cost-leaves, Calls, deeper, room, credit-asks, body-asks, Back, back-long, count-asks, called-asks, spawned-asks, call-leaves, spawn-leaves}
 use borrow.Fn.Kinds.{In, Out}
 use borrow.Fn.PlainCycle.{Measures, is, falls, and}
 use Rattle.tables.proofs.body.Reads as body
@@ -21,6 +21,7 @@ use Rattle.tables.proofs.item.Kinds as item-kinds
 use Rattle.tables.proofs.+body+item+read_items.Lts-item as item-lts
 use Rattle.line.proofs.kind_at.Reads as kind-at-reads
 use Rattle.line.proofs.site_at.Reads as site-at-reads
+use Rattle.walk.proofs.Open.passed.Reads as passed-reads
 use Rattle.walk.proofs.credit_of.Reads as credit-of-reads
 use Rattle.tables.proofs.join.Reads as join-reads
 use Rattle.tables.proofs.child_part.Reads as child-part-reads
@@ -69,7 +70,7 @@ abbrev items-calls : ℕ → items-lts.Claims
 items-calls t = (kind-at-reads.Asked, kind-at-reads.Learnt, item-below t, item.Post)
 
 abbrev item-calls : ℕ → item-lts.Claims
-item-calls t = (weight-at-reads.Asked, weight-at-reads.Learnt, spend-reads′.Asked, spend-reads′.Learnt, spend-reads.Asked, spend-reads.Learnt, join-reads.Asked, join-reads.Learnt, site-at-reads.Asked, site-at-reads.Learnt, child-part-reads.Asked, child-part-reads.Learnt, credit-of-reads.Asked, credit-of-reads.Learnt, body-below t, body.Post, returned-reads.Asked, returned-reads.Learnt, called-reads.Asked, called-reads.Learnt, spawned-reads.Asked, spawned-reads.Learnt)
+item-calls t = (weight-at-reads.Asked, weight-at-reads.Learnt, spend-reads′.Asked, spend-reads′.Learnt, spend-reads.Asked, spend-reads.Learnt, join-reads.Asked, join-reads.Learnt, passed-reads.Asked, passed-reads.Learnt, site-at-reads.Asked, site-at-reads.Learnt, child-part-reads.Asked, child-part-reads.Learnt, credit-of-reads.Asked, credit-of-reads.Learnt, body-below t, body.Post, returned-reads.Asked, returned-reads.Learnt, called-reads.Asked, called-reads.Learnt, spawned-reads.Asked, spawned-reads.Learnt)
 
 abbrev Inv-loop : items-lts.InvT-loop
 Inv-loop trace row deep t₀ rows₀ w factors f₀ kind₀ t rows f kind = Loop (byFactors factors) trace row deep f₀ t₀ rows₀ t rows (w + 1) w f kind
@@ -214,8 +215,11 @@ module _ (t : ℕ) where
   abbrev item-join : Item item-lts.After-slice-known5 → Item item-lts.After-join
   item-join c = c .before .before
 
+  abbrev note-start : Item item-lts.Then3 → Item item-lts.Start
+  note-start c = item-start (c .before .before .before)
+
   abbrev child-start : Item item-lts.After-site-at → Item item-lts.Start
-  child-start c = item-start (c .before .before .before)
+  child-start c = item-start (c .before .before .before .before)
 
   abbrev credit-part : Item item-lts.After-credit-of → Item item-lts.After-child-part
   credit-part c = c .before .before
@@ -232,7 +236,7 @@ module _ (t : ℕ) where
   abbrev test-returned : Item item-lts.After-slice-known8 → Item item-lts.After-returned
   test-returned c = c .before .before
 
-  abbrev spawned-test : Item item-lts.After-spawned-arg → Item item-lts.Else3
+  abbrev spawned-test : Item item-lts.After-spawned-arg → Item item-lts.Else4
   spawned-test c = c .before
 
   abbrev item-spawned : Item item-lts.After-slice-known9 → Item item-lts.After-spawned
@@ -258,7 +262,7 @@ module _ (t : ℕ) where
       let a = child-start (c .before) .args in Calls (byFactors (a .factors .now)) (a .trace .now) (a .kind) (a .row) (a .deep) (a .f) (a .t .now) (a .rows .now) (a .w + 1) (a .w) (c .before .site-at .result) (c .child-part .result))
   at-part c =
       let e = c .before .before in
-      record { asks = child-start (c .before) .pre .1; site-is = c .before .site-at .ensures; no-cost = e .before .if1 .left; no-sync = e .if2 .left; begins = c .child-part .ensures }
+      record { asks = child-start (c .before) .pre .1; site-is = c .before .site-at .ensures; no-cost = e .before .before .if1 .left; no-sync = e .before .if2 .left; no-note = e .if3 .left; begins = c .child-part .ensures }
 
   at-body : (c : Item item-lts.After-body) → Back (at-part (body-part (c .before))) (body-credit (c .before) .credit-of .result) (c .body .result) (body-scratch c) (body-rows c)
   at-body c = record { taken = body-credit (c .before) .credit-of .ensures; part-long = c .body .kept .1 .1 .1 .1 .0; rows-long = c .body .kept .1 .1 .1 .1 .1 .0; leaves = c .body .ensures }
@@ -299,6 +303,15 @@ module _ (t : ℕ) where
       let e = join-test (j .before) in
       let a = sync-start e in
       sync-leaves (a .pre .1 .lent) (a .args .kind) (a .pre .1 .kind-is) (e .if2 .taken) (j .join .result) (j .join .last .0) (j .join .ensures)
+
+  item-passed-requires : Item item-lts.Need-passed-requires
+  item-passed-requires c κs = line-fits (note-start c .pre .1 .lent)
+
+  item-returns-3 : Item item-lts.Need-returns-3
+  item-returns-3 c =
+      let e = c .before in
+      let a = note-start e in
+      note-leaves (a .pre .1 .lent) (a .args .kind) (a .pre .1 .kind-is) (e .if3 .taken) (c .passed .result) (c .passed .ensures)
 
   item-site-at-requires : Item item-lts.Need-site-at-requires
   item-site-at-requires c κs = search needs
@@ -352,15 +365,15 @@ module _ (t : ℕ) where
       let k = test-returned (c .before .before) in
       k .returned .kept .0 ∙ at-body (returned-body (k .before)) .rows-long
 
-  item-returns-3 : Item item-lts.Need-returns-3
-  item-returns-3 c =
+  item-returns-4 : Item item-lts.Need-returns-4
+  item-returns-4 c =
       let k = test-returned (c .before .before) in
-      call-leaves _ (at-body (returned-body (k .before))) (k .returned .ensures) (c .called .result) (c .before .if3 .taken) (c .called .ensures)
+      call-leaves _ (at-body (returned-body (k .before))) (k .returned .ensures) (c .called .result) (c .before .if4 .taken) (c .called .ensures)
 
   item-spawned-requires : Item item-lts.Need-spawned-requires
   item-spawned-requires c κs =
       let e = spawned-test c in
-      spawned-asks _ (at-body (returned-body (test-returned (e .before) .before))) (e .if3 .left)
+      spawned-asks _ (at-body (returned-body (test-returned (e .before) .before))) (e .if4 .left)
 
   item-same-length-6 : Item item-lts.Need-same-length-6
   item-same-length-6 c =
@@ -372,12 +385,12 @@ module _ (t : ℕ) where
       let k = test-returned (spawned-test (item-spawned c .before) .before) in
       k .returned .kept .0 ∙ at-body (returned-body (k .before)) .rows-long
 
-  item-returns-4 : Item item-lts.Need-returns-4
-  item-returns-4 c =
+  item-returns-5 : Item item-lts.Need-returns-5
+  item-returns-5 c =
       let r = item-spawned c in
       let e = spawned-test (r .before) in
       let k = test-returned (e .before) in
-      spawn-leaves _ (at-body (returned-body (k .before))) (k .returned .ensures) (r .spawned .result) (e .if3 .left) (r .spawned .last .0) (r .spawned .ensures)
+      spawn-leaves _ (at-body (returned-body (k .before))) (k .returned .ensures) (r .spawned .result) (e .if4 .left) (r .spawned .last .0) (r .spawned .ensures)
 
 pub +body+item+read-items-spec : {M : Type 1} → statement M
 +body+item+read-items-spec = close μ-body μ-item μ-items (λ t. body-lts.spec (body-calls t)
@@ -403,6 +416,8 @@ pub +body+item+read-items-spec : {M : Type 1} → statement M
     (item-join-requires t)
     (item-same-length-3 t)
     (item-returns-2 t)
+    (item-passed-requires t)
+    (item-returns-3 t)
     (item-site-at-requires t)
     (item-cast-site t)
     (item-child-part-requires t)
@@ -418,11 +433,11 @@ pub +body+item+read-items-spec : {M : Type 1} → statement M
     (item-called-requires t)
     (item-same-length-4 t)
     (item-same-length-5 t)
-    (item-returns-3 t)
+    (item-returns-4 t)
     (item-spawned-requires t)
     (item-same-length-6 t)
     (item-same-length-7 t)
-    (item-returns-4 t))
+    (item-returns-5 t))
     λ t. items-lts.spec (items-calls t)
     (items-at t)
     items.Post

@@ -1,0 +1,152 @@
+-- The tree of a trace without its places has the same numbers, chains and rows; and traces that differ only in places
+-- have one such tree.
+use mathlib.Core.Path.{_≡_, refl, sym, _∙_, ap, ap₂, subst}
+use mathlib.Core.Bool.{cond}
+use mathlib.Core.List.{List}
+use Prim.Native.Nat.{ℕ, zero, suc, _+_}
+use native.Mathlib.Omega.{arith}
+use lib.Dec.{eqb}
+use Rattle.line.specs.declared.Frame.{Frame}
+use Rattle.chain.specs.Plan.{CostLine, weight}
+use Rattle.chain.specs.Over.{linesIn}
+use Rattle.trace.specs.declared.Answer.{Answer}
+use Rattle.trace.specs.declared.Answer.the-variants.{Accepted}
+use Rattle.trace.specs.Column.{Column}
+use Rattle.trace.specs.Promise.{Engine, marks, Lent, Marked}
+use Rattle.trace.specs.Tree.{Way, call, spawn, opening, Note, site, Leaf, spend, sync, note, lineOf, leafWork, Body, done, leaf, child, linesOf, size, Parts, workOf, localOf, spanOf, madeSum, rowSum, outerSum, outerRow}
+use Rattle.trace.specs.Fold.{Chains, nothing, joined, called, spawned, leafChains, ended, childChains, run, chainOf, onRow}
+use Rattle.trace.specs.ByTree.{cell, ProfileBy}
+use Rattle.trace.proofs.Tree.{body-one}
+use Rattle.trace.proofs.Recurrence.{weight-chain}
+use Rattle.trace.proofs.Unseen.{blank, blanks, ButPlaces, blanks-append}
+
+abbrev pub blankNote : Note → Note
+blankNote (site s p) = site s (record { file = 0; line = 0; column = 0 })
+
+abbrev pub blankLeaf : Leaf → Leaf
+blankLeaf (spend v) = spend v
+blankLeaf sync = sync
+blankLeaf (note x) = note (blankNote x)
+
+abbrev pub blankBody : Body → Body
+blankBody done = done
+blankBody (leaf l r) = leaf (blankLeaf l) (blankBody r)
+blankBody (child w s g r) = child w s (blankBody g) (blankBody r)
+
+blank-leaf : (l : Leaf) → blank (lineOf l) ≡ lineOf (blankLeaf l)
+blank-leaf (spend v) = refl
+blank-leaf sync = refl
+blank-leaf (note (site s p)) = refl
+
+blank-opening : (w : Way) (s : ℕ) → blank (opening w s) ≡ opening w s
+blank-opening call s = refl
+blank-opening spawn s = refl
+
+blanks-lines : (b : Body) → blanks (linesOf b) ≡ linesOf (blankBody b)
+blanks-lines done = refl
+blanks-lines (leaf l r) = rw (blank-leaf l, blanks-lines r)
+blanks-lines (child w s g r) = rw (blank-opening w s, blanks-append (linesOf g) (linesOf r), blanks-lines g, blanks-lines r)
+
+-- what a leaf does without its place
+work-leaf : (l : Leaf) → leafWork (blankLeaf l) ≡ leafWork l
+work-leaf (spend v) = refl
+work-leaf sync = refl
+work-leaf (note x) = refl
+
+chains-leaf : (l : Leaf) (n s : ℕ) (k : Chains) → leafChains n s (blankLeaf l) k ≡ leafChains n s l k
+chains-leaf (spend v) n s k = refl
+chains-leaf sync n s k = refl
+chains-leaf (note x) n s k = refl
+
+-- and a body
+size-blank : (b : Body) → size (blankBody b) ≡ size b
+size-blank done = refl
+size-blank (leaf l r) = ap suc (size-blank r)
+size-blank (child w s g r) = omega (arith, size-blank g, size-blank r)
+
+work-blank : (b : Body) → workOf (blankBody b) ≡ workOf b
+work-blank done = refl
+work-blank (leaf l r) = omega (arith, work-leaf l, work-blank r)
+work-blank (child w s g r) = omega (arith, work-blank g, work-blank r)
+
+local-blank : (b : Body) → localOf (blankBody b) ≡ localOf b
+local-blank done = refl
+local-blank (leaf l r) = omega (arith, work-leaf l, local-blank r)
+local-blank (child w s g r) = local-blank r
+
+child-chains : (w : Way) (f h : Chains → Chains) (k : Chains) → ended f ≡ ended h → childChains w f k ≡ childChains w h k
+child-chains call f h k e = ap (λ (c : List CostLine). called c k) e
+child-chains spawn f h k e = ap (λ (c : List CostLine). spawned c k) e
+
+run-blank : (b : Body) (n s : ℕ) (k : Chains) → run n s (blankBody b) k ≡ run n s b k
+run-blank done n s k = refl
+run-blank (leaf l r) n s k = run-blank r (suc n) s (leafChains n s (blankLeaf l) k) ∙ ap (run (suc n) s r) (chains-leaf l n s k)
+run-blank (child w i g r) n s k =
+    ap (λ (m : ℕ). run (suc n + m) s (blankBody r) (childChains w (run (suc n) i (blankBody g)) k)) (size-blank g)
+    ∙ run-blank r (suc n + size g) s (childChains w (run (suc n) i (blankBody g)) k)
+    ∙ ap (run (suc n + size g) s r) (child-chains w (run (suc n) i (blankBody g)) (run (suc n) i g) k (ap (λ (c : Chains). joined c .p) (run-blank g (suc n) i nothing)))
+
+chain-blank : (b : Body) → chainOf 0 0 (blankBody b) ≡ chainOf 0 0 b
+chain-blank b = ap (λ (c : Chains). joined c .p) (run-blank b 0 0 nothing)
+
+span-blank : (b : Body) → spanOf (blankBody b) ≡ spanOf b
+span-blank b = sym (weight-chain (blankBody b) 0 0) ∙ ap weight (chain-blank b) ∙ weight-chain b 0 0
+
+-- sums over invocations of what does not see a place
+module _ (h : Body → ℕ) (same : (b : Body) → h (blankBody b) ≡ h b) where
+  made-blank : (s : ℕ) (b : Body) → madeSum h s (blankBody b) ≡ madeSum h s b
+  made-blank s done = refl
+  made-blank s (leaf l r) = made-blank s r
+  made-blank s (child w i g r) = omega (arith, ap (λ (x : ℕ). cond (eqb i s) x 0) (same g), made-blank s g, made-blank s r)
+
+  outer-blank : (s : ℕ) (b : Body) → outerSum h s (blankBody b) ≡ outerSum h s b
+  outer-blank s done = refl
+  outer-blank s (leaf l r) = outer-blank s r
+  outer-blank s (child w i g r) = omega (arith, ap₂ (λ (x y : ℕ). cond (eqb i s) x y) (same g) (outer-blank s g), outer-blank s r)
+
+  row-blank : (s : ℕ) (b : Body) → rowSum h s (blankBody b) ≡ rowSum h s b
+  row-blank zero b = same b
+  row-blank (suc s) b = made-blank (suc s) b
+
+  outer-row-blank : (s : ℕ) (b : Body) → outerRow h s (blankBody b) ≡ outerRow h s b
+  outer-row-blank zero b = same b
+  outer-row-blank (suc s) b = outer-blank (suc s) b
+
+cell-blank : (b : Body) (s : ℕ) (k : Column) → cell (blankBody b) s k ≡ cell b s k
+cell-blank b s Column.calls = row-blank (λ g. 1) (λ g. refl) s b
+cell-blank b s Column.work = outer-row-blank workOf work-blank s b
+cell-blank b s Column.span = outer-row-blank spanOf span-blank s b
+cell-blank b s Column.local = row-blank localOf local-blank s b
+cell-blank b s Column.onSpan = ap (onRow s) (chain-blank b)
+
+-- what comes back by a tree is what comes back by the tree without its places
+module _ (e : Engine) (m : ℕ) (b : Body) (c : Lent) (q : Answer) (y : Lent) where
+  answer-blank : Accepted (workOf (blankBody b)) (spanOf (blankBody b)) m (size (blankBody b)) ≡ Accepted (workOf b) (spanOf b) m (size b)
+  answer-blank = rw (work-blank b, span-blank b, size-blank b)
+
+  marked-blank : Marked e (size (blankBody b)) (linesIn (chainOf 0 0 (blankBody b))) (c .marks) (y .marks) ≡ Marked e (size b) (linesIn (chainOf 0 0 b)) (c .marks) (y .marks)
+  marked-blank = rw (size-blank b, chain-blank b)
+
+  pub to-blank : ProfileBy e m b c q y → ProfileBy e m (blankBody b) c q y
+  to-blank h =
+      record {
+        answer = h .answer ∙ sym answer-blank;
+        rows = record { same-length = h .rows .same-length; cells = λ s k l. h .rows .cells s k l ∙ sym (cell-blank b s k); rest = h .rows .rest };
+        scratch = h .scratch;
+        marked = subst (λ (A : Type 0). A) (sym marked-blank) (h .marked);
+      }
+
+  pub from-blank : ProfileBy e m (blankBody b) c q y → ProfileBy e m b c q y
+  from-blank h =
+      record {
+        answer = h .answer ∙ answer-blank;
+        rows = record { same-length = h .rows .same-length; cells = λ s k l. h .rows .cells s k l ∙ cell-blank b s k; rest = h .rows .rest };
+        scratch = h .scratch;
+        marked = subst (λ (A : Type 0). A) marked-blank (h .marked);
+      }
+
+-- LAW: they have one tree but for places
+pub same-parts : (D E : ℕ) (t u : List Frame) (p : Parts D t) (q : Parts E u) → ButPlaces t u → blankBody (p .body) ≡ blankBody (q .body)
+same-parts D E t u p q e =
+    body-one (blankBody (p .body)) (blankBody (q .body))
+    (sym (ap blanks (p .lines) ∙ blanks-lines (p .body)) ∙ e ∙ ap blanks (q .lines) ∙ blanks-lines (q .body))
