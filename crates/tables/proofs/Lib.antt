@@ -1,6 +1,7 @@
 pub mod Bits
 pub mod Number
 pub mod Loops
+pub mod Fours
 pub mod Walks
 pub mod TakeIn
 pub mod Held

@@ -9,6 +9,7 @@ use lib.Dec.{eqb}
 use lib.ListN.{length, getD, set}
 use Rattle.chain.specs.Plan.{CostLine, weight}
 use Rattle.trace.specs.Fold.{onRow}
+use Rattle.tables.specs.declared.Four.{Four}
 
 -- the rows in use by a chain, by fours: bit b is set where a cost stands in one of the rows 4b to 4b + 3
 abbrev pub used : List CostLine → ℕ
@@ -68,6 +69,19 @@ pub record Taken (b e g w from stop : ℕ) (t t′ : List ℕ) : Type 0 where
   pub comes : (i : ℕ) → from ≤ i → i < stop → i < w → getD t′ (e + i) 0 ≡ getD t (g + i) 0
   pub free : (i : ℕ) → from ≤ i → i < stop → i < w → getD t′ (g + i) 0 ≡ 0
   pub rest : (j : ℕ) → ((i : ℕ) → from ≤ i → i < stop → i < w → Off b e g i j) → getD t′ j 0 ≡ getD t j 0
+
+-- the four numbers from number i on, and the numbers where they are now these
+abbrev pub fourAt : List ℕ → ℕ → Four
+fourAt t i = record { a = getD t i 0; b = getD t (i + 1) 0; c = getD t (i + 2) 0; d = getD t (i + 3) 0 }
+
+abbrev pub laid : List ℕ → ℕ → Four → List ℕ
+laid t i x = set (set (set (set t i (x .a)) (i + 1) (x .b)) (i + 2) (x .c)) (i + 3) (x .d)
+
+abbrev pub zeros : Four
+zeros = record { a = 0; b = 0; c = 0; d = 0 }
+
+abbrev pub sumsOf : Four → Four → Four
+sumsOf x y = record { a = x .a + y .a; b = x .b + y .b; c = x .c + y .c; d = x .d + y .d }
 
 -- the fours in use in the tables at b, e and g
 abbrev pub inUse : ℕ → ℕ → ℕ → ℕ → List ℕ → ℕ

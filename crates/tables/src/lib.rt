@@ -19,12 +19,79 @@ ghost use Rattle.forecast.specs.OfList.{ForecastOf};
 ghost use Rattle.walk.specs.Weight.{byFactors, Factors};
 ghost use Rattle.walk.specs.Profiled.{Profiled};
 ghost use Rattle.tables.specs.Blocks.{sinceAt, partAt, childAt, Asks, Spent, Joined, Spawned};
-ghost use Rattle.tables.specs.Walks.{IsTable, Idles, Apart, SumsFit, Taken, inUse, worded, TakesIn, TookIn, Cleared};
+ghost use Rattle.tables.specs.Walks.{IsTable, Idles, Apart, SumsFit, Taken, zeros, fourAt, sumsOf, laid, inUse, worded, TakesIn, TookIn, Cleared};
 ghost use Rattle.tables.specs.Root.{lent, Admitted, Settled};
 ghost use Rattle.tables.specs.Reader.{Lent, ItemAsks, ItemLeaves, ItemsLeave, BodyAsks, BodyLeaves};
 
+// Four numbers that stand side by side.
+struct Four {
+    a: u64,
+    b: u64,
+    c: u64,
+    d: u64,
+}
+
+// The four numbers from number i on.
+fn four_at(t: &[u64], i: usize) -> Four
+    requires { ⌜ i + 4 ≤ length (now t) ⌝ }
+    ensures { λ r. ⌜ r ≡ fourAt (now (t .entry)) i ⌝ }
+{
+    Four {
+        a: t[i],
+        b: t[i + 1],
+        c: t[i + 2],
+        d: t[i + 3],
+    }
+}
+
+// Each of four numbers with one of four others.
+fn sums(x: Four, y: Four) -> Four
+    requires { ⌜ (x .a + y .a < 2 ^ 64) × ((x .b + y .b < 2 ^ 64) × ((x .c + y .c < 2 ^ 64) × (x .d + y .d < 2 ^ 64))) ⌝ }
+    ensures { λ r. ⌜ r ≡ sumsOf x y ⌝ }
+{
+    Four {
+        a: x.a + y.a,
+        b: x.b + y.b,
+        c: x.c + y.c,
+        d: x.d + y.d,
+    }
+}
+
+// The four numbers from number i on are now these.
+fn put_four(t: &mut [u64], i: usize, x: Four)
+    requires { ⌜ i + 4 ≤ length (now t) ⌝ }
+    ensures { λ _. ⌜ now (t .exit) ≡ laid (now (t .entry)) i x ⌝ }
+{
+    t[i] = x.a;
+    t[i + 1] = x.b;
+    t[i + 2] = x.c;
+    t[i + 3] = x.d;
+}
+
+// Four rows from a row on: those of the block at b are added to the prefix's and cleared, and those of the block at g are
+// moved to the block at e. All are read before the first is written, so that several go at a time.
+fn take_four(t: &mut [u64], b: usize, e: usize, g: usize, from: usize)
+    requires { ⌜ Apart (from + 4) b e g (now t) ⌝ }
+    requires { ⌜ SumsFit (from + 4) b (now t) ⌝ }
+    ensures { λ _. ⌜ Taken b e g (from + 4) from (from + 4) (now (t .entry)) (now (t .exit)) ⌝ }
+{
+    let x = four_at(t, b + from);
+    let y = four_at(t, g + from);
+    let sum = sums(four_at(t, from), x);
+    let none = Four {
+        a: 0,
+        b: 0,
+        c: 0,
+        d: 0,
+    };
+    put_four(t, from, sum);
+    put_four(t, b + from, none);
+    put_four(t, e + from, y);
+    put_four(t, g + from, none);
+}
+
 // Rows from to stop - 1: those of the block at b are added to the prefix's and cleared, and those of the block at g are
-// moved to the block at e.
+// moved to the block at e, row by row.
 fn take_rows(t: &mut [u64], b: usize, e: usize, g: usize, from: usize, stop: usize)
     requires { ⌜ Apart stop b e g (now t) ⌝ }
     requires { ⌜ SumsFit stop b (now t) ⌝ }
@@ -41,14 +108,14 @@ fn take_rows(t: &mut [u64], b: usize, e: usize, g: usize, from: usize, stop: usi
 }
 
 // Takes the four rows from a row on, as far as there are w.
-fn take_four(t: &mut [u64], b: usize, e: usize, g: usize, w: usize, from: usize)
+fn take_next(t: &mut [u64], b: usize, e: usize, g: usize, w: usize, from: usize)
     requires { ⌜ Apart w b e g (now t) ⌝ }
     requires { ⌜ SumsFit w b (now t) ⌝ }
     requires { ⌜ from + 4 < 2 ^ 64 ⌝ }
     ensures { λ _. ⌜ Taken b e g w from (from + 4) (now (t .entry)) (now (t .exit)) ⌝ }
 {
     if from + 4 <= w {
-        take_rows(t, b, e, g, from, from + 4);
+        take_four(t, b, e, g, from);
         return;
     }
     take_rows(t, b, e, g, from, w);
@@ -66,7 +133,7 @@ fn take_fours(t: &mut [u64], b: usize, e: usize, g: usize, w: usize, word: u64)
     while left != 0 {
         let z = u64::trailing_zeros(left);
         c += z as usize;
-        take_four(t, b, e, g, w, 4 * c);
+        take_next(t, b, e, g, w, 4 * c);
         left = (left >> z) >> 1;
         c += 1;
     }
@@ -110,7 +177,7 @@ fn clear_rows(t: &mut [u64], a: usize, from: usize, stop: usize)
 }
 
 // Clears four rows from a row on, as far as there are w.
-fn clear_four(t: &mut [u64], a: usize, w: usize, from: usize)
+fn clear_next(t: &mut [u64], a: usize, w: usize, from: usize)
     requires { ⌜ (a + w ≤ length (now t)) × (from + 4 < 2 ^ 64) ⌝ }
     ensures { λ _. ⌜ Cleared a w from (from + 4) (now (t .entry)) (now (t .exit)) ⌝ }
 {
@@ -131,7 +198,7 @@ fn clear_fours(t: &mut [u64], a: usize, w: usize, word: u64)
     while left != 0 {
         let z = u64::trailing_zeros(left);
         c += z as usize;
-        clear_four(t, a, w, 4 * c);
+        clear_next(t, a, w, 4 * c);
         left = (left >> z) >> 1;
         c += 1;
     }

@@ -37,11 +37,11 @@ cast-c c = omega (arith, here c)
 add-c : tie.Need-add-c Inv-loop μ-loop
 add-c c = record { fits = omega (arith, here c) }
 
-mul-clear-four : tie.Need-mul-clear-four Inv-loop μ-loop
-mul-clear-four c = omega (arith, here (c .before))
+mul-clear-next : tie.Need-mul-clear-next Inv-loop μ-loop
+mul-clear-next c = omega (arith, here (c .before))
 
-clear-four-requires : tie.Need-clear-four-requires Inv-loop μ-loop
-clear-four-requires c κs =
+clear-next-requires : tie.Need-clear-next-requires Inv-loop μ-loop
+clear-next-requires c κs =
     let i = c .before in
     let a = i .before .before .before in
     let l = i .before .loop in
@@ -70,8 +70,8 @@ loop-again c =
     let a = i .before .before .before in
     let l = i .before .loop in (
       farther (a .args .word) (l .c) (l .left) (l .inv .0) (trailingZeros 64 (l .left)),
-      r .clear-four .kept .0 ∙ l .inv .1,
-      clear-on (a .args .word) (l .c) (l .left) (l .inv .0) (a .pre .1) (l .t) (l .inv .2) (r .clear-four .last .0) (r .clear-four .ensures),
+      r .clear-next .kept .0 ∙ l .inv .1,
+      clear-on (a .args .word) (l .c) (l .left) (l .inv .0) (a .pre .1) (l .t) (l .inv .2) (r .clear-next .last .0) (r .clear-next .ensures),
     )
 
 same-length : tie.Need-same-length Inv-loop μ-loop
@@ -92,8 +92,8 @@ clear-fours-spec =
     loop-holds
     cast-c
     add-c
-    mul-clear-four
-    clear-four-requires
+    mul-clear-next
+    clear-next-requires
     cast-left
     shr-left
     add-c-2

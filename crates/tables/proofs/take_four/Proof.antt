@@ -1,53 +1,123 @@
--- `tables::take_four` meets its contract: four rows, or those that are left.
-use Prim.Native.Nat.{_+_}
+-- `tables::take_four` meets its contract: what is read of the four rows is what is stored.
 use native.Mathlib.Omega.{arith}
-use Rattle.tables.proofs.Loops.{fewer, taken-same}
+use Rattle.tables.proofs.Fours.{taken-so, four-fit}
 use borrow.Author.Needs.{needs}
 use Rattle.tables.proofs.take_four.Statement.{statement}
 use Rattle.tables.proofs.take_four.Tie as tie
 
-add-if1 : tie.Need-add-if1
-add-if1 c = search needs
+-- from each place that has a name to the one before it
+abbrev start : tie.After-four-at → tie.Start
+start c = c .before .before .before
 
-add-take-rows : tie.Need-add-take-rows
-add-take-rows c = search needs
+abbrev first-read : tie.After-four-at2 → tie.After-four-at
+first-read c = c .before .before
 
-take-rows-requires : tie.Need-take-rows-requires
-take-rows-requires c κs =
-    let i = c .before in
-    let a = i .before .before in
-    (fewer (a .args .from + 4) (i .if1 .taken) (a .pre .0), λ k l. a .pre .1 .0 k (omega arith))
+abbrev second-read : tie.After-four-at3 → tie.After-four-at2
+second-read c = c .before .before
+
+abbrev summed : tie.After-put-four → tie.After-sums
+summed c = c .before .before
+
+abbrev first-put : tie.After-put-four2 → tie.After-put-four
+first-put c = c .before .before .before .before
+
+abbrev second-put : tie.After-put-four3 → tie.After-put-four2
+second-put c = c .before .before .before .before
+
+abbrev third-put : tie.After-put-four4 → tie.After-put-four3
+third-put c = c .before .before .before .before
+
+abbrev begun : tie.After-put-four → tie.Start
+begun c = start (first-read (second-read (summed c .before)))
+
+add-four-at : tie.Need-add-four-at
+add-four-at c = search needs
+
+four-at-requires : tie.Need-four-at-requires
+four-at-requires c κs = search needs
+
+add-four-at-2 : tie.Need-add-four-at-2
+add-four-at-2 c = search needs
+
+four-at-requires-2 : tie.Need-four-at-requires-2
+four-at-requires-2 c κs = search needs
+
+four-at-requires-3 : tie.Need-four-at-requires-3
+four-at-requires-3 c κs = search needs
+
+sums-requires : tie.Need-sums-requires
+sums-requires c κs =
+    let y = second-read c in
+    let x = first-read y in
+    let a = start x in
+    four-fit (a .args .b) (a .args .e) (a .args .g) (a .args .from) (a .args .t .now) (a .pre .0) (a .pre .1) (c .four-at3 .result) (c .four-at3 .ensures) (x .four-at .result) (x .four-at .ensures)
+
+put-four-requires : tie.Need-put-four-requires
+put-four-requires c κs = search needs
+
+add-put-four : tie.Need-add-put-four
+add-put-four c = search needs
+
+put-four-requires-2 : tie.Need-put-four-requires-2
+put-four-requires-2 c κs = search needs
+
+add-put-four-2 : tie.Need-add-put-four-2
+add-put-four-2 c =
+    let a = begun (first-put (c .before .before .before)) in
+    record { fits = omega (arith, a .pre .0 .e-g, a .pre .0 .room) }
+
+put-four-requires-3 : tie.Need-put-four-requires-3
+put-four-requires-3 c κs =
+    let u = c .before .before .before in
+    let v = first-put u in
+    let a = begun v in
+    omega (arith, a .pre .0 .e-g, a .pre .0 .room, u .put-four2 .kept .0, v .put-four .kept .0)
+
+add-put-four-3 : tie.Need-add-put-four-3
+add-put-four-3 c =
+    let a = begun (first-put (second-put (c .before .before .before))) in
+    record { fits = omega (arith, a .pre .0 .room) }
+
+put-four-requires-4 : tie.Need-put-four-requires-4
+put-four-requires-4 c κs =
+    let u = c .before .before .before in
+    let v = second-put u in
+    let r = first-put v in
+    let a = begun r in
+    omega (arith, a .pre .0 .room, u .put-four3 .kept .0, v .put-four2 .kept .0, r .put-four .kept .0)
 
 same-length : tie.Need-same-length
 same-length c = search needs
 
 returns : tie.Need-returns
 returns c =
-    let r = c .before .before in
-    let a = r .before .before .before .before in
-    taken-same (a .args .w) (a .args .from + 4) (λ i f s w. (s, s)) (λ i f s w. (w, omega arith)) (r .take-rows .ensures)
-
-take-rows-requires-2 : tie.Need-take-rows-requires-2
-take-rows-requires-2 c κs = search needs
-
-same-length-2 : tie.Need-same-length-2
-same-length-2 c = search needs
-
-returns-2 : tie.Need-returns-2
-returns-2 c =
-    let r = c .before .before in
-    let a = r .before .before .before .before in
-    taken-same (a .args .w) (a .args .from + 4) (λ i f s w. (w, w)) (λ i f s w. (omega arith, w)) (r .take-rows2 .ensures)
+    let u = c .before .before in
+    let v = third-put u in
+    let r = second-put v in
+    let o = first-put r in
+    let s = summed o in
+    let p = s .before in
+    let y = second-read p in
+    let x = first-read y in
+    let a = start x in
+    taken-so (a .args .b) (a .args .e) (a .args .g) (a .args .from) (a .args .t .now) (a .pre .0) (p .four-at3 .result) (p .four-at3 .ensures) (x .four-at .result) (x .four-at .ensures) (y .four-at2 .result) (y .four-at2 .ensures) (s .sums .result) (s .sums .ensures) (o .put-four .last .0) (o .put-four .ensures) (r .put-four2 .last .0) (r .put-four2 .ensures) (v .put-four3 .last .0) (v .put-four3 .ensures) (u .put-four4 .last .0) (u .put-four4 .ensures)
 
 pub take-four-spec : {M : Type 1} → statement M
 take-four-spec =
     tie.close
     (tie.spec
-    add-if1
-    add-take-rows
-    take-rows-requires
+    add-four-at
+    four-at-requires
+    add-four-at-2
+    four-at-requires-2
+    four-at-requires-3
+    sums-requires
+    put-four-requires
+    add-put-four
+    put-four-requires-2
+    add-put-four-2
+    put-four-requires-3
+    add-put-four-3
+    put-four-requires-4
     same-length
-    returns
-    take-rows-requires-2
-    same-length-2
-    returns-2)
+    returns)

@@ -37,11 +37,11 @@ cast-c c = omega (arith, here c)
 add-c : tie.Need-add-c Inv-loop μ-loop
 add-c c = record { fits = omega (arith, here c) }
 
-mul-take-four : tie.Need-mul-take-four Inv-loop μ-loop
-mul-take-four c = omega (arith, here (c .before))
+mul-take-next : tie.Need-mul-take-next Inv-loop μ-loop
+mul-take-next c = omega (arith, here (c .before))
 
-take-four-requires : tie.Need-take-four-requires Inv-loop μ-loop
-take-four-requires c κs =
+take-next-requires : tie.Need-take-next-requires Inv-loop μ-loop
+take-next-requires c κs =
     let i = c .before in
     let a = i .before .before .before in
     let l = i .before .loop in
@@ -71,8 +71,8 @@ loop-again c =
     let l = i .before .loop in
     let p = a .pre .1 .1 in (
       farther (a .args .word) (l .c) (l .left) (l .inv .0) (trailingZeros 64 (l .left)),
-      r .take-four .kept .0 ∙ l .inv .1,
-      take-on (a .args .word) (l .c) (l .left) (l .inv .0) (a .pre .0) (p .0) (p .1 .0) (p .1 .1) (l .t) (l .inv .1) (l .inv .2) (r .take-four .last .0) (r .take-four .ensures),
+      r .take-next .kept .0 ∙ l .inv .1,
+      take-on (a .args .word) (l .c) (l .left) (l .inv .0) (a .pre .0) (p .0) (p .1 .0) (p .1 .1) (l .t) (l .inv .1) (l .inv .2) (r .take-next .last .0) (r .take-next .ensures),
     )
 
 same-length : tie.Need-same-length Inv-loop μ-loop
@@ -94,8 +94,8 @@ take-fours-spec =
     loop-holds
     cast-c
     add-c
-    mul-take-four
-    take-four-requires
+    mul-take-next
+    take-next-requires
     cast-left
     shr-left
     add-c-2

@@ -1,10 +1,10 @@
--- `tables::clear_four` meets its contract: four rows, or those that are left.
+-- `tables::clear_next` meets its contract: four rows, or those that are left.
 use Prim.Native.Nat.{_+_}
 use native.Mathlib.Omega.{arith}
 use Rattle.tables.proofs.Loops.{cleared-same}
 use borrow.Author.Needs.{needs}
-use Rattle.tables.proofs.clear_four.Statement.{statement}
-use Rattle.tables.proofs.clear_four.Tie as tie
+use Rattle.tables.proofs.clear_next.Statement.{statement}
+use Rattle.tables.proofs.clear_next.Tie as tie
 
 add-if1 : tie.Need-add-if1
 add-if1 c = search needs
@@ -36,8 +36,8 @@ returns-2 c =
     let a = r .before .before .before .before in
     cleared-same (a .args .w) (a .args .from + 4) (λ i f s w. (w, w)) (λ i f s w. (omega arith, w)) (r .clear-rows2 .ensures)
 
-pub clear-four-spec : {M : Type 1} → statement M
-clear-four-spec =
+pub clear-next-spec : {M : Type 1} → statement M
+clear-next-spec =
     tie.close
     (tie.spec
     add-if1
