@@ -6,7 +6,7 @@ use Prim.Native.String as string
 use mathlib.Core.List.{List, [], _∷_, _++_, flatMap}
 use mathlib.Core.Path.{_≡_, refl}
 use Rattle.report.specs.Rows.{lineOf}
-use Rattle.report.specs.Report.{text}
+use Rattle.report.specs.Report.{fullText}
 use Rattle.report.specs.Refusal.{refusalText}
 
 -- the characters of a text
@@ -18,7 +18,7 @@ codes (string._∷_ c s) = code c ∷ codes s
 abbrev rows : List ℕ
 rows = 1 ∷ 10 ∷ 9 ∷ 2 ∷ 2 ∷ 1 ∷ 8 ∷ 7 ∷ 1 ∷ 0 ∷ 1 ∷ 7 ∷ 7 ∷ 7 ∷ 7 ∷ []
 
-case-I : text rows 2 ≡
+case-I : fullText rows 2 ≡
     codes "00000000000000000001000000000000000a000000000000000900000000000000020000000000000002\n"
     ++ codes "000100000000000000010000000000000008000000000000000700000000000000010000000000000000\n"
     ++ codes "000200000000000000010000000000000007000000000000000700000000000000070000000000000007\n"

@@ -4,4 +4,5 @@ pub mod Lines
 mod Examples
 pub mod Decisions
 pub mod Laying
+pub mod Choice
 pub mod ReadBack
