@@ -6,3 +6,4 @@ pub mod Decisions
 pub mod Laying
 pub mod Choice
 pub mod ReadBack
+pub mod Printed

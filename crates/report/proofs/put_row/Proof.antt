@@ -79,8 +79,8 @@ returns-2 c =
     let p = c .before .before .put-line in
     let rows = a .rows .now in
     lays-line (a .idle) rows (a .row) (a .at) (a .out .now) (p .last .0) (c .before .before .before .before .before .before .before .before .before .before .pre .0 .1) (c .before .before .before .before .before .before .before .before .before .before .pre .1)
-        (sym (not-false _ (c .before .before .before .before .before .before .if1 .left)) ∙ c .before .before .before .before .before .before .before .is-printed .ensures)
-        (p .ensures ∙ c .before .before .before .before .report-line .ensures .1 ∙ ap (λ (k : ℕ). lineOf (a .row) (midOf (columns * a .row) k rows)) (add-sub-cancel-left (columns * a .row) columns))
+    (sym (not-false _ (c .before .before .before .before .before .before .if1 .left)) ∙ c .before .before .before .before .before .before .before .is-printed .ensures)
+    (p .ensures ∙ c .before .before .before .before .report-line .ensures .1 ∙ ap (λ (k : ℕ). lineOf (a .row) (midOf (columns * a .row) k rows)) (add-sub-cancel-left (columns * a .row) columns))
 
 pub put-row-spec : {M : Type 1} → statement M
 put-row-spec =

@@ -51,7 +51,7 @@ returns-4 c =
     let s = pieces (a .idle) (a .rows .now) (a .count + 1) in
     let long : length s ≡ p .result = sym (p .ensures .ends ∙ zero-add (length s)) in
     written s (a .out .now) _ (p .result) (report-text (a .rows .now) (a .count) _ _ (length (a .out .now)) (c .before .before .before .before .before .before .before .if1 .left) (c .before .before .before .before .before .before .if2 .left) (omega (arith, size, c .before .before .before .before .if3 .left))) long
-        (p .ensures .left ∙ laid-front s (a .out .now) ∙ ap (λ (k : ℕ). s ++ drop k (a .out .now)) long)
+    (p .ensures .left ∙ laid-front s (a .out .now) ∙ ap (λ (k : ℕ). s ++ drop k (a .out .now)) long)
 
 pub write-spec : {M : Type 1} → statement M
 write-spec =
