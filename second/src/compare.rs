@@ -8,6 +8,7 @@ pub mod forecasts;
 pub mod gain;
 pub mod generate;
 pub mod moves;
+pub mod reports;
 pub mod rng;
 pub mod shapes;
 pub mod sheets;
@@ -46,5 +47,5 @@ pub fn compare(
 
 /// The laws of what a case asks that a program does not keep.
 pub fn broken(case: &Case, library: &dyn Library) -> Vec<&'static str> {
-    [gain::broken(case, library), moves::broken(case, library)].concat()
+    [gain::broken(case, library), moves::broken(case, library), reports::broken(case, library)].concat()
 }

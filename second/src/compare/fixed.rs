@@ -1,9 +1,10 @@
 //! The traces that the rules name: the twelve, and the further ones that are to be run and compared; traces whose sites call
 //! themselves; the texts that tell good comma-separated text from any other; the lists that tell a name from none; the
-//! forecast entries that tell a good list from any other; traces whose lines say nothing; and costs that move the span.
+//! forecast entries that tell a good list from any other; traces whose lines say nothing; costs that move the span; and rows
+//! with and without calls.
 
 use super::case::{Case, Question, Spare};
-use super::{compacts, forecasts, moves, sheets, stacks};
+use super::{compacts, forecasts, moves, reports, sheets, stacks};
 use crate::check::{Limits, MOST_LINES};
 use crate::refusal::{Ground, Refusal};
 use crate::rows::Row;
@@ -217,7 +218,7 @@ pub fn cases() -> Vec<Case> {
     let question =
         |(trace, limits): (Trace, Limits)| Question::Engines { trace: trace.chars, limits, spare: Spare::default() };
     let traces = twelve.chain(further).chain(recursive).map(|pair| Case { question: question(pair), rubbish: 1 });
-    let texts = sheets::cases().into_iter().chain(stacks::cases());
+    let texts = sheets::cases().into_iter().chain(reports::cases()).chain(stacks::cases());
     traces.chain(texts).chain(forecasts::cases()).chain(compacts::cases()).chain(moves::cases()).collect()
 }
 
