@@ -81,7 +81,7 @@ static int with(const nyo_entry *entries, size_t n) {
     Profile p;
     uint64_t written = 0, given = forecast(&p, entries, n);
     if (given) return refuse(given);
-    nyo_report(p.rows, sizeof p.rows / 8, p.answer[2], out, sizeof out, &written, 1);
+    nyo_full_report(p.rows, sizeof p.rows / 8, p.answer[2], out, sizeof out, &written, 1);
     fwrite(out, 1, written, stdout);
     printed(DONE);
     fprintf(stderr, "forecast: work %" PRIu64 ", span %" PRIu64 "\n", p.answer[0], p.answer[1]);

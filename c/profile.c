@@ -1,6 +1,7 @@
-/* profile [-d DEPTH] [-s SITES] [FILE]: prints the report of a trace, and on standard error a summary with the chosen
- * chain. Without FILE it reads standard input. The limits are 32 and 31 if not said, at most 64 and 255. Ends with
- * status 0 for a report, 1 for a refusal, 2 for wrong usage, 3 where input or output failed. */
+/* profile [-d DEPTH] [-s SITES] [-i] [FILE]: prints the full report of a trace, with -i without the rows of sites that were
+ * not called, and on standard error a summary with the chosen chain. Without FILE it reads standard input. The limits are 32
+ * and 31 if not said, at most 64 and 255. Ends with status 0 for a report, 1 for a refusal, 2 for wrong usage, 3 where input
+ * or output failed. */
 #include <errno.h>
 #include <inttypes.h>
 #include <stdio.h>
@@ -17,7 +18,7 @@ static void fail(const char *what) {
 }
 
 static void misuse(const char *word, const char *fault) {
-    fprintf(stderr, "profile: %s: %s\nusage: profile [-d DEPTH] [-s SITES] [FILE]\n", word, fault);
+    fprintf(stderr, "profile: %s: %s\nusage: profile [-d DEPTH] [-s SITES] [-i] [FILE]\n", word, fault);
     exit(MISUSED);
 }
 
@@ -75,12 +76,12 @@ static int refuse(uint64_t answer) {
     return REFUSED;
 }
 
-/* Prints the rows of an accepted trace, then what is on its chosen chain. */
-static void show(const uint64_t *rows, const uint64_t *answer, const uint8_t *marks) {
+/* Prints the rows of an accepted trace, idle ones too unless they are left off, then what is on its chosen chain. */
+static void show(const uint64_t *rows, int idle, const uint64_t *answer, const uint8_t *marks) {
     size_t most = NYO_REPORT_CHARS(answer[2]);
     uint8_t *text = room(most, 1);
     uint64_t written = 0;
-    nyo_report(rows, NYO_ROWS(answer[2]), answer[2], text, most, &written, 1);
+    (idle ? nyo_full_report : nyo_report)(rows, NYO_ROWS(answer[2]), answer[2], text, most, &written, 1);
     print(text, written);
     free(text);
     fprintf(stderr, "work %" PRIu64 ", span %" PRIu64 ", %" PRIu64 " sites, %" PRIu64 " lines; on the chosen chain:",
@@ -102,11 +103,14 @@ int main(int argc, char **argv) {
     uint64_t depth = 32, sites = 31, answer[NYO_ANSWER];
     const char *name = "standard input";
     FILE *file = stdin;
+    int idle = 1;
     for (int i = 1; i < argc; i++) {
         if (!strcmp(argv[i], "-d"))
             depth = limit("-d", argv[i + 1]), i++;
         else if (!strcmp(argv[i], "-s"))
             sites = limit("-s", argv[i + 1]), i++;
+        else if (!strcmp(argv[i], "-i"))
+            idle = 0;
         else if (argv[i][0] == '-')
             misuse(argv[i], "no such flag");
         else if (file != stdin)
@@ -126,7 +130,7 @@ int main(int argc, char **argv) {
     if (given)
         status = refuse(given);
     else
-        show(rows, answer, marks);
+        show(rows, idle, answer, marks);
     free(trace), free(scratch), free(rows), free(marks);
     return status;
 }

@@ -61,6 +61,10 @@ tried 0 '^work 10, span 9, 2 sites, 10 lines; on the chosen chain: 4 8$' '$profi
 tried 0 '^work 10, span 9' '$profile -d 64 -s 255 examples/case-i.trace'
 shown on-the-way.trace >"$wanted"
 tried 0 '^work 22, span 17, 4 sites, 21 lines; on the chosen chain: 0 3 5 8 10 19$' '$profile examples/on-the-way.trace'
+shown proxy.trace | grep -v '^0008' >"$wanted"
+tried 0 '^work 36140, span 11435, 8 sites' '$profile -i examples/proxy.trace'
+shown case-g.trace >"$wanted"
+tried 0 '^work 22, span 11, 2 sites' '$profile -i examples/case-g.trace'
 echo ff0100000000 >"$wanted"
 tried 1 'refusal 1, line 0: ' '$profile -d 65 examples/case-i.trace'
 tried 1 'refusal 1, line 0: ' '$profile -d 0 examples/case-i.trace'

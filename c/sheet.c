@@ -49,7 +49,7 @@ static int write_sheet(const char *name) {
 static int read_sheet(const char *name, uint64_t sites) {
     uint64_t count = 0, written = 0;
     uint64_t given = nyo_csv_read(text, read_all(name), rows, NYO_ROWS(sites), &count, 1);
-    if (!given) given = nyo_report(rows, NYO_ROWS(sites), count, out, sizeof out, &written, 1);
+    if (!given) given = nyo_full_report(rows, NYO_ROWS(sites), count, out, sizeof out, &written, 1);
     return print(given, written);
 }
 

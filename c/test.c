@@ -169,22 +169,56 @@ static const char case_i_report[] =
     "000100000000000000010000000000000008000000000000000700000000000000010000000000000000\n"
     "000200000000000000010000000000000007000000000000000700000000000000070000000000000007\n";
 
-static uint64_t report(size_t n, uint64_t count, size_t room, size_t count_room) {
+/* Case K: row 2 was not called. */
+static const char case_k_report[] =
+    "000000000000000000010000000000000003000000000000000300000000000000000000000000000000\n"
+    "000100000000000000020000000000000003000000000000000300000000000000030000000000000003\n"
+    "000200000000000000000000000000000000000000000000000000000000000000000000000000000000\n";
+
+/* Row 0 without calls, an idle row whose other numbers are not zero, and a row with calls alone. */
+static const uint64_t idle_rows[] = {0, 1, 2, 3, 4, 0, 5, 6, 7, 8, UINT64_C(1) << 63, 0, 0, 0, 0};
+
+static const char idle_report[] =
+    "000000000000000000000000000000000001000000000000000200000000000000030000000000000004\n"
+    "000280000000000000000000000000000000000000000000000000000000000000000000000000000000\n";
+
+typedef uint64_t report_writer(const uint64_t *, size_t, uint64_t, uint8_t *, size_t, uint64_t *, size_t);
+
+static uint64_t report(report_writer *writer, const uint64_t *numbers, size_t n, uint64_t count, size_t room, size_t count_room) {
     uint8_t *text = lend_chars(&out, room);
     uint64_t *to = lend_numbers(&written, count_room);
-    return nyo_report(case_i_rows, n, count, text, room, to, count_room);
+    return writer(numbers, n, count, text, room, to, count_room);
+}
+
+/* So many characters of a text were written, and counted. */
+static int wrote(const char *text, uint64_t n) { return chars_are(&out, text, n) && numbers_are(&written, &n, 1); }
+
+/* Where every row was called both writers write the same. */
+static void reports_are_written_by(report_writer *writer) {
+    CHECK(report(writer, case_i_rows, 15, 2, 255, 1) == 0 && wrote(case_i_report, 255));
+    CHECK(report(writer, case_i_rows, 15, 0, 300, 3) == 0 && wrote(case_i_report, 85));
+    CHECK(report(writer, case_i_rows, 15, 256, 0, 0) == 1 && nothing_written());
+    CHECK(report(writer, case_i_rows, 15, UINT64_MAX, 255, 1) == 1 && nothing_written());
+    CHECK(report(writer, case_i_rows, 14, 2, 255, 1) == 4 && nothing_written());
+    CHECK(report(writer, case_i_rows, 15, 2, 254, 1) == 4 && nothing_written());
+    CHECK(report(writer, case_i_rows, 15, 2, 255, 0) == 4 && nothing_written());
+    CHECK(report(writer, case_i_rows, 14, 2, 0, 0) == 4 && nothing_written());
 }
 
 static void reports_are_written(void) {
-    CHECK(report(15, 2, 255, 1) == 0);
-    CHECK(chars_are(&out, case_i_report, 255) && numbers_are(&written, (const uint64_t[]){255}, 1));
-    CHECK(report(15, 0, 300, 3) == 0);
-    CHECK(chars_are(&out, case_i_report, 85) && numbers_are(&written, (const uint64_t[]){85}, 1));
-    CHECK(report(15, 256, 0, 0) == 1 && nothing_written());
-    CHECK(report(15, UINT64_MAX, 255, 1) == 1 && nothing_written());
-    CHECK(report(14, 2, 255, 1) == 4 && nothing_written());
-    CHECK(report(15, 2, 254, 1) == 4 && nothing_written());
-    CHECK(report(15, 2, 255, 0) == 4 && nothing_written());
+    reports_are_written_by(nyo_report);
+    reports_are_written_by(nyo_full_report);
+    CHECK(NYO_REPORT_CHARS(2) == 255);
+    CHECK(report(nyo_full_report, case_k_rows, 15, 2, 255, 1) == 0 && wrote(case_k_report, 255));
+    CHECK(report(nyo_full_report, case_k_rows, 15, 2, 254, 1) == 4 && nothing_written());
+    CHECK(report(nyo_report, case_k_rows, 15, 2, 170, 1) == 0 && wrote(case_k_report, 170));
+    CHECK(report(nyo_report, case_k_rows, 15, 2, 255, 1) == 0 && wrote(case_k_report, 170));
+    CHECK(report(nyo_report, case_k_rows, 15, 2, 169, 1) == 4 && nothing_written());
+    CHECK(report(nyo_report, case_k_rows, 14, 2, 170, 1) == 4 && nothing_written());
+    CHECK(report(nyo_report, case_k_rows, 15, 2, 170, 0) == 4 && nothing_written());
+    CHECK(report(nyo_report, idle_rows, 15, 2, 200, 1) == 0 && wrote(idle_report, 170));
+    CHECK(report(nyo_report, idle_rows, 10, 1, 85, 1) == 0 && wrote(idle_report, 85));
+    CHECK(report(nyo_report, idle_rows, 10, 1, 84, 1) == 4 && nothing_written());
 }
 
 static uint64_t refusal(uint64_t number, uint64_t line, size_t room, size_t count_room) {

@@ -29,6 +29,9 @@ static void count(unsigned kind, uint64_t how) {
     seen[(kind * 64 + size) % sizeof seen] = 1;
 }
 
+/* The length of an input's head. */
+enum { HEAD = 48 };
+
 /* The input, byte by byte; zeros behind its end. */
 typedef struct {
     const uint8_t *at, *end;
@@ -274,22 +277,35 @@ static void print_refusal(uint64_t number, uint64_t line, Input *in) {
     }
 }
 
-static void print_report(const uint64_t *rows, size_t rows_len, uint64_t sites, Input *in) {
-    Room out = lend(&of_out, enough(NYO_REPORT_CHARS(sites), 1, in), in), written = lend(&of_written, enough(1, 8, in), in);
-    uint64_t given = nyo_report(rows, rows_len, sites, out.at, out.bytes, numbers(&written), written.bytes / 8);
-    count(4, given);
-    if (given) {
+/* The report of some rows by the C library, the full one or without idle rows, and its length. */
+static size_t expected_report(char *text, const uint64_t *rows, uint64_t sites, int full) {
+    size_t n = 0;
+    for (size_t row = 0; row <= sites; row++, rows += NYO_COLUMNS) {
+        if (row > 0 && !full && rows[NYO_CALLS] == 0) continue;
+        n += (size_t)sprintf(text + n, "%04zx", row);
+        for (size_t k = 0; k < NYO_COLUMNS; k++) n += (size_t)sprintf(text + n, "%016llx", (unsigned long long)rows[k]);
+        text[n++] = '\n';
+    }
+    return n;
+}
+
+/* One of the two reports of some rows, of which the last number may be missing. */
+static void print_report(const uint64_t *rows, uint64_t sites, int full, Input *in) {
+    static char expected[NYO_REPORT_CHARS(NYO_MOST_SITES) + 1];
+    size_t len = expected_report(expected, rows, sites, full);
+    Room lent = lend(&of_rows, enough(NYO_ROWS(sites), 8, in), in);
+    memcpy(lent.at, rows, lent.bytes);
+    Room out = lend(&of_out, enough(len, 1, in), in), written = lend(&of_written, enough(1, 8, in), in);
+    uint64_t given = (full ? nyo_full_report : nyo_report)(numbers(&lent), lent.bytes / 8, sites, out.at, out.bytes,
+                                                           numbers(&written), written.bytes / 8);
+    count(full ? 4 : 39, given);
+    MUST(!memcmp(lent.at, rows, lent.bytes) && len <= NYO_REPORT_CHARS(sites));
+    if (lent.bytes < 8 * NYO_ROWS(sites) || out.bytes < len || written.bytes < 8) {
         MUST(given == 4 && kept_from(&out, 0) && kept_from(&written, 0));
         return;
     }
-    char line[NYO_ROW_CHARS + 1];
-    for (size_t row = 0; row <= sites; row++, rows += NYO_COLUMNS) {
-        char *to = line + sprintf(line, "%04zx", row);
-        for (size_t k = 0; k < NYO_COLUMNS; k++) to += sprintf(to, "%016llx", (unsigned long long)rows[k]);
-        *to = '\n';
-        MUST(!memcmp(out.at + row * NYO_ROW_CHARS, line, NYO_ROW_CHARS));
-    }
-    MUST(numbers(&written)[0] == NYO_REPORT_CHARS(sites) && kept_from(&written, 8) && kept_from(&out, NYO_REPORT_CHARS(sites)));
+    MUST(!given && numbers(&written)[0] == len && kept_from(&written, 8));
+    MUST(!memcmp(out.at, expected, len) && kept_from(&out, len));
 }
 
 /* The rows as comma-separated text, by the C library. */
@@ -679,7 +695,7 @@ static void profile(const Room *trace, Input *lists, Input *in) {
         columns_add_up(first_rows, first_answer);
         count(32, first_answer[0] - first_answer[1]);
         count(33, first_answer[2]);
-        print_report(first_rows, NYO_ROWS(first_answer[2]), first_answer[2], in);
+        for (int full = 0; full < 2; full++) print_report(first_rows, first_answer[2], full, in);
         sheet(first_rows, NYO_ROWS(first_answer[2]), first_answer[2], in);
     }
 
@@ -715,7 +731,7 @@ static void profile(const Room *trace, Input *lists, Input *in) {
 int LLVMFuzzerTestOneInput(const uint8_t *data, size_t size) {
     static Trace written;
     if (!of_trace.first) reserve();
-    Input head = {data, data + (size < 40 ? size : 40)}, body = {head.end, data + size};
+    Input head = {data, data + (size < HEAD ? size : HEAD)}, body = {head.end, data + size};
     put_trace(&written, &body);
     Room trace = lend(&of_trace, written.len, &head);
     memcpy(trace.at, written.chars, written.len);

@@ -12,7 +12,7 @@
 
 int LLVMFuzzerTestOneInput(const uint8_t *data, size_t size);
 
-enum { HEAD = 40, MOST = 4096 };
+enum { HEAD = 48, MOST = 4096 };
 
 static uint8_t input[MOST];
 static size_t length;

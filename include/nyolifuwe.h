@@ -67,8 +67,11 @@ enum { NYO_CALLS, NYO_WORK, NYO_SPAN, NYO_LOCAL, NYO_ON_SPAN };
 #define NYO_TABLES_SCRATCH(depth, sites) (4 * (size_t)(depth) * ((size_t)(sites) + 3))
 #define NYO_MARKS_SCRATCH(depth) (8 * (size_t)(depth))
 #define NYO_ROWS(sites) (NYO_COLUMNS * ((size_t)(sites) + 1))
-#define NYO_REPORT_CHARS(count) (NYO_ROW_CHARS * ((size_t)(count) + 1))
 #define NYO_FOLDED_SCRATCH(depth) ((size_t)(depth))
+
+/* Characters of the full report of count sites, and at most of the one without idle rows, which has NYO_ROW_CHARS for each
+ * row printed. */
+#define NYO_REPORT_CHARS(count) (NYO_ROW_CHARS * ((size_t)(count) + 1))
 
 /* Characters of comma-separated text: of its header, of a record at most (numbers of 20 digits, each with a comma or CR
  * behind it, and a LF), and of the text of count sites at most. */
@@ -163,13 +166,25 @@ uint64_t nyo_read_line(const uint8_t *line, size_t line_len, uint64_t *frame, si
 uint64_t nyo_write_line(const uint64_t *frame, size_t frame_len, uint8_t *out, size_t out_len, uint64_t *written,
                         size_t written_len);
 
-/* Writes the report of the root and count sites: of each row a line, and into written[0] how many characters they are.
+/* Writes the report of the root and count sites without idle rows: of row 0 and of each row with calls above zero, in order, a
+ * line, and into written[0] how many characters they are. A line is its row in 4 digits, its five numbers in 16 digits each
+ * and a line feed, in hexadecimal with small letters.
+ *   rows     NYO_ROWS(count)
+ *   out      NYO_ROW_CHARS for each row printed; NYO_REPORT_CHARS(count) is always enough
+ *   written  1
+ * Refusals, each with line 0: 1 for a count above 255, then 4; rows that are too short are not looked at.
+ * A caller that counts on a line for every row, or finds a row by its place in the text, must call nyo_full_report: it takes
+ * the same arguments, and what it writes is what this function wrote before it left idle rows off. */
+uint64_t nyo_report(const uint64_t *rows, size_t rows_len, uint64_t count, uint8_t *out, size_t out_len,
+                    uint64_t *written, size_t written_len);
+
+/* Writes the full report of the root and count sites: of every row, called or not, such a line.
  *   rows     NYO_ROWS(count)
  *   out      NYO_REPORT_CHARS(count)
  *   written  1
  * Refusals, each with line 0: 1 for a count above 255, then 4. */
-uint64_t nyo_report(const uint64_t *rows, size_t rows_len, uint64_t count, uint8_t *out, size_t out_len,
-                    uint64_t *written, size_t written_len);
+uint64_t nyo_full_report(const uint64_t *rows, size_t rows_len, uint64_t count, uint8_t *out, size_t out_len,
+                         uint64_t *written, size_t written_len);
 
 /* Writes a refusal as the report program prints it: ff, its number in 2 digits, its line in 8, a line feed.
  *   out      NYO_REFUSAL_CHARS

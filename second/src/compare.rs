@@ -9,6 +9,7 @@ pub mod gain;
 pub mod generate;
 pub mod moves;
 pub mod on_the_way;
+pub mod reports;
 pub mod rng;
 pub mod shapes;
 pub mod sheets;
@@ -48,5 +49,5 @@ pub fn compare(
 
 /// The laws of what a case asks that a program does not keep.
 pub fn broken(case: &Case, library: &dyn Library) -> Vec<&'static str> {
-    [gain::broken(case, library), moves::broken(case, library)].concat()
+    [gain::broken(case, library), moves::broken(case, library), reports::broken(case, library)].concat()
 }

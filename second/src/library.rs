@@ -58,8 +58,10 @@ pub trait Library {
     fn read_line(&self, line: &[u8], frame: &mut [u64]) -> u64;
     /// The line writer.
     fn write_line(&self, frame: &[u64], out: &mut [u8], written: &mut [u64]) -> u64;
-    /// The report writer.
+    /// The report writer, which leaves idle rows off.
     fn report(&self, rows: &[u64], count: u64, out: &mut [u8], written: &mut [u64]) -> u64;
+    /// The writer of the full report.
+    fn full_report(&self, rows: &[u64], count: u64, out: &mut [u8], written: &mut [u64]) -> u64;
     /// The writer of a refusal.
     fn refusal(&self, number: u64, line: u64, out: &mut [u8], written: &mut [u64]) -> u64;
     /// The writer of comma-separated text.
@@ -192,6 +194,10 @@ impl Library for Second {
 
     fn report(&self, rows: &[u64], count: u64, out: &mut [u8], written: &mut [u64]) -> u64 {
         at_0(report::report(rows, count, out.len()).and_then(|text| put_text(&text, out, written)))
+    }
+
+    fn full_report(&self, rows: &[u64], count: u64, out: &mut [u8], written: &mut [u64]) -> u64 {
+        at_0(report::full_report(rows, count, out.len()).and_then(|text| put_text(&text, out, written)))
     }
 
     fn refusal(&self, number: u64, line: u64, out: &mut [u8], written: &mut [u64]) -> u64 {

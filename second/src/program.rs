@@ -19,7 +19,8 @@ pub fn printed(input: &[u8]) -> String {
         Err(refused) => refusal(refused.number(), refused.line),
         Ok(profile) => {
             let sites = profile.answer[2];
-            report::report(profile.rows.as_flattened(), sites, usize::MAX).expect("at most 31 sites, a row for each")
+            let full = report::full_report(profile.rows.as_flattened(), sites, usize::MAX);
+            full.expect("at most 31 sites, a row for each")
         }
     }
 }

@@ -1,7 +1,7 @@
 //! The text of a report and of a refusal.
 
 use crate::refusal::Ground;
-use crate::rows::COLUMNS;
+use crate::rows::{CALLS, COLUMNS};
 
 /// The characters of a report line: row (4 digits), five numbers (16 digits each), a line feed.
 pub const ROW_CHARS: usize = 4 + 16 * COLUMNS + 1;
@@ -9,17 +9,32 @@ pub const ROW_CHARS: usize = 4 + 16 * COLUMNS + 1;
 /// The characters of a printed refusal: `ff`, number (2 digits), line (8 digits), a line feed.
 pub const REFUSAL_CHARS: usize = 13;
 
-/// The report of `count` sites from lent row numbers into `room` characters: "refusal 1 for a count above 255, then 4
-/// where rows are shorter than 5·(count+1) or output shorter than 85·(count+1)".
+/// The report of `count` sites from lent row numbers into `room` characters: "row 0 and the rows with calls above zero".
 pub fn report(numbers: &[u64], count: u64, room: usize) -> Result<String, Ground> {
+    printed(numbers, count, room, |row, numbers| row == 0 || numbers[CALLS] > 0)
+}
+
+/// The same under the name of "the old full report": "each row, 0 first".
+pub fn full_report(numbers: &[u64], count: u64, room: usize) -> Result<String, Ground> {
+    printed(numbers, count, room, |_, _| true)
+}
+
+/// The lines of the rows that are printed: "refusal 1 for a count above 255, then 4 where rows are shorter than 5·(count+1)
+/// or output shorter than" "85 characters for each row printed".
+fn printed(numbers: &[u64], count: u64, room: usize, prints: fn(usize, &[u64]) -> bool) -> Result<String, Ground> {
     if count > 255 {
         return Err(Ground::Limits);
     }
     let rows = count as usize + 1;
-    if numbers.len() < COLUMNS * rows || room < ROW_CHARS * rows {
+    if numbers.len() < COLUMNS * rows {
         return Err(Ground::Room);
     }
-    Ok(numbers.chunks(COLUMNS).take(rows).enumerate().map(|(row, numbers)| line(row, numbers)).collect())
+    let rows = numbers.chunks(COLUMNS).take(rows).enumerate().filter(|(row, numbers)| prints(*row, numbers));
+    let lines: Vec<String> = rows.map(|(row, numbers)| line(row, numbers)).collect();
+    if room < ROW_CHARS * lines.len() {
+        return Err(Ground::Room);
+    }
+    Ok(lines.concat())
 }
 
 /// "`ff`, number (2 digits), line (8 digits), line feed, also in hexadecimal", into `room` characters.
@@ -53,10 +68,27 @@ mod tests {
 
     #[test]
     fn the_count_comes_before_the_room() {
-        assert_eq!(report(&[], 256, 0), Err(Ground::Limits));
-        assert_eq!(report(&[0; 9], 1, 170), Err(Ground::Room));
-        assert_eq!(report(&[0; 10], 1, 169), Err(Ground::Room));
-        assert_eq!(report(&[0; 11], 1, 171).map(|text| text.len()), Ok(170));
+        for (of, idle) in [(report as fn(&[u64], u64, usize) -> Result<String, Ground>, 1), (full_report, 0)] {
+            assert_eq!(of(&[], 256, 0), Err(Ground::Limits));
+            assert_eq!(of(&[idle; 9], 1, 170), Err(Ground::Room));
+            assert_eq!(of(&[idle; 10], 1, 169), Err(Ground::Room));
+            assert_eq!(of(&[idle; 11], 1, 171).map(|text| text.len()), Ok(170));
+        }
+    }
+
+    #[test]
+    fn a_row_without_calls_is_left_off_and_asks_for_no_room() {
+        let rows = [1, 9, 9, 9, 9, 0, 8, 8, 8, 8, 2, 7, 7, 7, 7];
+        let full = full_report(&rows, 2, 255).expect("room enough");
+        assert_eq!(report(&rows, 2, 170), Ok([&full[..85], &full[170..]].concat()));
+        assert_eq!(report(&rows, 2, 169), Err(Ground::Room));
+        assert_eq!(full_report(&rows, 2, 254), Err(Ground::Room));
+    }
+
+    #[test]
+    fn row_0_is_always_printed() {
+        assert_eq!(report(&[0; 15], 2, 85), full_report(&[0; 5], 0, 85));
+        assert_eq!(report(&[0; 15], 2, 84), Err(Ground::Room));
     }
 
     #[test]

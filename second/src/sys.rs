@@ -81,6 +81,15 @@ extern "C" {
         written: *mut u64,
         written_len: usize,
     ) -> u64;
+    fn nyo_full_report(
+        rows: *const u64,
+        rows_len: usize,
+        count: u64,
+        out: *mut u8,
+        out_len: usize,
+        written: *mut u64,
+        written_len: usize,
+    ) -> u64;
     fn nyo_refusal(number: u64, line: u64, out: *mut u8, out_len: usize, written: *mut u64, written_len: usize) -> u64;
     fn nyo_csv_write(
         rows: *const u64,
@@ -248,6 +257,12 @@ impl Library for Proved {
         let (out_len, written_len) = (out.len(), written.len());
         let (out, written) = (out.as_mut_ptr(), written.as_mut_ptr());
         unsafe { nyo_report(rows.as_ptr(), rows.len(), count, out, out_len, written, written_len) }
+    }
+
+    fn full_report(&self, rows: &[u64], count: u64, out: &mut [u8], written: &mut [u64]) -> u64 {
+        let (out_len, written_len) = (out.len(), written.len());
+        let (out, written) = (out.as_mut_ptr(), written.as_mut_ptr());
+        unsafe { nyo_full_report(rows.as_ptr(), rows.len(), count, out, out_len, written, written_len) }
     }
 
     fn refusal(&self, number: u64, line: u64, out: &mut [u8], written: &mut [u64]) -> u64 {

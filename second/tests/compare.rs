@@ -11,7 +11,8 @@ use second::graph;
 use second::library::{Library, Second};
 use second::line::{chars, read, Kind, Line, CHARS};
 use second::refusal::{Ground, Refusal};
-use second::rows::{COLUMNS, WORK};
+use second::report;
+use second::rows::{CALLS, COLUMNS, WORK};
 use second::shape::{Invocation, Shape, Start};
 use second::trace::events;
 use std::cmp::Ordering;
@@ -182,11 +183,15 @@ type Asked = fn(trace: &[u8], entries: &[Entry]) -> (Vec<u8>, Vec<Entry>);
 struct Wrong {
     before: fn(&mut Vec<u8>),
     after: After,
+    report: Report,
     sheet: fn(&mut Vec<u8>),
     lists: fn([&[u8]; 2]) -> [Vec<u8>; 2],
     asked: Asked,
     compactor: Compactor,
 }
+
+/// The report of some rows of so many sites in some room, or the ground of refusal.
+type Report = fn(&[u64], u64, usize) -> Result<String, Ground>;
 
 /// What is left of a trace in some room, or the refusal.
 type Compactor = fn(&[u8], Limits, compact::Lent) -> Result<Vec<u8>, Refusal>;
@@ -196,6 +201,7 @@ impl Default for Wrong {
         Wrong {
             before: |_| (),
             after: |_, _, _, _, _| (),
+            report: report::report,
             sheet: |_| (),
             lists: |lists| lists.map(<[u8]>::to_vec),
             asked: |trace, entries| (trace.to_vec(), entries.to_vec()),
@@ -262,7 +268,18 @@ impl Library for Wrong {
     }
 
     fn report(&self, rows: &[u64], count: u64, out: &mut [u8], written: &mut [u64]) -> u64 {
-        Second::by_paths().report(rows, count, out, written)
+        match (self.report)(rows, count, out.len()) {
+            Ok(text) if !written.is_empty() => {
+                out[..text.len()].copy_from_slice(text.as_bytes());
+                written[0] = text.len() as u64;
+                0
+            }
+            refused => refused.err().unwrap_or(Ground::Room) as u64,
+        }
+    }
+
+    fn full_report(&self, rows: &[u64], count: u64, out: &mut [u8], written: &mut [u64]) -> u64 {
+        Second::by_paths().full_report(rows, count, out, written)
     }
 
     fn refusal(&self, number: u64, line: u64, out: &mut [u8], written: &mut [u64]) -> u64 {
@@ -413,6 +430,69 @@ fn an_answer_written_with_a_refusal() {
     };
     let told = engines_difference(&Wrong { after, ..Wrong::default() });
     assert!(told.contains("table engine's answer, number 0: second "), "{told}");
+}
+
+/// What the first difference on a report says, where the stand-in writes another without idle rows.
+fn report_difference(report: Report) -> String {
+    let told = first_difference_where(&Wrong { report, ..Wrong::default() }, |question| {
+        matches!(question, Question::Report { .. })
+    });
+    assert!(told.to_string().contains("report of "), "{told}");
+    told.to_string()
+}
+
+/// The full report's lines of the rows that are printed by some rule.
+fn printed(numbers: &[u64], count: u64, room: usize, prints: fn(usize, &[u64]) -> bool) -> Result<String, Ground> {
+    let full = report::full_report(numbers, count, usize::MAX)?;
+    let rows = numbers.chunks(COLUMNS).enumerate().zip(full.split_inclusive('\n'));
+    let text: String = rows.filter(|((row, numbers), _)| prints(*row, numbers)).map(|(_, line)| line).collect();
+    Some(text).filter(|text| text.len() <= room).ok_or(Ground::Room)
+}
+
+#[test]
+fn the_report_with_the_right_rule_is_right() {
+    let report: Report =
+        |numbers, count, room| printed(numbers, count, room, |row, numbers| row == 0 || numbers[CALLS] > 0);
+    let right = Wrong { report, ..Wrong::default() };
+    let cases = (0..5_000).map(|number| generate::case(1, number)).chain(fixed::cases());
+    let is_report = |case: &Case| matches!(case.question, Question::Report { .. });
+    let alike = |case| compare(&case, &Second::new(), &[("the stand-in", &right)]).is_none();
+    assert!(cases.filter(is_report).all(alike));
+}
+
+#[test]
+fn printing_idle_rows() {
+    let told = report_difference(report::full_report);
+    assert!(told.contains("the stand-in does not keep to: the report has the full one's lines of row 0"), "{told}");
+}
+
+#[test]
+fn asking_for_room_for_idle_rows() {
+    let told = report_difference(|numbers, count, room| {
+        report::full_report(numbers, count, room).and_then(|_| report::report(numbers, count, room))
+    });
+    assert!(told.contains("report writer: second accepted, the stand-in refused 4 at line 0"), "{told}");
+}
+
+#[test]
+fn leaving_row_0_off_where_it_has_no_calls() {
+    report_difference(|numbers, count, room| printed(numbers, count, room, |_, numbers| numbers[CALLS] > 0));
+}
+
+#[test]
+fn leaving_off_the_rows_without_work() {
+    report_difference(|numbers, count, room| {
+        printed(numbers, count, room, |row, numbers| row == 0 || numbers[WORK] > 0)
+    });
+}
+
+#[test]
+fn looking_at_calls_before_the_rows_are_long_enough() {
+    let told = report_difference(|numbers, count, room| match numbers.len() / COLUMNS {
+        whole @ 1..=255 if count < 256 => report::report(numbers, count.min(whole as u64 - 1), room),
+        _ => report::report(numbers, count, room),
+    });
+    assert!(told.contains("report writer: second refused 4 at line 0, the stand-in accepted"), "{told}");
 }
 
 /// What the first difference on a sheet says, where the stand-in reads another text than was lent.

@@ -31,6 +31,18 @@ fn every_verdict_is_reached() {
 }
 
 #[test]
+fn every_verdict_on_a_report_is_reached() {
+    for full in [false, true] {
+        let asks = |case: &Case| matches!(case.question, Question::Report { full: asked, .. } if asked == full);
+        let verdicts = verdicts((0..40_000).map(|number| generate::case(1, number)).filter(asks));
+        println!("{verdicts:?}");
+        for verdict in [0, 1, 4] {
+            assert!(verdicts.get(&verdict).is_some_and(|&times| times >= 30), "{verdict}: {verdicts:?}");
+        }
+    }
+}
+
+#[test]
 fn every_verdict_on_a_sheet_is_reached() {
     let cases = || (0..40_000).map(|number| generate::case(1, number));
     let writes = verdicts(cases().filter(|case| matches!(case.question, Question::WriteSheet { .. })));

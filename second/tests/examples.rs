@@ -122,7 +122,7 @@ fn case_i_with_site_2_halved_is_on_the_page() {
     let (rows, answer) = forecast("case-i.trace", Entry { row: 2, factor: 2 });
     assert_eq!(rows, [[1, 7, 6, 2, 2], [1, 5, 4, 1, 0], [1, 4, 4, 4, 4]]);
     assert_eq!(answer, [7, 6, 2, 10]);
-    assert!(forecasts().contains(&report::report(rows.as_flattened(), 2, 255).expect("room enough")));
+    assert!(forecasts().contains(&report::full_report(rows.as_flattened(), 2, 255).expect("room enough")));
 }
 
 #[test]

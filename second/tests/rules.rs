@@ -89,7 +89,7 @@ fn case_i_is_reported_as_the_rules_print_it() {
 000100000000000000010000000000000008000000000000000700000000000000010000000000000000
 000200000000000000010000000000000007000000000000000700000000000000070000000000000007
 ";
-    assert_eq!(report::report(profile.rows.as_flattened(), 2, 255).as_deref(), Ok(printed));
+    assert_eq!(report::full_report(profile.rows.as_flattened(), 2, 255).as_deref(), Ok(printed));
     assert_eq!(profile.marks, [0, 0, 0, 0, 1, 0, 0, 0, 1, 0]);
 }
 

@@ -14,7 +14,7 @@ const LIMITS: Limits = Limits { depth: 64, sites: 255 };
 fn printed(trace: &[u8]) -> String {
     let text = match Second::new().profile(trace, LIMITS, &LIMITS.for_tables()) {
         Err(refused) => report::refusal(refused.number(), refused.line, usize::MAX),
-        Ok(profile) => report::report(profile.rows.as_flattened(), profile.answer[2], usize::MAX),
+        Ok(profile) => report::full_report(profile.rows.as_flattened(), profile.answer[2], usize::MAX),
     };
     text.expect("room without end")
 }

@@ -19,8 +19,7 @@ use Rattle.line.proofs.Cases.{Case, long, wrongs, unlisted, listed, line-case}
 use Rattle.line.proofs.RoundTrip.{written as written-as, table-fields}
 use Rattle.report.specs.Room.{Decision, write, refuse, fitting, answer, leave, Writes}
 use Rattle.trace.specs.Rows.{columns}
-use Rattle.report.specs.Rows.{width}
-use Rattle.report.specs.Report.{text, report}
+use Rattle.report.specs.Report.{reporting}
 use Rattle.report.specs.Refusal.{refusalText, printRefusal}
 use Rattle.nyolifuwe.specs.Code.{coded, code, Gives}
 use Rattle.nyolifuwe.specs.Lines.{fieldsIn, framed, readFrame, writeFrame}
@@ -152,22 +151,22 @@ fitting-at-0 s room e = let z = ap lineOf e ∙ go (ltb room (length s)) in omeg
     go true = refl
     go false = refl
 
--- the report
-module _ (rows : List ℕ) (number room : ℕ) where
-  pub report-1 : (w : ℕ) → 255 < number → counted (report rows number room) w ≡ refuse 1 0
+-- the reports
+module _ (rows : List ℕ) (number asked : ℕ) (s : List ℕ) (room : ℕ) where
+  pub report-1 : (w : ℕ) → 255 < number → counted (reporting rows number asked s room) w ≡ refuse 1 0
   report-1 w h = simp (lt-ltb _ _ h)
 
-  pub report-4 : (w : ℕ) → number ≤ 255 → w < 1 → counted (report rows number room) w ≡ refuse 4 0
-  report-4 w h few = simp (le-ltb _ _ h) (go (ltb (length rows) (columns * (number + 1)) || ltb room (width * (number + 1))))
+  pub report-4 : (w : ℕ) → number ≤ 255 → w < 1 → counted (reporting rows number asked s room) w ≡ refuse 4 0
+  report-4 w h few = simp (le-ltb _ _ h) (go (ltb (length rows) (columns * (number + 1)) || ltb room asked))
     where
-      go : (b : Bool) → counted (cond b (refuse 4 0) (write (text rows number))) w ≡ refuse 4 0
+      go : (b : Bool) → counted (cond b (refuse 4 0) (write s)) w ≡ refuse 4 0
       go true = refl
       go false = simp (lt-ltb _ _ few)
 
-  pub report-at-0 : {r : Wrote} → r ≡ answer (report rows number room) → lineOf r ≤ 65536
-  report-at-0 e = let z = ap lineOf e ∙ go (ltb 255 number) (ltb (length rows) (columns * (number + 1)) || ltb room (width * (number + 1))) in omega arith
+  pub report-at-0 : {r : Wrote} → r ≡ answer (reporting rows number asked s room) → lineOf r ≤ 65536
+  report-at-0 e = let z = ap lineOf e ∙ go (ltb 255 number) (ltb (length rows) (columns * (number + 1)) || ltb room asked) in omega arith
     where
-      go : (a b : Bool) → lineOf (answer (cond a (refuse 1 0) (cond b (refuse 4 0) (write (text rows number))))) ≡ 0
+      go : (a b : Bool) → lineOf (answer (cond a (refuse 1 0) (cond b (refuse 4 0) (write s)))) ≡ 0
       go true b = refl
       go false true = refl
       go false false = refl

@@ -13,7 +13,7 @@ ghost use Prim.Native.Nat.{_≤_};
 ghost use mathlib.Core.List.{[], _++_};
 ghost use lib.ListN.{length, drop};
 ghost use Rattle.line.specs.Table.{fieldsOf};
-ghost use Rattle.report.specs.Report.{report};
+ghost use Rattle.report.specs.Report.{report, fullReport};
 ghost use Rattle.report.specs.Refusal.{printRefusal};
 ghost use Rattle.nyolifuwe.specs.Code.{coded, Gives};
 ghost use Rattle.nyolifuwe.specs.Lines.{numbers, readFrame, writeFrame};
@@ -153,7 +153,8 @@ pub extern "C" fn nyo_write_line(frame: &[u64], out: &mut [u8], written: &mut [u
     }
 }
 
-// Writes the report of `count` sites from their rows: its text goes to `out`, or refusal 1 or 4.
+// Writes the report of `count` sites from their rows, row 0 and those with calls above zero: its text goes to `out`, or
+// refusal 1 or 4.
 #[no_mangle]
 pub extern "C" fn nyo_report(rows: &[u64], count: u64, out: &mut [u8], written: &mut [u64]) -> u64
     ensures { λ r. ⌜ Tells
@@ -167,6 +168,30 @@ pub extern "C" fn nyo_report(rows: &[u64], count: u64, out: &mut [u8], written: 
         return 4;
     }
     tell(report::write_report(rows, count as usize, out), written)
+}
+
+// Writes the full report of `count` sites from their rows, a line a row: its text goes to `out`, or refusal 1 or 4.
+#[no_mangle]
+pub extern "C" fn nyo_full_report(
+    rows: &[u64],
+    count: u64,
+    out: &mut [u8],
+    written: &mut [u64],
+) -> u64
+    ensures { λ r. ⌜ Tells
+        (counted (fullReport (now (rows .entry)) count (length (now (out .entry)))) (length (now (written .entry)))) r
+        (now (out .entry)) (now (out .exit)) (now (written .entry)) (now (written .exit)) ⌝ }
+{
+    if 255 < count {
+        return 1;
+    }
+    if written.len() < 1 {
+        return 4;
+    }
+    tell(
+        report::write_full_report(rows, count as usize, out),
+        written,
+    )
 }
 
 // Writes a refusal's line: its text goes to `out`, or refusal 1 or 4.

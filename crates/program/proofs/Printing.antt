@@ -20,7 +20,7 @@ use Rattle.admit.proofs.Admitted.{accepted-sites}
 use Rattle.admit.proofs.Refused.{refused-line}
 use Rattle.tables.specs.Root.{lent}
 use Rattle.report.specs.Room.{Decision, write, answer, leave, Writes}
-use Rattle.report.specs.Report.{text}
+use Rattle.report.specs.Report.{fullText}
 use Rattle.report.specs.Refusal.{refusalText}
 use Rattle.program.specs.Print.{ruling, Prints, Put, Printed}
 use Rattle.program.specs.Inside.{charsOf}
@@ -66,20 +66,20 @@ module _ (s : List ℕ) {scratch rows scratch′ rows′ : List ℕ} {r : Answer
         let few-sites = accepted-sites s 32 31 (enough tables s 32 31 (lent scratch rows)) t h in
         (omega arith, omega (arith, p .when-accepted t h .rows .same-length))
 
-    pub report-prints : {k : ℕ} {before after : List ℕ} → Put (text rows′ count) k before after → Printed s k before after
+    pub report-prints : {k : ℕ} {before after : List ℕ} → Put (fullText rows′ count) k before after → Printed s k before after
     report-prints u =
         let (t, h, l) = whose in
         let q = p .when-accepted t h in
         record {
-          out = text rows′ count;
-          prints = subst (λ (v : Verdict). Prints v (text rows′ count)) (sym (ruled (accepted t) h))
+          out = fullText rows′ count;
+          prints = subst (λ (v : Verdict). Prints v (fullText rows′ count)) (sym (ruled (accepted t) h))
               (record {
                 chain = q .chain;
                 chosen = q .chosen;
                 rows = rows′;
                 enough = omega (arith, report-asks .1);
                 rows-are = q .rows .rows-are;
-                is = ap (text rows′) (sym l);
+                is = ap (fullText rows′) (sym l);
               });
           put = u;
         }

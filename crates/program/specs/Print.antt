@@ -11,7 +11,7 @@ use Rattle.trace.specs.Series.{Chosen}
 use Rattle.trace.specs.Rows.{columns}
 use Rattle.trace.specs.Refusals.{Verdict, accepted, refused, verdict}
 use Rattle.trace.specs.Promise.{Row}
-use Rattle.report.specs.Report.{text}
+use Rattle.report.specs.Report.{fullText}
 use Rattle.report.specs.Refusal.{refusalText}
 
 -- "The report program reads standard input, with D = 32, M = 31 and the table engine. Above 65,527 bytes it prints
@@ -19,14 +19,14 @@ use Rattle.report.specs.Refusal.{refusalText}
 abbrev pub ruling : List ℕ → Verdict
 ruling s = cond (ltb 65527 (length s)) (refused 3 0) (verdict s 32 31 true)
 
--- the full report of a trace: the text of its rows
+-- the full report of a trace. 02, request k: the report program, which counts on every row, asks for it by that name
 pub record Reported (t : List Frame) (out : List ℕ) : Type 0 where
   pub chain : List ℕ
   pub chosen : Chosen t chain
   pub rows : List ℕ
   pub enough : columns * (sites t + 1) ≤ length rows
   pub rows-are : (s : ℕ) → s ≤ sites t → Row t chain rows s
-  pub is : out ≡ text rows (sites t)
+  pub is : out ≡ fullText rows (sites t)
 
 -- what is printed on a verdict: the report, or the refusal
 abbrev pub Prints : Verdict → List ℕ → Type 0

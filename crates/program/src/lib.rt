@@ -6,7 +6,7 @@ ghost use mathlib.Core.Path.{_≡_};
 ghost use lib.ListN.{length};
 ghost use Rattle.trace.specs.Rows.{columns};
 ghost use Rattle.report.specs.Rows.{width};
-ghost use Rattle.report.specs.Report.{text};
+ghost use Rattle.report.specs.Report.{fullText};
 ghost use Rattle.report.specs.Refusal.{refusalText};
 ghost use Rattle.program.specs.Print.{Put, Printed};
 ghost use Rattle.program.specs.Inside.{charsOf};
@@ -44,9 +44,9 @@ fn print_refusal(number: u8, line: usize, out: &mut [u8]) -> usize
 fn print_report(rows: &[u64], count: usize, out: &mut [u8]) -> usize
     requires { ⌜ (count ≤ 31)
         × ((columns * (count + 1) ≤ length (now rows)) × (width * (count + 1) ≤ length (now out))) ⌝ }
-    ensures { λ r. ⌜ Put (text (now (rows .entry)) count) r (now (out .entry)) (now (out .exit)) ⌝ }
+    ensures { λ r. ⌜ Put (fullText (now (rows .entry)) count) r (now (out .entry)) (now (out .exit)) ⌝ }
 {
-    written(report::write_report(rows, count, out))
+    written(report::write_full_report(rows, count, out))
 }
 
 // Prints what comes of an input to the front of the output, and answers how many characters that is.

@@ -8,8 +8,7 @@ use Rattle.line.specs.declared.Wrote.{Wrote}
 use Rattle.line.specs.declared.Wrote.the-variants.{Chars, Refused}
 use Rattle.report.specs.Room.{Decision, write, refuse, fitting, answer, leave, Writes}
 use Rattle.trace.specs.Rows.{columns}
-use Rattle.report.specs.Rows.{width}
-use Rattle.report.specs.Report.{text, report}
+use Rattle.report.specs.Report.{reporting}
 use Rattle.report.specs.Refusal.{refusalText, printRefusal}
 
 -- a refusal that is given, with the room as it was
@@ -35,19 +34,19 @@ module _ (number : ℕ) (s : List ℕ) (room : ℕ) where
   pub fitting-text : length s ≤ room → fitting number s room ≡ write s
   fitting-text h = simp (le-ltb _ _ h)
 
-module _ (rows : List ℕ) (count room : ℕ) where
-  pub report-1 : 255 < count → report rows count room ≡ refuse 1 0
+module _ (rows : List ℕ) (count asked : ℕ) (s : List ℕ) (room : ℕ) where
+  pub report-1 : 255 < count → reporting rows count asked s room ≡ refuse 1 0
   report-1 h = simp (lt-ltb _ _ h)
 
   module _ (few : count ≤ 255) where
-    pub report-4-rows : length rows < columns * (count + 1) → report rows count room ≡ refuse 4 0
+    pub report-4-rows : length rows < columns * (count + 1) → reporting rows count asked s room ≡ refuse 4 0
     report-4-rows h = simp (le-ltb _ _ few, lt-ltb _ _ h)
 
     module _ (enough : columns * (count + 1) ≤ length rows) where
-      pub report-4-out : room < width * (count + 1) → report rows count room ≡ refuse 4 0
+      pub report-4-out : room < asked → reporting rows count asked s room ≡ refuse 4 0
       report-4-out h = simp (le-ltb _ _ few, le-ltb _ _ enough, lt-ltb _ _ h)
 
-      pub report-text : width * (count + 1) ≤ room → report rows count room ≡ write (text rows count)
+      pub report-text : asked ≤ room → reporting rows count asked s room ≡ write s
       report-text h = simp (le-ltb _ _ few, le-ltb _ _ enough, le-ltb _ _ h)
 
 module _ (number line room : ℕ) where

@@ -1,4 +1,4 @@
--- Case I's report as document 01 prints it, and two printed refusals, by computing. Assumes nothing.
+-- Case I's report as document 01 prints it, case B's without its idle rows, and two printed refusals, by computing. Assumes nothing.
 use Prim.Native.Nat.{ℕ}
 use Prim.Native.Char.{code}
 use Prim.Native.String.{String}
@@ -6,7 +6,7 @@ use Prim.Native.String as string
 use mathlib.Core.List.{List, [], _∷_, _++_, flatMap}
 use mathlib.Core.Path.{_≡_, refl}
 use Rattle.report.specs.Rows.{lineOf}
-use Rattle.report.specs.Report.{text}
+use Rattle.report.specs.Report.{fullText, text}
 use Rattle.report.specs.Refusal.{refusalText}
 
 -- the characters of a text
@@ -18,12 +18,20 @@ codes (string._∷_ c s) = code c ∷ codes s
 abbrev rows : List ℕ
 rows = 1 ∷ 10 ∷ 9 ∷ 2 ∷ 2 ∷ 1 ∷ 8 ∷ 7 ∷ 1 ∷ 0 ∷ 1 ∷ 7 ∷ 7 ∷ 7 ∷ 7 ∷ []
 
-case-I : text rows 2 ≡
+case-I : fullText rows 2 ≡
     codes "00000000000000000001000000000000000a000000000000000900000000000000020000000000000002\n"
     ++ codes "000100000000000000010000000000000008000000000000000700000000000000010000000000000000\n"
     ++ codes "000200000000000000010000000000000007000000000000000700000000000000070000000000000007\n"
 unfolding flatMap lineOf
 case-I = refl
+
+-- case B's rows, where neither site was called: the report leaves both off
+abbrev idle-rows : List ℕ
+idle-rows = 1 ∷ 8 ∷ 8 ∷ 8 ∷ 8 ∷ 0 ∷ 0 ∷ 0 ∷ 0 ∷ 0 ∷ 0 ∷ 0 ∷ 0 ∷ 0 ∷ 0 ∷ []
+
+case-B : text idle-rows 2 ≡ codes "000000000000000000010000000000000008000000000000000800000000000000080000000000000008\n"
+unfolding flatMap lineOf
+case-B = refl
 
 -- "14 is `0e`"
 unended : refusalText 14 10 ≡ codes "ff0e0000000a\n"

@@ -4,4 +4,6 @@ pub mod Lines
 mod Examples
 pub mod Decisions
 pub mod Laying
+pub mod Choice
 pub mod ReadBack
+pub mod Printed

@@ -55,6 +55,27 @@ first-at (suc n) k h = go (eq-or-lt-of-le (le-of-suc-le-suc h)) (first-at n k) w
   go (inl e) i = getD-at (first n) n [] 0 k (first-length n ∙ sym e) ∙ sym e
   go (inr l) i = List·getD-append (first n) (n ∷ []) 0 k (rw first-length l) ∙ i l
 
+-- pieces of the first rows: none, one more, and that one more is not too much before the end
+module _ (f : ℕ → List ℕ) where
+  pub flatMap-none : flatMap f [] ≡ []
+  unfolding flatMap
+  flatMap-none = refl
+
+  pub next-row : (n : ℕ) → flatMap f (first (n + 1)) ≡ flatMap f (first n) ++ f n
+  next-row n = ap (λ (k : ℕ). flatMap f (first k)) (add-one n) ∙ flatMap-last f (first n) n
+
+  pub fits-row : (r n : ℕ) → r < n → length (flatMap f (first r)) + length (f r) ≤ length (flatMap f (first n))
+  fits-row r zero h = absurd (omega arith)
+  fits-row r (suc n) h = go (eq-or-lt-of-le (le-of-suc-le-suc h)) (λ l. fits-row r n l)
+    where
+      all : length (flatMap f (first (suc n))) ≡ length (flatMap f (first n)) + length (f n)
+      all = ap length (flatMap-last f (first n) n) ∙ length-append (flatMap f (first n)) (f n)
+
+      go : (r ≡ n) ⊎ (r < n) → (r < n → length (flatMap f (first r)) + length (f r) ≤ length (flatMap f (first n)))
+          → length (flatMap f (first r)) + length (f r) ≤ length (flatMap f (first (suc n)))
+      go (inl e) g = omega (arith, all, ap (λ (k : ℕ). length (flatMap f (first k)) + length (f k)) e)
+      go (inr l) g = omega (arith, all, g l)
+
 -- 85 characters for each row
 lines-even : (rows : List ℕ) (n : ℕ) → columns * n ≤ length rows → Even (rowLine rows) width (first n)
 lines-even rows n h k l =
@@ -91,10 +112,3 @@ numbers-more numbers before part piece k h l e f =
     next-piece (digits 16) 16 (take k numbers) x (16 * k) part before piece done e (f ∙ ap (λ (n : ℕ). digits n x) size)
     ∙ ap (λ (xs : List ℕ). flatMap (digits 16) xs ++ drop (16 * k + 16) before) more
     ∙ ap (λ (n : ℕ). flatMap (digits 16) (take (k + 1) numbers) ++ drop n before) place
-
--- an output that begins with the lines of the first rows, and then with the line of the next one
-pub lines-more : (rows before out line : List ℕ) (row at : ℕ) → length (linesOf rows (first row)) ≡ at
-    → out ≡ linesOf rows (first row) ++ drop at before
-    → line ≡ rowLine rows row
-    → putMid at (at + width - at) out line ≡ linesOf rows (first (row + 1)) ++ drop (at + width) before
-lines-more rows before out line row at l e f = rw (add-one row) (next-piece (rowLine rows) width (first row) row at out before line l e f)

@@ -13,7 +13,7 @@ use Rattle.trace.specs.Rows.{columns}
 use Rattle.trace.specs.Column.{Column, nth, slot}
 use Rattle.trace.proofs.Slots.{nth-in, by-slots}
 use Rattle.report.specs.Rows.{numbersOf, lineOf, rowLine, width}
-use Rattle.report.specs.Report.{text}
+use Rattle.report.specs.Report.{fullText}
 use Rattle.report.specs.Refusal.{refusalText}
 use Rattle.report.proofs.Lines.{number-at, row-length, column-at, line-length, lines-length, line-at}
 
@@ -48,26 +48,26 @@ pub record Rows (rows : List ℕ) (count : ℕ) : Type 0 where
 
 module _ (rows : List ℕ) (count : ℕ) (given : Rows rows count) where
   -- 85 characters a row
-  pub text-length : length (text rows count) ≡ width * (count + 1)
+  pub text-length : length (fullText rows count) ≡ width * (count + 1)
   text-length = lines-length rows (count + 1) (given .enough)
 
   -- line r is the line of row r
-  pub line-is : (r : ℕ) → r ≤ count → lineAt (text rows count) r ≡ rowLine rows r
-  line-is r h = ap (λ (s : List ℕ). lineAt s r) (sym (append-nil (text rows count))) ∙ line-at rows [] (count + 1) r (given .enough) (omega arith)
+  pub line-is : (r : ℕ) → r ≤ count → lineAt (fullText rows count) r ≡ rowLine rows r
+  line-is r h = ap (λ (s : List ℕ). lineAt s r) (sym (append-nil (fullText rows count))) ∙ line-at rows [] (count + 1) r (given .enough) (omega arith)
 
   -- each of 85 characters
   pub line-long : (r : ℕ) → r ≤ count → length (rowLine rows r) ≡ width
   line-long r h = line-length r (numbersOf rows r) (row-length rows r (omega (arith, given .enough)))
 
   -- column k of line r is column k of row r
-  pub read-back : (r : ℕ) (k : Column) → r ≤ count → numberIn (lineAt (text rows count) r) (nth k) ≡ getD rows (slot r k) 0
+  pub read-back : (r : ℕ) (k : Column) → r ≤ count → numberIn (lineAt (fullText rows count) r) (nth k) ≡ getD rows (slot r k) 0
   read-back r k h =
       let l : length (numbersOf rows r) ≡ columns = row-length rows r (omega (arith, given .enough)) in
       ap (λ (s : List ℕ). numberIn s (nth k)) (line-is r h)
       ∙ number-in r (numbersOf rows r) (nth k) (rw l (nth-in k)) (rw (column-at rows r k) (given .small (slot r k)))
       ∙ column-at rows r k
 
-module _ (rows others : List ℕ) (count sites : ℕ) (a : Rows rows count) (b : Rows others sites) (e : text rows count ≡ text others sites) where
+module _ (rows others : List ℕ) (count sites : ℕ) (a : Rows rows count) (b : Rows others sites) (e : fullText rows count ≡ fullText others sites) where
   -- reports with the same text have as many sites
   pub same-count : count ≡ sites
   same-count = omega (arith, text-length rows count a, text-length others sites b, ap length e)
@@ -95,5 +95,5 @@ pub refusal-line : (n line : ℕ) → line ≤ 4294967295 → number (take 8 (dr
 refusal-line n line h = digits-number 8 line (omega arith)
 
 -- and is no report
-pub no-report : (rows : List ℕ) (count n line : ℕ) → Rows rows count → text rows count ≡ refusalText n line → ⊥
+pub no-report : (rows : List ℕ) (count n line : ℕ) → Rows rows count → fullText rows count ≡ refusalText n line → ⊥
 no-report rows count n line given e = omega (arith, text-length rows count given, ap length e)

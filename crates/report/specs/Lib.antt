@@ -1,4 +1,5 @@
 pub mod Room
 pub mod Rows
 pub mod Report
+pub mod Pieces
 pub mod Refusal

@@ -1,17 +1,19 @@
-// The report: a line for each row, and the line of a refusal.
+// The report: a line for each row that is printed, and the line of a refusal.
 pub mod lay;
 
 use line::Wrote;
+use trace::CALLS;
 use trace::COLUMNS;
 ghost use mathlib.Core.Path.{_≡_};
 ghost use Prim.Native.Nat.{_+_, _*_, _≤_, _<_};
-ghost use mathlib.Core.List.{_++_, flatMap};
-ghost use lib.ListN.{length, drop};
+ghost use mathlib.Core.List.{flatMap};
+ghost use lib.ListN.{length};
 ghost use Rattle.digits.specs.Digits.{digits};
-ghost use Rattle.report.specs.Room.{fitting, Writes};
+ghost use Rattle.report.specs.Room.{fitting, Writes, Lays};
 ghost use Rattle.trace.specs.Rows.{columns};
 ghost use Rattle.report.specs.Rows.{lineOf, width};
-ghost use Rattle.report.specs.Report.{first, linesOf, report};
+ghost use Rattle.report.specs.Report.{report, fullReport};
+ghost use Rattle.report.specs.Pieces.{asked, piece, pieces, decided};
 ghost use Rattle.report.specs.Refusal.{refusalText, printRefusal};
 
 // A row's line: 4 digits, 16 for each number, and a line feed.
@@ -80,39 +82,108 @@ fn put_line(part: &mut [u8], line: ReportLine)
     copy(part, &chars);
 }
 
-// Writes the lines of the first n rows to the front of the output, and answers how many characters they are.
-fn put_rows(rows: &[u64], n: usize, out: &mut [u8]) -> usize
-    requires { ⌜ (n ≤ 256) × (columns * n ≤ length (now rows)) × (width * n ≤ length (now out)) ⌝ }
-    ensures { λ r. ⌜ (r ≡ width * n)
-        × (now (out .exit) ≡ linesOf (now (rows .entry)) (first n) ++ drop (width * n) (now (out .entry))) ⌝ }
+// Whether a row is printed: row 0, a row with calls, and where idle rows are asked for every row.
+fn is_printed(rows: &[u64], row: usize, idle: bool) -> bool
+    requires { ⌜ columns * (row + 1) ≤ length (now rows) ⌝ }
+    ensures { λ r. ⌜ r ≡ asked idle (now (rows .entry)) row ⌝ }
 {
-    let mut at = 0;
-    let mut row = 0;
-    while row < n {
-        let line = report_line(row as u16, &rows[COLUMNS * row..COLUMNS * row + COLUMNS]);
-        put_line(&mut out[at..at + WIDTH], line);
-        at += WIDTH;
-        row += 1;
+    if idle {
+        return true;
     }
-    at
+    if row == 0 {
+        return true;
+    }
+    0 < rows[COLUMNS * row + CALLS]
 }
 
-// Writes a line for the root's row and for each site's, or refuses: 1 for a count above 255, then 4 for rows or
-// output too short.
-pub fn write_report(rows: &[u64], count: usize, out: &mut [u8]) -> Wrote
-    ensures { λ r. ⌜ Writes (report (now (rows .entry)) count (length (now (out .entry)))) r (now (out .entry))
+// How many characters a row takes: those of a line where it is printed.
+fn row_size(rows: &[u64], row: usize, idle: bool) -> usize
+    requires { ⌜ columns * (row + 1) ≤ length (now rows) ⌝ }
+    ensures { λ r. ⌜ (r ≡ length (piece idle (now (rows .entry)) row)) × (r ≤ width) ⌝ }
+{
+    if is_printed(rows, row, idle) {
+        return WIDTH;
+    }
+    0
+}
+
+// How many characters the first n rows take.
+fn rows_size(rows: &[u64], n: usize, idle: bool) -> usize
+    requires { ⌜ (n ≤ 256) × (columns * n ≤ length (now rows)) ⌝ }
+    ensures { λ r. ⌜ r ≡ length (pieces idle (now (rows .entry)) n) ⌝ }
+{
+    let mut size = 0;
+    let mut row = 0;
+    while row < n {
+        size += row_size(rows, row, idle);
+        row += 1;
+    }
+    size
+}
+
+// A row's line, where the row is printed, is laid into the output at a place; the answer is the place behind it.
+fn put_row(rows: &[u64], row: usize, idle: bool, out: &mut [u8], at: usize) -> usize
+    requires { ⌜ (row ≤ 255) × (columns * (row + 1) ≤ length (now rows)) ⌝ }
+    requires { ⌜ at + length (piece idle (now rows) row) ≤ length (now out) ⌝ }
+    ensures { λ r. ⌜ Lays at (piece idle (now (rows .entry)) row) (now (out .entry)) r (now (out .exit)) ⌝ }
+{
+    if !is_printed(rows, row, idle) {
+        return at;
+    }
+    let line = report_line(row as u16, &rows[COLUMNS * row..COLUMNS * row + COLUMNS]);
+    let end = at + WIDTH;
+    put_line(&mut out[at..end], line);
+    end
+}
+
+// Writes the lines of those of the first n rows that are printed to the front of the output, and answers how many
+// characters they are.
+fn put_rows(rows: &[u64], n: usize, idle: bool, out: &mut [u8]) -> usize
+    requires { ⌜ (n ≤ 256) × (columns * n ≤ length (now rows)) ⌝ }
+    requires { ⌜ length (pieces idle (now rows) n) ≤ length (now out) ⌝ }
+    ensures { λ r. ⌜ Lays 0 (pieces idle (now (rows .entry)) n) (now (out .entry)) r (now (out .exit)) ⌝ }
+{
+    let mut end = 0;
+    let mut row = 0;
+    while row < n {
+        end = put_row(rows, row, idle, out, end);
+        row += 1;
+    }
+    end
+}
+
+// Writes a line for each row that is printed, or refuses: 1 for a count above 255, then 4 for rows or output too short.
+fn write(rows: &[u64], count: usize, idle: bool, out: &mut [u8]) -> Wrote
+    ensures { λ r. ⌜ Writes (decided idle (now (rows .entry)) count (length (now (out .entry)))) r (now (out .entry))
         (now (out .exit)) ⌝ }
 {
     if 255 < count {
         return Wrote::Refused(1, 0);
     }
-    if rows.len() < COLUMNS * (count + 1) {
+    let n = count + 1;
+    if rows.len() < COLUMNS * n {
         return Wrote::Refused(4, 0);
     }
-    if out.len() < WIDTH * (count + 1) {
+    if out.len() < rows_size(rows, n, idle) {
         return Wrote::Refused(4, 0);
     }
-    Wrote::Chars(put_rows(rows, count + 1, out))
+    Wrote::Chars(put_rows(rows, n, idle, out))
+}
+
+// The report: a line for row 0 and for each row with calls above zero.
+pub fn write_report(rows: &[u64], count: usize, out: &mut [u8]) -> Wrote
+    ensures { λ r. ⌜ Writes (report (now (rows .entry)) count (length (now (out .entry)))) r (now (out .entry))
+        (now (out .exit)) ⌝ }
+{
+    write(rows, count, false, out)
+}
+
+// The full report: a line for the root's row and for each site's.
+pub fn write_full_report(rows: &[u64], count: usize, out: &mut [u8]) -> Wrote
+    ensures { λ r. ⌜ Writes (fullReport (now (rows .entry)) count (length (now (out .entry)))) r (now (out .entry))
+        (now (out .exit)) ⌝ }
+{
+    write(rows, count, true, out)
 }
 
 // A refusal's line, built whole.

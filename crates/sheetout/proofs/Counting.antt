@@ -22,20 +22,13 @@ use Rattle.sheet.specs.Text.{rowName, columnNames, names, rowFields, rowRecords
 use Rattle.sheet.specs.Text.{recordText as fieldsText}
 use Rattle.sheet.proofs.Names.{table, names-joined}
 use Rattle.sheet.proofs.Spelled.{Small, row-small, Given}
-use Rattle.report.proofs.Lines.{row-length}
+use Rattle.report.proofs.Lines.{row-length, flatMap-none, next-row}
 
 module _ (f : ℕ → List ℕ) where
-  pub flatMap-none : flatMap f [] ≡ []
-  unfolding flatMap
-  flatMap-none = refl
-
-  -- one more of a list, and of the numbers from 0 on
+  -- one more of a list
   pub next-of : (xs : List ℕ) (k : ℕ) → k < length xs → flatMap f (take (k + 1) xs) ≡ flatMap f (take k xs) ++ f (getD xs k 0)
   next-of xs k h =
       ap (flatMap f) (ap (λ (n : ℕ). take n xs) (add-one k) ∙ take-suc xs k 0 h) ∙ flatMap-last f (take k xs) (getD xs k 0)
-
-  pub next-row : (n : ℕ) → flatMap f (first (n + 1)) ≡ flatMap f (first n) ++ f n
-  next-row n = ap (λ (k : ℕ). flatMap f (first k)) (add-one n) ∙ flatMap-last f (first n) n
 
   -- a piece more is not too much before the end
   pub fits-of : (xs : List ℕ) (k : ℕ) → k < length xs
@@ -45,18 +38,6 @@ module _ (f : ℕ → List ℕ) where
   fits-of (x ∷ xs) zero h = omega (arith, length-append (f x) (flatMap f xs))
   fits-of (x ∷ xs) (suc k) h =
       omega (arith, fits-of xs k (omega arith), length-append (f x) (flatMap f xs), length-append (f x) (flatMap f (take k xs)))
-
-  pub fits-row : (r n : ℕ) → r < n → length (flatMap f (first r)) + length (f r) ≤ length (flatMap f (first n))
-  fits-row r zero h = absurd (omega arith)
-  fits-row r (suc n) h = go (eq-or-lt-of-le (le-of-suc-le-suc h)) (λ l. fits-row r n l)
-    where
-      all : length (flatMap f (first (suc n))) ≡ length (flatMap f (first n)) + length (f n)
-      all = ap length (flatMap-last f (first n) n) ∙ length-append (flatMap f (first n)) (f n)
-
-      go : (r ≡ n) ⊎ (r < n) → (r < n → length (flatMap f (first r)) + length (f r) ≤ length (flatMap f (first n)))
-          → length (flatMap f (first r)) + length (f r) ≤ length (flatMap f (first (suc n)))
-      go (inl e) g = omega (arith, all, ap (λ (k : ℕ). length (flatMap f (first k)) + length (f k)) e)
-      go (inr l) g = omega (arith, all, g l)
 
 -- the characters of numbers as they are counted
 pub record Sized (numbers : List ℕ) (size k : ℕ) : Type 0 where

@@ -24,6 +24,7 @@ pub mod Columns
 pub mod OnChain
 pub mod AtMost
 pub mod Outermost
+pub mod Idle
 pub mod Small
 pub mod Outcome
 pub mod Unseen

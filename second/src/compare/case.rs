@@ -29,8 +29,8 @@ pub enum Question {
     ReadLine { line: Vec<u8>, frame: usize },
     /// A frame, for the line writer.
     WriteLine { frame: Vec<u64>, out: usize, written: usize },
-    /// Rows, for the report writer.
-    Report { rows: Vec<u64>, count: u64, out: usize, written: usize },
+    /// Rows, for the report writer, or for the writer of the full report.
+    Report { rows: Vec<u64>, count: u64, full: bool, out: usize, written: usize },
     /// A number and a line, for the writer of a refusal.
     Refusal { number: u64, line: u64, out: usize, written: usize },
     /// Rows, for the writer of comma-separated text.
@@ -100,7 +100,9 @@ impl Case {
             }
             Question::ReadLine { line, frame } => lender.read_line(library, line, *frame),
             Question::WriteLine { frame, out, written } => lender.write_line(library, frame, [*out, *written]),
-            Question::Report { rows, count, out, written } => lender.report(library, rows, *count, [*out, *written]),
+            Question::Report { rows, count, full, out, written } => {
+                lender.report(library, rows, *count, *full, [*out, *written])
+            }
             Question::Refusal { number, line, out, written } => {
                 lender.refusal(library, [*number, *line], [*out, *written])
             }
@@ -212,12 +214,23 @@ impl Lender {
         Outcome { codes: vec![("line writer", code)], bytes: vec![out], numbers: vec![frame, written] }
     }
 
-    fn report(&mut self, library: &dyn Library, rows: &[u64], count: u64, [out, written]: [usize; 2]) -> Outcome {
+    fn report(
+        &mut self,
+        library: &dyn Library,
+        rows: &[u64],
+        count: u64,
+        full: bool,
+        [out, written]: [usize; 2],
+    ) -> Outcome {
         let mut rows = self.numbers("rows", rows.len()).holding(rows);
         let mut out = self.bytes("output", out);
         let mut written = self.numbers("count of characters", written);
-        let code = library.report(rows.lent(), count, out.lent(), written.lent());
-        Outcome { codes: vec![("report writer", code)], bytes: vec![out], numbers: vec![rows, written] }
+        let (name, code) = if full {
+            ("writer of the full report", library.full_report(rows.lent(), count, out.lent(), written.lent()))
+        } else {
+            ("report writer", library.report(rows.lent(), count, out.lent(), written.lent()))
+        };
+        Outcome { codes: vec![(name, code)], bytes: vec![out], numbers: vec![rows, written] }
     }
 
     fn refusal(&mut self, library: &dyn Library, [number, line]: [u64; 2], [out, written]: [usize; 2]) -> Outcome {

@@ -1,10 +1,10 @@
 //! The traces that the rules name: the twelve, and the further ones that are to be run and compared; traces whose sites call
 //! themselves; the texts that tell good comma-separated text from any other; the lists that tell a name from none; the
-//! forecast entries that tell a good list from any other; traces whose lines say nothing; costs that move the span; and traces
-//! with site lines on the way.
+//! forecast entries that tell a good list from any other; traces whose lines say nothing; costs that move the span; traces
+//! with site lines on the way; and rows with and without calls.
 
 use super::case::{Case, Question, Spare};
-use super::{compacts, forecasts, moves, on_the_way, sheets, stacks};
+use super::{compacts, forecasts, moves, on_the_way, reports, sheets, stacks};
 use crate::check::{Limits, MOST_LINES};
 use crate::refusal::{Ground, Refusal};
 use crate::rows::Row;
@@ -225,6 +225,7 @@ pub fn cases() -> Vec<Case> {
         compacts::cases(),
         moves::cases(),
         on_the_way::cases(),
+        reports::cases(),
     ];
     traces.chain(asked.into_iter().flatten()).collect()
 }

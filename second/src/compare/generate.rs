@@ -2,11 +2,10 @@
 
 use super::case::{Case, CompactSpare, Question, Spare};
 use super::rng::Rng;
-use super::{compacts, damage, forecasts, moves, shapes, sheets, sites, stacks};
+use super::{compacts, damage, forecasts, moves, reports, shapes, sheets, sites, stacks};
 use crate::check::Limits;
 use crate::line::{chars, Fields, CHARS, WIDTHS};
-use crate::report::{REFUSAL_CHARS, ROW_CHARS};
-use crate::rows::COLUMNS;
+use crate::report::REFUSAL_CHARS;
 use crate::trace::Trace;
 
 /// The case with a number, of a seed.
@@ -15,7 +14,7 @@ pub fn case(seed: u64, number: u64) -> Case {
     let question = match rng.below(40) {
         0 => read_line(&mut rng),
         1 => write_line(&mut rng),
-        2 => report(&mut rng),
+        2 => reports::write(&mut rng),
         3 => refusal(&mut rng),
         4 => sheets::write(&mut rng),
         5 | 6 => sheets::read(&mut rng),
@@ -154,15 +153,6 @@ fn fields(rng: &mut Rng) -> Fields {
         fields[field] = rng.below(9);
     }
     fields
-}
-
-/// Rows for the report writer.
-fn report(rng: &mut Rng) -> Question {
-    let sites = if rng.once_in(10) { rng.below(256) } else { rng.below(6) };
-    let count = if rng.once_in(8) { rng.pick(&[256, 257, 1 << 32, 1 << 60, u64::MAX]) } else { sites };
-    let rows = sites as usize + 1;
-    let numbers = (0..near(rng, COLUMNS * rows)).map(|_| rng.number() >> rng.below(64)).collect();
-    Question::Report { rows: numbers, count, out: near(rng, ROW_CHARS * rows), written: near(rng, 1) }
 }
 
 /// A number and a line for the writer of a refusal.

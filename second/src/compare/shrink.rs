@@ -253,9 +253,9 @@ fn lower_questions(question: &Question) -> Vec<Question> {
             lower.chain(nearer).chain(lower_spares(*spare).map(|spare| of(*limits, *value, spare))).collect()
         }
         Question::ReadLine { .. } | Question::WriteLine { .. } | Question::Refusal { .. } => vec![],
-        Question::Report { rows, count, out, written } => {
-            let (out, written) = (*out, *written);
-            let of = |rows: &[u64], count| Question::Report { rows: rows.to_vec(), count, out, written };
+        Question::Report { rows, count, full, out, written } => {
+            let (full, out, written) = (*full, *out, *written);
+            let of = |rows: &[u64], count| Question::Report { rows: rows.to_vec(), count, full, out, written };
             vec![of(&rows[..rows.len() / 2], count / 2), of(rows, count / 2), of(&vec![0; rows.len()], *count)]
         }
         Question::WriteSheet { rows, count, out, written } => {

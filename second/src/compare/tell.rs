@@ -39,9 +39,10 @@ impl Display for Case {
             Question::WriteLine { frame, out, written } => {
                 writeln!(f, "write {frame:x?}; output of {out}, count of {written}")
             }
-            Question::Report { rows, count, out, written } => {
+            Question::Report { rows, count, full, out, written } => {
                 let (given, room) = (rows.len(), format!("output of {out}, count of {written}"));
-                writeln!(f, "report of {count} sites from {given} row numbers; {room}\nrows: {rows:x?}")
+                let full = if *full { "full " } else { "" };
+                writeln!(f, "{full}report of {count} sites from {given} row numbers; {room}\nrows: {rows:x?}")
             }
             Question::Refusal { number, line, out, written } => {
                 writeln!(f, "print refusal {number} with line {line}; output of {out}, count of {written}")

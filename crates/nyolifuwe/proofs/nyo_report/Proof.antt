@@ -10,12 +10,12 @@ use Rattle.nyolifuwe.proofs.nyo_report.Tie as tie
 returns : tie.Need-returns
 returns c =
     let a = c .before .before .before .before .args in
-    untold 1 0 (a .out .now) (a .written .now) (report-1 (a .rows .now) (a .count) (length (a .out .now)) (length (a .written .now)) (c .if1 .taken))
+    untold 1 0 (a .out .now) (a .written .now) (report-1 (a .rows .now) (a .count) _ _ (length (a .out .now)) (length (a .written .now)) (c .if1 .taken))
 
 returns-2 : tie.Need-returns-2
 returns-2 c =
     let a = c .before .before .before .before .before .args in
-    untold 4 0 (a .out .now) (a .written .now) (report-4 (a .rows .now) (a .count) (length (a .out .now)) (length (a .written .now)) (c .before .if1 .left) (c .if2 .taken))
+    untold 4 0 (a .out .now) (a .written .now) (report-4 (a .rows .now) (a .count) _ _ (length (a .out .now)) (length (a .written .now)) (c .before .if1 .left) (c .if2 .taken))
 
 write-report-requires : tie.Need-write-report-requires
 write-report-requires c κs = search needs
@@ -23,7 +23,7 @@ write-report-requires c κs = search needs
 tell-requires : tie.Need-tell-requires
 tell-requires c κs =
     let a = c .before .before .before .before .before .before .before .before .before .before .args in
-    (report-at-0 (a .rows .now) (a .count) (length (a .out .now)) (c .before .before .before .write-report .ensures .answered), c .before .before .before .before .before .if2 .left)
+    (report-at-0 (a .rows .now) (a .count) _ _ (length (a .out .now)) (c .before .before .before .write-report .ensures .answered), c .before .before .before .before .before .if2 .left)
 
 same-length : tie.Need-same-length
 same-length c = search needs

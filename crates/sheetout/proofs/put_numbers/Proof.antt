@@ -10,7 +10,8 @@ use lib.Seq.{take-all}
 use Rattle.report.specs.Room.{Lays}
 use Rattle.report.proofs.Laying.{lays-nothing, lays-next, lays-as}
 use Rattle.sheetout.specs.Pieces.{numberText}
-use Rattle.sheetout.proofs.Counting.{flatMap-none, next-of, fits-of}
+use Rattle.report.proofs.Lines.{flatMap-none}
+use Rattle.sheetout.proofs.Counting.{next-of, fits-of}
 use Rattle.sheetout.proofs.put_numbers.Statement.{statement}
 use Rattle.sheetout.proofs.put_numbers.Tie as tie
 

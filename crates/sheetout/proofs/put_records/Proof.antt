@@ -13,7 +13,7 @@ use Rattle.report.specs.Report.{first}
 use Rattle.report.specs.Room.{Lays}
 use Rattle.report.proofs.Laying.{lays-nothing, lays-next, lays-as}
 use Rattle.sheetout.specs.Pieces.{recordText, rowText}
-use Rattle.sheetout.proofs.Counting.{flatMap-none, next-row, fits-row}
+use Rattle.report.proofs.Lines.{flatMap-none, next-row, fits-row}
 use Rattle.sheetout.proofs.put_records.Statement.{statement}
 use Rattle.sheetout.proofs.put_records.Tie as tie
 
