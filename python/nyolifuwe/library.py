@@ -116,7 +116,7 @@ def numbers(count: int) -> ctypes.Array[c_uint64]:
 
 def entries(pairs: List[Tuple[int, int]]) -> ctypes.Array[Entry]:
     """A list of forecast entries, each a row and a factor."""
-    return (Entry * len(pairs))(*((within(row), within(factor)) for row, factor in pairs))
+    return (Entry * len(pairs))(*[Entry(within(row), within(factor)) for row, factor in pairs])
 
 
 def in_range(limit: int, most: int) -> int:
