@@ -15,9 +15,9 @@ from .streams import emit
 
 FORMATS = ("text", "json", "csv")
 
-# The columns that say which row a record is of; they, and notes, stand to the left, numbers to the right.
-SITE, PLACE, NOTE = "site", "place", "note"
-LEFT = (SITE, PLACE, NOTE)
+# The columns that say which row a record is of; these stand to the left, numbers to the right.
+SITE, PLACE = "site", "place"
+LEFT = (SITE, PLACE)
 
 PLAIN, BOLD, GREEN, YELLOW = "", "1", "32", "33"
 
@@ -108,9 +108,10 @@ def emit_json(value: Any) -> None:
 
 
 def emit_csv(records: List[Dict[str, Any]]) -> None:
-    """Records, which have the same fields, as comma-separated text under the fields' names."""
+    """Records, which have the same fields, as comma-separated text under the fields' names; nothing for none."""
     text = io.StringIO()
-    writer = csv.DictWriter(text, list(records[0]))
-    writer.writeheader()
-    writer.writerows(records)
+    if records:
+        writer = csv.DictWriter(text, list(records[0]))
+        writer.writeheader()
+        writer.writerows(records)
     emit(text.getvalue())

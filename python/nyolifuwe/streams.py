@@ -48,6 +48,8 @@ def _forget_output() -> None:
 
 def say(sentence: str) -> None:
     """A sentence on standard error, where there is one."""
+    if sys.stderr is None:
+        return
     try:
         print(f"nyo: {sentence}", file=sys.stderr, flush=True)
     except OSError:

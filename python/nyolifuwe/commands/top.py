@@ -29,8 +29,8 @@ def add(subparsers: Any) -> None:
 
 def at_least_one(word: str) -> int:
     """A number from 1 on."""
-    if int(word) < 1:
-        raise ValueError
+    if not (word.isascii() and word.isdigit() and int(word)):
+        raise argparse.ArgumentTypeError(f"not a number from 1 on: {word}")
     return int(word)
 
 

@@ -1,0 +1,98 @@
+"""What the tests share: the examples, the command run in this process or as a program of its own, and traces as 01 writes them."""
+
+from __future__ import annotations
+
+import contextlib
+import io
+import os
+import re
+import subprocess
+import sys
+from pathlib import Path
+from typing import NamedTuple, Sequence
+from unittest import mock
+
+from nyolifuwe import library
+from nyolifuwe.cli import main
+
+TOP = Path(__file__).resolve().parent.parent.parent
+EXAMPLES = TOP / "examples"
+NAMED = ["--names", str(EXAMPLES / "proxy.names"), "--stock", str(EXAMPLES / "stock.names")]
+
+GOOD, REFUSED, USAGE, FAILED = 0, 1, 2, 3
+
+
+class Outcome(NamedTuple):
+    """What came of a run."""
+
+    status: int
+    out: str
+    err: str
+
+
+def example(name: str) -> bytes:
+    """An example's bytes."""
+    return (EXAMPLES / name).read_bytes()
+
+
+def nyo(*words: object, stdin: bytes = b"") -> Outcome:
+    """The command run in this process, in the top folder."""
+    out, err = (io.TextIOWrapper(io.BytesIO(), write_through=True) for _ in range(2))
+    with contextlib.ExitStack() as stack:
+        stack.enter_context(mock.patch.multiple(sys, stdin=io.TextIOWrapper(io.BytesIO(stdin)), stdout=out, stderr=err))
+        before = os.getcwd()
+        os.chdir(TOP)
+        stack.callback(os.chdir, before)
+        try:
+            status = main([str(word) for word in words])
+        except SystemExit as end:
+            status = int(end.code or 0)
+    return Outcome(status, *(stream.buffer.getvalue().decode() for stream in (out, err)))
+
+
+def program(command: str, **environment: str) -> Outcome:
+    """A shell command line run in the top folder, where $nyo is the command as a program of its own."""
+    nyo_words = f"{sys.executable} -m nyolifuwe"
+    known = {"PYTHONPATH": str(TOP / "python"), "NYO_LIBRARY": str(library.path()), "nyo": nyo_words}
+    done = subprocess.run(
+        ["bash", "-c", command], cwd=TOP, capture_output=True, stdin=subprocess.DEVNULL, env={**os.environ, **known, **environment}
+    )
+    return Outcome(done.returncode, done.stdout.decode(), done.stderr.decode())
+
+
+def line(kind: int, site: int = 0, value: int = 0, file: int = 0, column: int = 0) -> str:
+    """A trace line of these fields."""
+    return f"{kind:02x}{site:04x}{value:08x}{file:04x}{column:04x}\n"
+
+
+RETURN, SYNC = line(5), line(4)
+
+
+def sites(count: int) -> str:
+    """So many site lines, no two with one place."""
+    return "".join(line(1, number, number, 1, 1) for number in range(1, count + 1))
+
+
+def event(word: str) -> str:
+    """A word of 01's notation as a line."""
+    kind, _, number = word.rpartition(" ")
+    if number in ("}", "sync"):
+        return RETURN if number == "}" else SYNC
+    return line({"call": 2, "spawn": 3}[kind], int(number)) if kind else line(6, 0, int(number))
+
+
+def events(words: str) -> str:
+    """'call 1 {spawn 2 {7}, 1}, 2' as lines: braces hold a body, a bare number is a cost."""
+    return "".join(event(word) for word in re.findall(r"call \d+|spawn \d+|sync|\d+|\}", words))
+
+
+def trace(words: str, count: int = 2) -> bytes:
+    """A whole trace of so many sites."""
+    return (sites(count) + events(words) + RETURN).encode()
+
+
+def accepted_examples() -> Sequence[str]:
+    """The names of the example traces that the largest limits take."""
+    beyond_the_report_program = ("refusal-09.trace", "refusal-12.trace")
+    names = sorted(path.name for path in EXAMPLES.glob("*.trace"))
+    return [name for name in names if not name.startswith("refusal-") or name in beyond_the_report_program]
