@@ -20,7 +20,7 @@ def main() -> int:
     sys.path.insert(0, str(HERE))
     found = unittest.TestLoader().discover(str(HERE / "tests"), top_level_dir=str(HERE))
     result = unittest.TextTestRunner(verbosity=0).run(found)
-    failed = len(result.failures) + len(result.errors)
+    failed = len({getattr(test, "test_case", test) for test, _ in result.failures + result.errors})
     print(f"nyo: {result.testsRun - failed - len(result.skipped)} passed, {failed} failed")
     return 1 if failed else 0
 

@@ -40,7 +40,9 @@ def forecast_span(
     return int(answer[1])
 
 
-def _run(name: str, trace: bytes, depth: int, sites: int, engine: str, *entries: ctypes.Array[Any]) -> Tuple[Any, Any, Any]:
+def _run(
+    name: str, trace: bytes, depth: int, sites: int, engine: str, *entries: ctypes.Array[Any]
+) -> Tuple[Any, Any, Any]:
     """The answer, the rows and the marks (None from the table engine) that an engine's function writes."""
     if engine not in library.ENGINES:
         raise ValueError(f"no such engine: {engine}")
@@ -124,7 +126,7 @@ def _room_of(rows: Sequence[Row]) -> ctypes.Array[ctypes.c_uint64]:
 
 
 def report(rows: Sequence[Row], *, full: bool = True) -> bytes:
-    """The report of rows: a line of hexadecimal digits for each, or, where not full, for the root and each row with calls."""
+    """The report of rows: a line of hexadecimal digits for each; where not full, for the root and each row with calls."""
     name = "nyo_full_report" if full else "nyo_report"
     return written(name, _room_of(rows), len(rows) - 1, room=library.ROW_CHARS * len(rows))
 

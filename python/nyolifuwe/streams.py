@@ -32,7 +32,7 @@ def emit(data: Union[str, bytes]) -> None:
     if sys.stdout is None:
         raise OutputFailed("standard output is closed")
     try:
-        sys.stdout.buffer.write(data.encode() if isinstance(data, str) else data)
+        sys.stdout.buffer.write(data.encode(errors="surrogateescape") if isinstance(data, str) else data)
         sys.stdout.flush()
     except OSError as error:
         _forget_output()

@@ -1,15 +1,16 @@
-"""What the tests share: the examples, the command run in this process or as a program of its own, and traces as 01 writes them."""
+"""What the tests share: the examples, the command run here or as a program of its own, traces as the rules write them."""
 
 from __future__ import annotations
 
 import contextlib
+import csv
 import io
 import os
 import re
 import subprocess
 import sys
 from pathlib import Path
-from typing import NamedTuple, Sequence
+from typing import Any, Dict, List, NamedTuple, Sequence
 from unittest import mock
 
 from nyolifuwe import library
@@ -37,9 +38,13 @@ def example(name: str) -> bytes:
 
 def nyo(*words: object, stdin: bytes = b"") -> Outcome:
     """The command run in this process, in the top folder."""
-    out, err = (io.TextIOWrapper(io.BytesIO(), write_through=True) for _ in range(2))
+    out, err = io.BytesIO(), io.BytesIO()
+    streams = {"stdin": io.BytesIO(stdin), "stdout": out, "stderr": err}
     with contextlib.ExitStack() as stack:
-        stack.enter_context(mock.patch.multiple(sys, stdin=io.TextIOWrapper(io.BytesIO(stdin)), stdout=out, stderr=err))
+        for name, stream in streams.items():
+            wrapped = io.TextIOWrapper(stream, write_through=True)
+            stack.callback(wrapped.detach)
+            stack.enter_context(mock.patch.object(sys, name, wrapped))
         before = os.getcwd()
         os.chdir(TOP)
         stack.callback(os.chdir, before)
@@ -47,17 +52,26 @@ def nyo(*words: object, stdin: bytes = b"") -> Outcome:
             status = main([str(word) for word in words])
         except SystemExit as end:
             status = int(end.code or 0)
-    return Outcome(status, *(stream.buffer.getvalue().decode() for stream in (out, err)))
+    return Outcome(status, out.getvalue().decode(), err.getvalue().decode())
 
 
 def program(command: str, **environment: str) -> Outcome:
     """A shell command line run in the top folder, where $nyo is the command as a program of its own."""
     nyo_words = f"{sys.executable} -m nyolifuwe"
     known = {"PYTHONPATH": str(TOP / "python"), "NYO_LIBRARY": str(library.path()), "nyo": nyo_words}
-    done = subprocess.run(
-        ["bash", "-c", command], cwd=TOP, capture_output=True, stdin=subprocess.DEVNULL, env={**os.environ, **known, **environment}
-    )
+    words, environment = ["bash", "-c", command], {**os.environ, **known, **environment}
+    done = subprocess.run(words, cwd=TOP, capture_output=True, stdin=subprocess.DEVNULL, env=environment)
     return Outcome(done.returncode, done.stdout.decode(), done.stderr.decode())
+
+
+def read_back(text: str) -> List[Dict[str, str]]:
+    """The records of comma-separated text."""
+    return list(csv.DictReader(io.StringIO(text, newline="")))
+
+
+def as_text(records: List[Dict[str, Any]]) -> List[Dict[str, str]]:
+    """Records as they come back from comma-separated text."""
+    return [{name: "" if value is None else str(value) for name, value in record.items()} for record in records]
 
 
 def line(kind: int, site: int = 0, value: int = 0, file: int = 0, column: int = 0) -> str:

@@ -2,15 +2,13 @@
 
 from __future__ import annotations
 
-import csv
-import io
 import json
 import unittest
 from collections import Counter
 
 import nyolifuwe
 
-from .support import GOOD, RETURN, Outcome, accepted_examples, example, nyo
+from .support import GOOD, RETURN, Outcome, accepted_examples, as_text, example, nyo, read_back
 
 CASE_I = """\
 work 10, span 9, parallelism 1.11, 10 lines, 2 sites
@@ -20,8 +18,8 @@ lines  costs  row  site    cost  of span  running
     8      1    0  root       2    22.2%   100.0%
 """
 
-# call 1 {2, spawn 1 {1, call 2 {6}}, call 1 {1, call 2 {5}}, sync, 1}: the costs 2 (line 3) and 1 (line 5) are two invocations
-# of site 1 that follow one another on the chain, then 6 (line 7) and the last 1 (line 17).
+# call 1 {2, spawn 1 {1, call 2 {6}}, call 1 {1, call 2 {5}}, sync, 1}: the costs 2 (line 3) and 1 (line 5) stand in two
+# invocations of site 1 and follow one another on the chain; then come 6 (line 7) and the last 1 (line 17).
 SPLITTER = """\
 work 16, span 10, parallelism 1.60, 20 lines, 2 sites
 
@@ -82,5 +80,4 @@ class TheChain(unittest.TestCase):
             },
         )
         text = nyo("chain", "--format", "csv", "examples/case-i.trace").out
-        found = list(csv.DictReader(io.StringIO(text, newline="")))
-        self.assertEqual(found, [{key: "" if value is None else str(value) for key, value in one.items()} for one in chain])
+        self.assertEqual(read_back(text), as_text(chain))

@@ -2,15 +2,16 @@
 
 from __future__ import annotations
 
-import csv
-import io
 import json
+import os
+import shutil
+import tempfile
 import unittest
 from typing import Dict, List
 
 from nyolifuwe.errors import SENTENCES
 
-from .support import FAILED, GOOD, REFUSED, RETURN, SYNC, Outcome, example, line, nyo, sites
+from .support import EXAMPLES, FAILED, GOOD, REFUSED, RETURN, SYNC, Outcome, as_text, line, nyo, program, read_back, sites
 
 # For an example what stands behind its name: the refusal's number and line, and the lines below it.
 REFUSALS: Dict[str, List[str]] = {
@@ -84,12 +85,12 @@ class Text(unittest.TestCase):
 
     def test_refusals_without_a_line(self) -> None:
         for words, stdin, number in (
-            (["--depth", "0"], RETURN, 1),
-            (["--sites", "256"], RETURN, 1),
-            ([], 65537 * SYNC, 3),
-            ([], "", 14),
+            ("--depth 0", RETURN, 1),
+            ("--sites 256", RETURN, 1),
+            ("", 65537 * SYNC, 3),
+            ("", "", 14),
         ):
-            found = nyo("check", "-", *words, stdin=stdin.encode())
+            found = nyo("check", "-", *words.split(), stdin=stdin.encode())
             self.assertEqual(found, Outcome(REFUSED, f"-: refusal {number}, line 0: {SENTENCES[number]}\n", ""))
 
     def test_the_field_of_a_line(self) -> None:
@@ -107,10 +108,11 @@ class Text(unittest.TestCase):
     def test_carriage_returns(self) -> None:
         # 23 lines with CR LF are a multiple of 23 characters; the 23rd character is the CR
         text = (22 * SYNC + RETURN).replace("\n", "\r\n").encode()
-        wanted = f"-: refusal 5, line 0: {SENTENCES[5]}\n  line 0: {SYNC[:22]}?\n{' ' * 32}^ no line feed: \\x0d\n"
+        shown = f"  line 0: {SYNC[:22]}?\n{' ' * 32}^"
+        wanted = f"-: refusal 5, line 0: {SENTENCES[5]}\n{shown} no line feed: \\x0d\n"
         self.assertEqual(nyo("check", "-", stdin=text), Outcome(REFUSED, wanted, ""))
         # two such lines are not: the first line is a character too long
-        wanted = f"-: refusal 2, line 0: {SENTENCES[2]}\n  line 0: {SYNC[:22]}?\n{' ' * 32}^ the line has 24 characters and not 23\n"
+        wanted = f"-: refusal 2, line 0: {SENTENCES[2]}\n{shown} the line has 24 characters and not 23\n"
         self.assertEqual(nyo("check", "-", stdin=text[:48]), Outcome(REFUSED, wanted, ""))
 
     def test_a_line_much_too_long_is_cut(self) -> None:
@@ -119,7 +121,8 @@ class Text(unittest.TestCase):
         self.assertEqual(found[2], f"{' ' * 32}^ the line has 1,000 characters and not 23")
 
     def test_several_traces(self) -> None:
-        found = nyo("check", "examples/case-i.trace", "no-such-file", "examples/refusal-14.trace", "-", stdin=sites(1).encode())
+        names = ["examples/case-i.trace", "no-such-file", "examples/refusal-14.trace", "-"]
+        found = nyo("check", *names, stdin=sites(1).encode())
         text = (
             "examples/case-i.trace: accepted, 10 lines, 2 sites\n"
             "no-such-file: No such file or directory\n"
@@ -130,8 +133,16 @@ class Text(unittest.TestCase):
         self.assertEqual(found, Outcome(FAILED, text, ""))
 
     def test_traces_behind_an_option(self) -> None:
-        found = nyo("check", "examples/case-i.trace", "--depth", "64", "examples/proxy.trace")
-        self.assertEqual((found.status, found.out.splitlines()[-1]), (GOOD, "2 accepted, 0 refused"))
+        words = ["examples/case-i.trace", "--depth", "64", "examples/proxy.trace", "-"]
+        found = nyo("check", *words, stdin=RETURN.encode())
+        self.assertEqual((found.status, found.out.splitlines()[-1]), (GOOD, "3 accepted, 0 refused"))
+
+    def test_a_file_name_in_any_bytes(self) -> None:
+        with tempfile.TemporaryDirectory() as folder:
+            named = os.fsencode(folder) + b"/\xff.trace"
+            shutil.copy(os.fsencode(EXAMPLES / "case-i.trace"), named)
+            done = program(f"$nyo check {folder}/*.trace | od -An -c | tr -d ' \\n'")
+        self.assertIn(r"/377.trace:accepted,10lines,2sites", done.out)
 
 
 class ForPrograms(unittest.TestCase):
@@ -156,5 +167,4 @@ class ForPrograms(unittest.TestCase):
             "note": "no digit: g",
         }
         self.assertEqual(verdicts, [accepted, refused])
-        found = list(csv.DictReader(io.StringIO(nyo(*words, "csv").out, newline="")))
-        self.assertEqual(found, [{key: "" if value is None else str(value) for key, value in one.items()} for one in verdicts])
+        self.assertEqual(read_back(nyo(*words, "csv").out), as_text(verdicts))

@@ -6,6 +6,7 @@ import os
 import pty
 import shutil
 import subprocess
+import sys
 import tempfile
 import unittest
 from pathlib import Path
@@ -16,40 +17,37 @@ from nyolifuwe.errors import SENTENCES
 from .support import FAILED, GOOD, REFUSED, TOP, USAGE, Outcome, nyo, program
 from .test_top import CASE_I
 
-# Each command with the words that it wants.
-COMMANDS = [
+# Each command with the words that it wants; check goes on where a trace is not to be had.
+ON_ONE_TRACE = [
     "top examples/case-i.trace",
     "forecast examples/case-i.trace 2=2",
     "forecast --sweep examples/case-i.trace",
     "chain examples/case-i.trace",
-    "check examples/case-i.trace",
     "compact examples/case-i.trace",
     "folded examples/case-i.trace",
     "csv examples/case-i.trace",
     "report examples/case-i.trace",
 ]
+COMMANDS = [*ON_ONE_TRACE, "check examples/case-i.trace"]
 
 
 class Input(unittest.TestCase):
     """A trace comes from a file, a pipe or standard input."""
 
     def test_from_a_pipe(self) -> None:
-        for command in ("cat examples/case-i.trace | $nyo -", "$nyo <(cat examples/case-i.trace)", "$nyo - <examples/case-i.trace"):
-            self.assertEqual(program(command), Outcome(GOOD, CASE_I, ""), command)
+        for command in ("cat $trace | $nyo -", "$nyo <(cat $trace)", "$nyo - <$trace"):
+            self.assertEqual(program(command, trace="examples/case-i.trace"), Outcome(GOOD, CASE_I, ""), command)
 
     def test_an_empty_file(self) -> None:
-        for command in COMMANDS:
-            if command.startswith("check"):
-                continue
+        said = f"nyo: /dev/null: refusal 14, line 0: {SENTENCES[14]}\n"
+        for command in ON_ONE_TRACE:
             found = nyo(*command.replace("examples/case-i.trace", "/dev/null").split())
             printed = "ff0e00000000\n" if command.startswith("report") else ""
-            self.assertEqual(found, Outcome(REFUSED, printed, f"nyo: /dev/null: refusal 14, line 0: {SENTENCES[14]}\n"), command)
+            self.assertEqual(found, Outcome(REFUSED, printed, said), command)
 
     def test_what_cannot_be_read(self) -> None:
         for name, why in (("no-such-file", "No such file or directory"), ("examples", "Is a directory")):
-            for command in COMMANDS:
-                if command.startswith("check"):
-                    continue
+            for command in ON_ONE_TRACE:
                 found = nyo(*command.replace("examples/case-i.trace", name).split())
                 self.assertEqual(found, Outcome(FAILED, "", f"nyo: {name}: {why}\n"), command)
         self.assertEqual(nyo("examples/case-i.trace", "--names", "none").err, "nyo: none: No such file or directory\n")
@@ -95,8 +93,8 @@ def on_a_terminal(**environment: str) -> str:
     own, theirs = pty.openpty()
     known = {"PYTHONPATH": str(TOP / "python"), "NYO_LIBRARY": str(library.path()), "TERM": "xterm"}
     bare = {name: value for name, value in os.environ.items() if name != "NO_COLOR"}
-    words = ["python3", "-m", "nyolifuwe", "examples/case-i.trace"]
-    subprocess.run(words, cwd=TOP, stdin=subprocess.DEVNULL, stdout=theirs, env={**bare, **known, **environment}, check=True)
+    words, environment = [sys.executable, "-m", "nyolifuwe", "examples/case-i.trace"], {**bare, **known, **environment}
+    subprocess.run(words, cwd=TOP, stdin=subprocess.DEVNULL, stdout=theirs, env=environment, check=True)
     os.close(theirs)
     with open(own, "rb", buffering=0) as terminal:
         return terminal.read(65536).decode()
@@ -106,14 +104,14 @@ class Usage(unittest.TestCase):
     """Words that are wrong, and help."""
 
     def test_wrong_words(self) -> None:
-        for words in ([], ["top"], ["chain"], ["check"], ["report", "a", "b"], ["a", "b"], ["--nothing"], ["top", "a", "--names"]):
-            found = nyo(*words)
+        for words in ("", "top", "chain", "check", "report a b", "a b", "--nothing", "top a --names"):
+            found = nyo(*words.split())
             self.assertEqual(found[:2], (USAGE, ""), words)
             self.assertTrue(found.err.startswith("usage: nyo"), words)
 
     def test_help(self) -> None:
-        for words in (["--help"], ["-h"], *([command.split()[0], "--help"] for command in COMMANDS)):
-            found = nyo(*words)
+        for words in ("--help", "-h", *(f"{command.split()[0]} --help" for command in COMMANDS)):
+            found = nyo(*words.split())
             self.assertEqual((found.status, found.err), (GOOD, ""), words)
             self.assertTrue(found.out.startswith("usage: nyo"), words)
 

@@ -2,12 +2,10 @@
 
 from __future__ import annotations
 
-import csv
-import io
 import json
 import unittest
 
-from .support import GOOD, NAMED, REFUSED, USAGE, Outcome, nyo
+from .support import GOOD, NAMED, REFUSED, USAGE, Outcome, as_text, nyo, read_back
 
 # call 1 {spawn 2 {7}, 1}, 2 with 4 for 7: 4 and 2 are the span, 6 of a work of 7.
 CHANGE = """\
@@ -68,18 +66,17 @@ class Change(unittest.TestCase):
                 "on_span_then_percent": 66.667,
             },
         )
-        found = list(csv.DictReader(io.StringIO(nyo(*words, "csv").out, newline="")))
-        self.assertEqual(found, [{key: "" if value is None else str(value) for key, value in row.items()} for row in rows])
+        self.assertEqual(read_back(nyo(*words, "csv").out), as_text(rows))
 
     def test_the_librarys_refusals(self) -> None:
-        for words, number in ((["2=2", "2=3"], 19), (["3=2"], 19), (["2=1"], 20), (["2=1001"], 20)):
-            found = nyo("forecast", "examples/case-i.trace", *words)
+        for words, number in (("2=2 2=3", 19), ("3=2", 19), ("2=1", 20), ("2=1001", 20)):
+            found = nyo("forecast", "examples/case-i.trace", *words.split())
             self.assertEqual(found[:2], (REFUSED, ""))
             self.assertTrue(found.err.startswith(f"nyo: examples/case-i.trace: refusal {number}, line 0: of a forecast: "))
 
     def test_words_that_mean_nothing(self) -> None:
-        for words in ([], ["2"], ["2="], ["=2"], ["2=x"], ["2=-1"], ["nowhere=2"], ["--sweep", "2=2"], ["2=2", "--x"]):
-            self.assertEqual(nyo("forecast", "examples/case-i.trace", *words)[:2], (USAGE, ""), words)
+        for words in ("", "2", "2=", "=2", "2=x", "2=-1", "nowhere=2", "--sweep 2=2", "2=2 --x"):
+            self.assertEqual(nyo("forecast", "examples/case-i.trace", *words.split())[:2], (USAGE, ""), words)
 
     def test_a_name_of_two_rows(self) -> None:
         found = nyo("forecast", "examples/case-i.trace", "a=2", "--names", "-", stdin=b"r\na\na\n")
@@ -100,5 +97,4 @@ class Sweep(unittest.TestCase):
         for row in rows:
             falling = [row[f"span_at_{factor}"] for factor in (2, 4, 8, 1000)]
             self.assertEqual(falling, sorted(falling, reverse=True))
-        found = list(csv.DictReader(io.StringIO(nyo(*words, "csv").out, newline="")))
-        self.assertEqual(found, [{key: "" if value is None else str(value) for key, value in row.items()} for row in rows])
+        self.assertEqual(read_back(nyo(*words, "csv").out), as_text(rows))

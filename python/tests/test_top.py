@@ -2,15 +2,25 @@
 
 from __future__ import annotations
 
-import csv
-import io
 import json
 import unittest
 
 import nyolifuwe
 from nyolifuwe import api
 
-from .support import GOOD, NAMED, RETURN, USAGE, Outcome, accepted_examples, example, nyo, trace
+from .support import (
+    GOOD,
+    NAMED,
+    RETURN,
+    USAGE,
+    Outcome,
+    accepted_examples,
+    as_text,
+    example,
+    nyo,
+    read_back,
+    trace,
+)
 
 CASE_I = """\
 work 10, span 9, parallelism 1.11, 10 lines, 2 sites
@@ -20,7 +30,8 @@ row  site    calls  work  span  local  on span  of span  if halved   gain
   0  root        1    10     9      2        2    22.2%          8  11.1%
   1  1:10:5      1     8     7      1        0     0.0%          9   0.0%
 
-Split or speed up 1:20:9 first: its own cost halved takes 3 (33.3%) off the span; 1:10:5 has 10.0% of the work and gains nothing.
+Split or speed up 1:20:9 first: its own cost halved takes 3 (33.3%) off the span; \
+1:10:5 has 10.0% of the work and gains nothing.
 """
 
 # examples/README.md has the rows, docs/FORECAST.md the spans with each row halved; percents are of 11435.
@@ -149,8 +160,7 @@ class ForPrograms(unittest.TestCase):
             with self.subTest(name):
                 rows = json.loads(nyo("--format", "json", "--all", f"examples/{name}").out)["rows"]
                 text = nyo("--format", "csv", "--all", f"examples/{name}").out
-                found = list(csv.DictReader(io.StringIO(text, newline="")))
-                self.assertEqual(found, [{key: "" if value is None else str(value) for key, value in row.items()} for row in rows])
+                self.assertEqual(read_back(text), as_text(rows))
 
     def test_every_gain_is_the_forecasts(self) -> None:
         for name in accepted_examples():
