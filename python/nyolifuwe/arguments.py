@@ -1,0 +1,55 @@
+"""The words that several commands share: a trace, its limits, names, a format."""
+
+from __future__ import annotations
+
+import argparse
+from typing import Any, Dict
+
+from . import streams
+from .library import MOST_DEPTH, MOST_SITES
+from .names import Names
+from .show import FORMATS
+
+
+class Usage(Exception):
+    """Words that a command cannot be run with."""
+
+
+def add_trace(parser: argparse.ArgumentParser) -> None:
+    """One trace and the limits that it is read with."""
+    parser.add_argument("trace", metavar="TRACE", help="a file or pipe; - is standard input")
+    add_limits(parser)
+
+
+def add_limits(parser: argparse.ArgumentParser) -> None:
+    """The limits on depth and sites, at their largest by default."""
+    for name, most, least in (("depth", MOST_DEPTH, 1), ("sites", MOST_SITES, 0)):
+        said = f"the limit on {name}, {least} to {most} (default: {most})"
+        parser.add_argument(f"--{name}", type=int, default=most, metavar="LIMIT", help=said)
+
+
+def add_names(parser: argparse.ArgumentParser) -> None:
+    """The two lists of names."""
+    parser.add_argument("--names", metavar="FILE", help="the project's names, one a line, line 0 for the root")
+    parser.add_argument("--stock", metavar="FILE", help="names for rows that the project's list leaves out")
+
+
+def add_format(parser: argparse.ArgumentParser) -> None:
+    """The format of what is printed."""
+    parser.add_argument("--format", choices=FORMATS, default="text", help="how to print it (default: text)")
+
+
+def limits(args: argparse.Namespace) -> Dict[str, Any]:
+    """The limits as the binding takes them."""
+    return {"depth": args.depth, "sites": args.sites}
+
+
+def lists(args: argparse.Namespace) -> Dict[str, bytes]:
+    """The texts of the two lists, empty where none is named."""
+    files = {"project": args.names, "stock": args.stock}
+    return {name: streams.read(file) if file else b"" for name, file in files.items()}
+
+
+def names(args: argparse.Namespace) -> Names:
+    """The names that the two lists give."""
+    return Names(**lists(args))

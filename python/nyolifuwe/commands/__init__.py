@@ -1,0 +1,1 @@
+"""The commands of nyo: each module has add(subparsers) and run(args), which answers the status."""

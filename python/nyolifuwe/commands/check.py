@@ -1,0 +1,120 @@
+"""nyo check: per trace accepted, or the refusal with its sentence and the place in the trace."""
+
+from __future__ import annotations
+
+import argparse
+from typing import Any, Dict, List, NamedTuple, Optional
+
+from .. import api, arguments, show, streams
+from ..errors import Refused
+from ..faults import Fault, fault
+from ..model import Profile
+from ..show import counted
+
+GOOD, REFUSED, FAILED = 0, 1, 3
+
+# Characters of a line that are shown: a line that is much too long is cut.
+WIDEST = 80
+
+
+class Verdict(NamedTuple):
+    """What came of a trace: its profile, or a refusal with the place of the fault, or why it cannot be read."""
+
+    trace: str
+    profile: Optional[Profile] = None
+    refused: Optional[Refused] = None
+    fault: Optional[Fault] = None
+    unread: Optional[str] = None
+
+
+def add(subparsers: Any) -> None:
+    """The words of the command."""
+    parser = subparsers.add_parser("check", help="which traces are accepted, and where the others are wrong")
+    parser.add_argument("traces", nargs="+", metavar="TRACE", help="a file or pipe; - is standard input")
+    arguments.add_limits(parser)
+    arguments.add_format(parser)
+    parser.set_defaults(run=run, late="traces")
+
+
+def run(args: argparse.Namespace) -> int:
+    """Prints a verdict for each trace, and behind several how many were accepted."""
+    verdicts = []
+    for name in args.traces:
+        verdicts.append(verdict(name, args))
+        if args.format == "text":
+            streams.emit(text(verdicts[-1]))
+    if args.format == "json":
+        show.emit_json([fields(one) for one in verdicts])
+    elif args.format == "csv":
+        show.emit_csv([fields(one) for one in verdicts])
+    elif len(verdicts) > 1:
+        streams.emit(summary(verdicts))
+    return max(status(one) for one in verdicts)
+
+
+def verdict(name: str, args: argparse.Namespace) -> Verdict:
+    """What comes of one trace."""
+    try:
+        trace = streams.read(name)
+    except OSError as error:
+        return Verdict(name, unread=error.strerror)
+    try:
+        return Verdict(name, profile=api.profile(trace, **arguments.limits(args)))
+    except Refused as refused:
+        return Verdict(name, refused=refused, fault=fault(trace, refused))
+
+
+def status(one: Verdict) -> int:
+    """The status that a trace alone would give."""
+    return GOOD if one.profile else REFUSED if one.refused else FAILED
+
+
+def text(one: Verdict) -> str:
+    """A verdict for people."""
+    if one.profile:
+        size = f"{counted(one.profile.lines, 'line')}, {counted(one.profile.sites, 'site')}"
+        return f"{one.trace}: {show.paint('accepted', show.GREEN)}, {size}\n"
+    if one.refused:
+        return f"{one.trace}: {show.paint(str(one.refused), show.YELLOW)}\n{marked(one.fault) if one.fault else ''}"
+    return f"{one.trace}: {one.unread}\n"
+
+
+def marked(found: Fault) -> str:
+    """The line that is wrong, and below it the part that is."""
+    before = f"  line {found.line}: "
+    line = f"{before}{shown(found.text)}\n"
+    if not found.part:
+        return line
+    return f"{line}{' ' * (len(before) + found.part.column)}{'^' * found.part.width} {found.part.note}\n"
+
+
+def shown(line: bytes) -> str:
+    """A line character by character, a question mark for those that are none."""
+    cut = "".join(chr(byte) if 32 <= byte < 127 else "?" for byte in line[:WIDEST])
+    return cut if len(line) <= WIDEST else f"{cut}..."
+
+
+def fields(one: Verdict) -> Dict[str, Any]:
+    """A verdict for a program."""
+    profile, refused = one.profile, one.refused
+    part = one.fault.part if one.fault else None
+    return {
+        "trace": one.trace,
+        "accepted": profile is not None,
+        "lines": profile.lines if profile else None,
+        "sites": profile.sites if profile else None,
+        "number": refused.number if refused else None,
+        "line": refused.line if refused else None,
+        "sentence": refused.sentence if refused else one.unread,
+        "text": shown(one.fault.text) if one.fault else None,
+        "column": part.column if part else None,
+        "width": part.width if part else None,
+        "note": part.note if part else None,
+    }
+
+
+def summary(verdicts: List[Verdict]) -> str:
+    """How many traces were accepted, refused and not read."""
+    found = [status(one) for one in verdicts]
+    unread = f", {found.count(FAILED)} not read" if FAILED in found else ""
+    return f"{found.count(GOOD)} accepted, {found.count(REFUSED)} refused{unread}\n"

@@ -1,0 +1,21 @@
+"""nyo compact: a trace without the lines that say nothing."""
+
+from __future__ import annotations
+
+import argparse
+from typing import Any
+
+from .. import api, arguments, streams
+
+
+def add(subparsers: Any) -> None:
+    """The words of the command."""
+    parser = subparsers.add_parser("compact", help="the trace without the lines that say nothing; every row stays")
+    arguments.add_trace(parser)
+    parser.set_defaults(run=run)
+
+
+def run(args: argparse.Namespace) -> int:
+    """Prints the compacted trace."""
+    streams.emit(api.compact(streams.read(args.trace), **arguments.limits(args)))
+    return 0

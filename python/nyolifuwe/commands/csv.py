@@ -1,0 +1,22 @@
+"""nyo csv: the rows of a trace as comma-separated text."""
+
+from __future__ import annotations
+
+import argparse
+from typing import Any
+
+from .. import api, arguments, streams
+
+
+def add(subparsers: Any) -> None:
+    """The words of the command."""
+    parser = subparsers.add_parser("csv", help="every row as comma-separated text (RFC 4180)")
+    arguments.add_trace(parser)
+    parser.set_defaults(run=run)
+
+
+def run(args: argparse.Namespace) -> int:
+    """Prints the header and a record for each row."""
+    profile = api.profile(streams.read(args.trace), **arguments.limits(args))
+    streams.emit(api.write_csv(profile.rows))
+    return 0

@@ -1,0 +1,28 @@
+"""nyo folded: a trace as folded stacks, the text that flame views take."""
+
+from __future__ import annotations
+
+import argparse
+from typing import Any
+
+from .. import api, arguments, streams
+from ..names import unnamed_list
+
+
+def add(subparsers: Any) -> None:
+    """The words of the command."""
+    parser = subparsers.add_parser("folded", help="folded stacks for a flame view; by place where no list is given")
+    arguments.add_trace(parser)
+    arguments.add_names(parser)
+    parser.set_defaults(run=run)
+
+
+def run(args: argparse.Namespace) -> int:
+    """Prints a line for each cost; where a list is given, every row needs a name from it."""
+    trace, limits = streams.read(args.trace), arguments.limits(args)
+    if args.names or args.stock:
+        lists = arguments.lists(args)
+        streams.emit(api.folded(trace, lists["project"], lists["stock"], **limits))
+    else:
+        streams.emit(api.folded(trace, unnamed_list(api.profile(trace, **limits).rows), **limits))
+    return 0

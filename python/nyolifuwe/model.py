@@ -1,0 +1,64 @@
+"""What the library answers, as Python values: a place, a row, a trace line, a whole profile."""
+
+from __future__ import annotations
+
+from dataclasses import dataclass
+from typing import TYPE_CHECKING, List, NamedTuple, Optional
+
+if TYPE_CHECKING:
+    import pandas
+
+
+class Place(NamedTuple):
+    """Where a site stands in the source."""
+
+    file: int
+    line: int
+    column: int
+
+
+class Frame(NamedTuple):
+    """A trace line, taken apart."""
+
+    kind: int
+    site: int
+    value: int
+    file: int
+    column: int
+
+
+class Row(NamedTuple):
+    """The numbers of the root (row 0, which has no place) or of a site, in the library's order."""
+
+    row: int
+    place: Optional[Place]
+    calls: int
+    work: int
+    span: int
+    local: int
+    on_span: int
+
+
+@dataclass(frozen=True)
+class Profile:
+    """The answer for an accepted trace; marks has a byte a line, 1 on the chosen chain; the table engine gives none."""
+
+    work: int
+    span: int
+    sites: int
+    lines: int
+    rows: List[Row]
+    marks: Optional[bytes]
+
+    @property
+    def parallelism(self) -> Optional[float]:
+        """Work over span; None where the span is 0."""
+        return self.work / self.span if self.span else None
+
+    def frame(self) -> pandas.DataFrame:
+        """The rows as a pandas frame with a row's number for its index; wants pandas installed."""
+        import pandas
+
+        flat = [(row.row, *(row.place or (None,) * len(Place._fields)), *row[2:]) for row in self.rows]
+        frame = pandas.DataFrame(flat, columns=["row", *Place._fields, *Row._fields[2:]])
+        return frame.astype({name: "Int64" for name in Place._fields}).set_index("row")
