@@ -38,6 +38,13 @@ def add_format(parser: argparse.ArgumentParser) -> None:
     parser.add_argument("--format", choices=FORMATS, default="text", help="how to print it (default: text)")
 
 
+def at_least_one(word: str) -> int:
+    """A number from 1 on."""
+    if int(word) < 1:
+        raise ValueError
+    return int(word)
+
+
 def limits(args: argparse.Namespace) -> Dict[str, Any]:
     """The limits as the binding takes them."""
     return {"depth": args.depth, "sites": args.sites}

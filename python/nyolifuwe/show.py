@@ -16,8 +16,8 @@ from .streams import emit
 FORMATS = ("text", "json", "csv")
 
 # The columns that say which row a record is of; they, and notes, stand to the left, numbers to the right.
-SITE, PLACE, NOTE = "site", "place", "note"
-LEFT = (SITE, PLACE, NOTE)
+SITE, PLACE, NOTE, TRACE = "site", "place", "note", "trace"
+LEFT = (SITE, PLACE, NOTE, TRACE)
 
 PLAIN, BOLD, GREEN, YELLOW = "", "1", "32", "33"
 
@@ -37,9 +37,14 @@ def percent(part: int, whole: int) -> str:
     return f"{100 * part / whole:.1f}%" if whole else "-"
 
 
-def parallelism(profile: Profile) -> str:
+def ratio(work: int, span: int) -> str:
     """Work over span for people."""
-    return "-" if profile.parallelism is None else f"{profile.parallelism:,.2f}"
+    return f"{work / span:,.2f}" if span else "-"
+
+
+def parallelism(profile: Profile) -> str:
+    """Work over span of a profile for people."""
+    return ratio(profile.work, profile.span)
 
 
 def counted(count: int, thing: str) -> str:
@@ -107,10 +112,10 @@ def emit_json(value: Any) -> None:
     emit(json.dumps(value, indent=2) + "\n")
 
 
-def emit_csv(records: List[Dict[str, Any]]) -> None:
-    """Records, which have the same fields, as comma-separated text under the fields' names."""
+def emit_csv(records: List[Dict[str, Any]], fields: Sequence[str] = ()) -> None:
+    """Records, which have the same fields, as comma-separated text under the fields' names, which are given if there may be none."""
     text = io.StringIO()
-    writer = csv.DictWriter(text, list(records[0]))
+    writer = csv.DictWriter(text, list(fields or records[0]))
     writer.writeheader()
     writer.writerows(records)
     emit(text.getvalue())

@@ -1,0 +1,78 @@
+"""Who judges the files of a night: processes of this machine, or the workers of a Dask cluster."""
+
+from __future__ import annotations
+
+import multiprocessing
+import os
+import signal
+import threading
+from collections import deque
+from concurrent.futures import Executor, Future, ProcessPoolExecutor
+from contextlib import contextmanager
+from importlib import import_module
+from multiprocessing.connection import wait
+from typing import Deque, Iterable, Iterator, Optional, Tuple
+
+from .judge import Outcome, judged
+
+# Files under way for each worker: enough that none waits while results are written.
+UNDER_WAY = 4
+
+SCHEDULER_SECONDS = 10  # to wait for a scheduler
+
+
+class NoScheduler(OSError):
+    """A Dask scheduler that cannot be had."""
+
+
+def outcomes(executor: Executor, size: int, known: Iterable[Tuple[str, str]]) -> Iterator[Outcome]:
+    """What comes of each file, given with the digest known of it, in their order."""
+    under_way: Deque[Future[Outcome]] = deque()
+    for path, digest in known:
+        under_way.append(executor.submit(judged, path, digest))
+        if len(under_way) > UNDER_WAY * size:
+            yield under_way.popleft().result()
+    while under_way:
+        yield under_way.popleft().result()
+
+
+@contextmanager
+def crew(workers: Optional[int], scheduler: Optional[str]) -> Iterator[Tuple[Executor, int]]:
+    """An executor and how many tasks it does at a time."""
+    if scheduler:
+        with cluster(scheduler) as found:
+            yield found
+        return
+    size = workers or os.cpu_count() or 1
+    context = multiprocessing.get_context("spawn")
+    with ProcessPoolExecutor(size, mp_context=context, initializer=_begin_worker) as executor:
+        yield executor, size
+
+
+def _begin_worker() -> None:
+    """Leaves an interrupt to the parent, and ends this process when the parent has ended, however that was."""
+    signal.signal(signal.SIGINT, signal.SIG_IGN)
+    threading.Thread(target=_end_with_parent, daemon=True).start()
+
+
+def _end_with_parent() -> None:
+    """Waits until the parent has ended, then ends this process."""
+    parent = multiprocessing.parent_process()
+    if parent:
+        wait([parent.sentinel])
+        os._exit(1)
+
+
+@contextmanager
+def cluster(scheduler: str) -> Iterator[Tuple[Executor, int]]:
+    """The workers of a Dask cluster; NoScheduler where there is none, or no Dask here."""
+    try:
+        distributed = import_module("distributed")
+    except ImportError as error:
+        raise NoScheduler("--scheduler wants Dask (Debian's python3-distributed)") from error
+    try:
+        client = distributed.Client(scheduler, timeout=SCHEDULER_SECONDS)
+    except (OSError, ValueError) as error:
+        raise NoScheduler(f"{scheduler}: {error}") from error
+    with client:
+        yield client.get_executor(), sum(client.nthreads().values()) or 1
