@@ -7,7 +7,7 @@ import os
 import signal
 import threading
 from collections import deque
-from concurrent.futures import Executor, Future, ProcessPoolExecutor
+from concurrent.futures import Executor, Future, ProcessPoolExecutor, ThreadPoolExecutor
 from contextlib import contextmanager
 from importlib import import_module
 from multiprocessing.connection import wait
@@ -44,9 +44,14 @@ def crew(workers: Optional[int], scheduler: Optional[str]) -> Iterator[Tuple[Exe
             yield found
         return
     size = workers or os.cpu_count() or 1
-    context = multiprocessing.get_context("spawn")
-    with ProcessPoolExecutor(size, mp_context=context, initializer=_begin_worker) as executor:
+    with processes(size) if size > 1 else ThreadPoolExecutor(size) as executor:
         yield executor, size
+
+
+def processes(size: int) -> Executor:
+    """So many processes, which begin afresh and so share nothing that is open here."""
+    context = multiprocessing.get_context("spawn")
+    return ProcessPoolExecutor(size, mp_context=context, initializer=_begin_worker)
 
 
 def _begin_worker() -> None:

@@ -35,14 +35,14 @@ def add(subparsers: Any) -> None:
     parser.add_argument("--workers", type=arguments.at_least_one, metavar="N", help="processes (default: one a core)")
     parser.add_argument("--scheduler", metavar="ADDRESS", help="a Dask scheduler whose workers see the same files")
     arguments.add_format(parser)
-    parser.set_defaults(run=run)
+    parser.set_defaults(run=run, late="folders")
 
 
 def run(args: argparse.Namespace) -> int:
     """Stores what comes of every file that is new, then prints the tables over all that is stored."""
     library.loaded()
     paths, unlisted = found(args.folders, args.match)
-    failed = [*unlisted, *([] if paths else [f"no file matches {args.match}"])]
+    failed = unlisted if paths or unlisted else [f"no file matches {args.match}"]
     with store.written(args.db) as night:
         try:
             failed += judge_all(night, paths, args.workers, args.scheduler)
