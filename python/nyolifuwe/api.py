@@ -32,14 +32,30 @@ def forecast(
     return _profile(f"nyo_forecast_{engine}", trace, depth, sites, engine, library.entries(list(entries)))
 
 
-def _profile(name: str, trace: bytes, depth: int, sites: int, engine: str, *entries: ctypes.Array[Any]) -> Profile:
-    """What an engine's function answers, with the places of the sites."""
+def forecast_span(
+    trace: bytes, entries: Sequence[Tuple[int, int]], *, depth: int = MOST_DEPTH, sites: int = MOST_SITES
+) -> int:
+    """The span of a forecast, for where many are asked for and no rows are wanted."""
+    answer, _, _ = _run("nyo_forecast_marks", trace, depth, sites, "marks", library.entries(list(entries)))
+    return int(answer[1])
+
+
+def _run(
+    name: str, trace: bytes, depth: int, sites: int, engine: str, *entries: ctypes.Array[Any]
+) -> Tuple[Any, Any, Any]:
+    """The answer, the rows and the marks (None from the table engine) that an engine's function writes."""
     if engine not in library.ENGINES:
         raise ValueError(f"no such engine: {engine}")
     scratch = numbers(library.scratch_room(engine, depth, sites))
     rows, answer = numbers(library.rows_room(sites)), numbers(library.ANSWER_NUMBERS)
     marks = ctypes.create_string_buffer(len(trace) // LINE_CHARS) if engine == "marks" else None
     ask(name, trace, depth, sites, *entries, scratch, *([] if marks is None else [marks]), rows, answer)
+    return answer, rows, marks
+
+
+def _profile(name: str, trace: bytes, depth: int, sites: int, engine: str, *entries: ctypes.Array[Any]) -> Profile:
+    """What an engine's function answers, with the places of the sites."""
+    answer, rows, marks = _run(name, trace, depth, sites, engine, *entries)
     work, span, count, lines = answer
     own = _rows(rows, count, [None, *places(trace)])
     return Profile(work, span, count, lines, own, None if marks is None else marks.raw)
@@ -53,7 +69,7 @@ def _rows(room: ctypes.Array[ctypes.c_uint64], count: int, where: Sequence[Optio
 
 def places(trace: bytes) -> List[Place]:
     """The places that the site lines of an accepted trace declare, site 1 first."""
-    frames = (read_line(trace[LINE_CHARS * line : LINE_CHARS * (line + 1)]) for line in lines_of_kind(trace, SITE_KIND))
+    frames = (line_at(trace, line) for line in lines_of_kind(trace, SITE_KIND))
     return [Place(frame.file, frame.value, frame.column) for frame in frames]
 
 
@@ -66,6 +82,16 @@ def lines_of_kind(trace: bytes, kind: int) -> Iterator[int]:
         if firsts[line] == first:
             yield line
         line = seconds.find(second, line + 1)
+
+
+def kind_at(trace: bytes, line: int) -> int:
+    """The kind of a line of an accepted trace."""
+    return int(trace[LINE_CHARS * line : LINE_CHARS * line + 2], 16)
+
+
+def line_at(trace: bytes, line: int) -> Frame:
+    """A line of an accepted trace, taken apart."""
+    return read_line(trace[LINE_CHARS * line : LINE_CHARS * (line + 1)])
 
 
 def compact(trace: bytes, *, depth: int = MOST_DEPTH, sites: int = MOST_SITES) -> bytes:
@@ -100,7 +126,7 @@ def _room_of(rows: Sequence[Row]) -> ctypes.Array[ctypes.c_uint64]:
 
 
 def report(rows: Sequence[Row], *, full: bool = True) -> bytes:
-    """The report of rows: a line of hexadecimal digits for each, or, where not full, for the root and each row with calls."""
+    """The report of rows: a line of hexadecimal digits for each; where not full, for the root and each row with calls."""
     name = "nyo_full_report" if full else "nyo_report"
     return written(name, _room_of(rows), len(rows) - 1, room=library.ROW_CHARS * len(rows))
 

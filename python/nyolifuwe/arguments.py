@@ -23,8 +23,9 @@ def add_trace(parser: argparse.ArgumentParser) -> None:
 
 def add_limits(parser: argparse.ArgumentParser) -> None:
     """The limits on depth and sites, at their largest by default."""
-    parser.add_argument("--depth", type=int, default=MOST_DEPTH, metavar="D", help="limit on the depth, 1 to 64 (default: 64)")
-    parser.add_argument("--sites", type=int, default=MOST_SITES, metavar="M", help="limit on the sites, 0 to 255 (default: 255)")
+    for name, most, least in (("depth", MOST_DEPTH, 1), ("sites", MOST_SITES, 0)):
+        said = f"the limit on {name}, {least} to {most} (default: {most})"
+        parser.add_argument(f"--{name}", type=int, default=most, metavar="LIMIT", help=said)
 
 
 def add_names(parser: argparse.ArgumentParser) -> None:
@@ -40,8 +41,8 @@ def add_format(parser: argparse.ArgumentParser) -> None:
 
 def at_least_one(word: str) -> int:
     """A number from 1 on."""
-    if int(word) < 1:
-        raise ValueError
+    if not (word.isascii() and word.isdigit() and int(word)):
+        raise argparse.ArgumentTypeError(f"not a number from 1 on: {word}")
     return int(word)
 
 
@@ -52,7 +53,8 @@ def limits(args: argparse.Namespace) -> Dict[str, Any]:
 
 def lists(args: argparse.Namespace) -> Dict[str, bytes]:
     """The texts of the two lists, empty where none is named."""
-    return {name: streams.read(file) if file else b"" for name, file in (("project", args.names), ("stock", args.stock))}
+    files = {"project": args.names, "stock": args.stock}
+    return {name: streams.read(file) if file else b"" for name, file in files.items()}
 
 
 def names(args: argparse.Namespace) -> Names:

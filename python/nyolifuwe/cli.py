@@ -11,7 +11,7 @@ from . import __version__
 from .arguments import Usage
 from .commands import chain, check, compact, csv, diff, folded, forecast, night, page, report, top
 from .errors import Refused
-from .streams import OutputFailed, emit, say
+from .streams import STANDARD_INPUT, OutputFailed, emit, say
 
 COMMANDS: List[ModuleType] = [top, forecast, chain, check, page, night, diff, compact, folded, csv, report]
 DEFAULT = "top"
@@ -53,7 +53,7 @@ def parsed(words: Sequence[str]) -> argparse.Namespace:
     """The words taken apart; those of a list may stand behind an option too."""
     all_commands = parser()
     args, more = all_commands.parse_known_args(with_command(words))
-    if more and ("late" not in args or any(word.startswith("-") for word in more)):
+    if more and ("late" not in args or any(word.startswith("-") and word != STANDARD_INPUT for word in more)):
         all_commands.error(f"unrecognized arguments: {' '.join(more)}")
     if more:
         getattr(args, args.late).extend(more)

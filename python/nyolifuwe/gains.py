@@ -24,8 +24,8 @@ class Gain(NamedTuple):
 
 
 def faster_span(trace: bytes, profile: Profile, row: Row, factor: int, **limits: Any) -> int:
-    """The span if a row's own cost were divided by a factor; a row with nothing on the span gains nothing (docs/FORECAST.md)."""
-    return api.forecast(trace, [(row.row, factor)], **limits).span if row.on_span else profile.span
+    """The span if a row's own cost were divided by a factor; nothing on the span, nothing gained (docs/FORECAST.md)."""
+    return api.forecast_span(trace, [(row.row, factor)], **limits) if row.on_span else profile.span
 
 
 def gains(trace: bytes, profile: Profile, **limits: Any) -> List[Gain]:

@@ -12,8 +12,7 @@ from typing import Any, Dict, List, Tuple, Union
 from .errors import LibraryMissing, Refused
 from .model import Row
 
-MOST_DEPTH, MOST_SITES, MOST_LINES, MOST_ENTRIES = 64, 255, 65536, 16
-LEAST_FACTOR, MOST_FACTOR = 2, 1000
+MOST_DEPTH, MOST_SITES, MOST_LINES = 64, 255, 65536
 
 # The numbers of a row, in the order in which the library writes them.
 COLUMNS: Tuple[str, ...] = Row._fields[2:]

@@ -41,7 +41,7 @@ class Row(NamedTuple):
 
 @dataclass(frozen=True)
 class Profile:
-    """The answer for an accepted trace; marks has a byte a line, 1 on the chosen chain, and is None from the table engine."""
+    """The answer for an accepted trace; marks has a byte a line, 1 on the chosen chain; the table engine gives none."""
 
     work: int
     span: int

@@ -15,7 +15,7 @@ from .streams import emit
 
 FORMATS = ("text", "json", "csv")
 
-# The columns that say which row a record is of; they, and notes, stand to the left, numbers to the right.
+# The columns that say which row or trace a record is of, and notes: these stand to the left, numbers to the right.
 SITE, PLACE, NOTE, TRACE = "site", "place", "note", "trace"
 LEFT = (SITE, PLACE, NOTE, TRACE)
 
@@ -113,9 +113,10 @@ def emit_json(value: Any) -> None:
 
 
 def emit_csv(records: List[Dict[str, Any]], fields: Sequence[str] = ()) -> None:
-    """Records, which have the same fields, as comma-separated text under the fields' names, which are given if there may be none."""
-    text = io.StringIO()
-    writer = csv.DictWriter(text, list(fields or records[0]))
-    writer.writeheader()
-    writer.writerows(records)
+    """Records, which have the same fields, as comma-separated text under the fields' names; for none the names if given."""
+    text, names = io.StringIO(), list(fields) or [name for record in records[:1] for name in record]
+    if names:
+        writer = csv.DictWriter(text, names)
+        writer.writeheader()
+        writer.writerows(records)
     emit(text.getvalue())

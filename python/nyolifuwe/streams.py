@@ -32,7 +32,7 @@ def emit(data: Union[str, bytes]) -> None:
     if sys.stdout is None:
         raise OutputFailed("standard output is closed")
     try:
-        sys.stdout.buffer.write(data.encode() if isinstance(data, str) else data)
+        sys.stdout.buffer.write(data.encode(errors="surrogateescape") if isinstance(data, str) else data)
         sys.stdout.flush()
     except OSError as error:
         _forget_output()
@@ -48,6 +48,8 @@ def _forget_output() -> None:
 
 def say(sentence: str) -> None:
     """A sentence on standard error, where there is one."""
+    if sys.stderr is None:
+        return
     try:
         print(f"nyo: {sentence}", file=sys.stderr, flush=True)
     except OSError:

@@ -7,7 +7,6 @@ from itertools import accumulate, groupby
 from typing import Any, Dict, Iterator, List, NamedTuple
 
 from .. import api, arguments, show, streams
-from ..library import LINE_CHARS
 from ..model import Profile
 from ..names import Names
 from ..show import number, percent, share
@@ -61,13 +60,13 @@ def marked(trace: bytes, marks: bytes) -> Iterator[Cost]:
     """The cost lines that are marked, in order."""
     open_rows = [0]
     for line, mark in enumerate(marks):
-        frame = api.read_line(trace[LINE_CHARS * line : LINE_CHARS * (line + 1)])
-        if frame.kind in (CALL, SPAWN):
-            open_rows.append(frame.site)
-        elif frame.kind == RETURN:
+        kind = api.kind_at(trace, line)
+        if kind in (CALL, SPAWN):
+            open_rows.append(api.line_at(trace, line).site)
+        elif kind == RETURN:
             open_rows.pop()
         elif mark:
-            yield Cost(line, open_rows[-1], frame.value)
+            yield Cost(line, open_rows[-1], api.line_at(trace, line).value)
 
 
 def stretches(costs: List[Cost]) -> List[Stretch]:

@@ -11,7 +11,7 @@ from ..names import unnamed_list
 
 def add(subparsers: Any) -> None:
     """The words of the command."""
-    parser = subparsers.add_parser("folded", help="folded stacks for a flame view; places are the names where no list is given")
+    parser = subparsers.add_parser("folded", help="folded stacks for a flame view; by place where no list is given")
     arguments.add_trace(parser)
     arguments.add_names(parser)
     parser.set_defaults(run=run)

@@ -22,9 +22,8 @@ def add(subparsers: Any) -> None:
     """The words of the command."""
     parser = subparsers.add_parser("forecast", help="the profile if some sites were faster")
     arguments.add_trace(parser)
-    parser.add_argument(
-        "entries", nargs="*", metavar="SITE=FACTOR", help="a row, name or place, and by what its own cost is divided, 2 to 1000"
-    )
+    said = "a row, name or place, and by what its own cost is divided, 2 to 1000"
+    parser.add_argument("entries", nargs="*", metavar="SITE=FACTOR", help=said)
     parser.add_argument("--sweep", action="store_true", help="every site alone at 2, 4, 8 and 1,000")
     parser.add_argument("--all", action="store_true", help="idle rows too")
     arguments.add_names(parser)

@@ -20,7 +20,7 @@ def add(subparsers: Any) -> None:
     parser = subparsers.add_parser("top", help="the rows of a trace, largest gain first (the default)")
     arguments.add_trace(parser)
     arguments.add_names(parser)
-    parser.add_argument("--by", choices=ORDERS, default="gain", help="largest first of this column (default: gain); row: in order")
+    parser.add_argument("--by", choices=ORDERS, default="gain", help="the column to sort by (default: gain)")
     parser.add_argument("--all", action="store_true", help="idle rows too")
     parser.add_argument("-n", type=arguments.at_least_one, metavar="ROWS", help="so many rows at most")
     arguments.add_format(parser)
