@@ -1,4 +1,4 @@
-"""A profile as one HTML page that needs nothing beside itself: totals, forecast, table of rows, flame view."""
+"""A profile as one HTML page that needs nothing beside itself: totals, forecast, flame view, table of rows."""
 
 from __future__ import annotations
 
@@ -97,7 +97,8 @@ def choices(headings: Sequence[str], idle: int) -> Iterator[str]:
     yield '<div class="choices"><label class="order">order by <select id="order">'
     for column, heading in enumerate(headings):
         yield f'<option value="{column}"{" selected" if heading == "gain" else ""}>{heading}</option>'
-    yield f'</select></label><label><input type="checkbox" id="idle"> {counted(idle, "row")} without calls too</label></div>'
+    hidden = "" if idle else " hidden"
+    yield f'</select></label><label{hidden}><input type="checkbox" id="idle"> {counted(idle, "row")} without calls too</label></div>'
 
 
 def table(profile: Profile, ranked: Sequence[Gain], names: Names) -> Iterator[str]:
@@ -158,8 +159,8 @@ def page(title: str, profile: Profile, ranked: List[Gain], boxes: Sequence[Box],
         *headline(profile),
         f'<p id="advice">{escape(advice(profile, ranked, names))}</p></header><main>',
         *forecast(profile, ranked, names),
-        *table(profile, ranked, names),
         *flame(profile, boxes),
+        *table(profile, ranked, names),
         f"</main><footer><p>{SAYS}</p></footer>\n<script>\n{part('page.js')}</script></body></html>\n",
     ]
     return "\n".join(parts)

@@ -15,6 +15,7 @@ import sys
 import tempfile
 import time
 import unittest
+from concurrent.futures import ThreadPoolExecutor
 from contextlib import closing
 from pathlib import Path
 from typing import Any, Dict, List
@@ -334,6 +335,36 @@ class Stopped(InAFolder):
         self.assertEqual((night.communicate()[1], night.returncode), (b"", 130))
         self.assertEqual([file.name for file in self.folder.glob("night.db*")], ["night.db"])
         self.assertGreaterEqual(len(query(self.db, "SELECT * FROM traces")), 20)
+
+
+class Cluster(InAFolder):
+    """A night over a scheduler; tests/nightly_cluster.py has a real one."""
+
+    def test_scheduler(self) -> None:
+        """The same function goes to the cluster's executor, and what comes back is stored."""
+        self.put("a.trace", example("case-i.trace"))
+        self.put("b.trace", example("refusal-07.trace"))
+        client, dask = mock.MagicMock(), mock.MagicMock()
+        client.__enter__.return_value, client.nthreads.return_value = client, {"one": 1, "other": 2}
+        dask.Client.return_value = client
+        with ThreadPoolExecutor(3) as threads, mock.patch.object(threads, "submit", wraps=threads.submit) as submitted:
+            client.get_executor.return_value = threads
+            with mock.patch.dict(sys.modules, distributed=dask):
+                ran = nyo("night", self.folder, "--db", self.db, "--scheduler", "tcp://there:8786")
+            self.assertEqual([call.args[0] for call in submitted.call_args_list], [judge.judged] * 2)
+        self.assertEqual((ran.status, dask.Client.call_args.args), (REFUSED, ("tcp://there:8786",)))
+        self.assertEqual(read_back(self.db), stored(self.folder))
+
+    def test_no_dask(self) -> None:
+        """Without Dask, or without a scheduler, there is a sentence and status 3."""
+        self.put("a.trace", example("case-i.trace"))
+        words = ("night", self.folder, "--db", self.db, "--scheduler", "tcp://there:8786")
+        with mock.patch.dict(sys.modules, distributed=None):
+            self.assertEqual(nyo(*words), (FAILED, "", "nyo: --scheduler wants Dask (Debian's python3-distributed)\n"))
+        dask = mock.MagicMock()
+        dask.Client.side_effect = OSError("nobody there")
+        with mock.patch.dict(sys.modules, distributed=dask):
+            self.assertEqual(nyo(*words), (FAILED, "", "nyo: tcp://there:8786: nobody there\n"))
 
 
 class Shown(unittest.TestCase):
