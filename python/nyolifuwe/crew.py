@@ -11,7 +11,7 @@ from concurrent.futures import Executor, Future, ProcessPoolExecutor, ThreadPool
 from contextlib import contextmanager
 from importlib import import_module
 from multiprocessing.connection import wait
-from typing import Deque, Iterable, Iterator, Optional, Tuple
+from typing import Any, Callable, Deque, Iterable, Iterator, Optional, Tuple, TypeVar
 
 from .judge import Outcome, judged
 
@@ -19,6 +19,9 @@ from .judge import Outcome, judged
 UNDER_WAY = 4
 
 SCHEDULER_SECONDS = 10  # to wait for a scheduler
+
+
+Result = TypeVar("Result")
 
 
 class NoScheduler(OSError):
@@ -44,19 +47,27 @@ def crew(workers: Optional[int], scheduler: Optional[str]) -> Iterator[Tuple[Exe
             yield found
         return
     size = workers or os.cpu_count() or 1
-    with processes(size) if size > 1 else ThreadPoolExecutor(size) as executor:
+    with Processes(size) if size > 1 else ThreadPoolExecutor(size) as executor:
         yield executor, size
 
 
-def processes(size: int) -> Executor:
-    """So many processes, which begin afresh and so share nothing that is open here."""
-    context = multiprocessing.get_context("spawn")
-    return ProcessPoolExecutor(size, mp_context=context, initializer=_begin_worker)
+class Processes(ProcessPoolExecutor):
+    """Processes that begin afresh, so share nothing that is open here; an interrupt is left to their parent, whom none outlives."""
+
+    def __init__(self, size: int) -> None:
+        super().__init__(size, mp_context=multiprocessing.get_context("spawn"), initializer=_watch_parent)
+
+    def submit(self, task: Callable[..., Result], /, *given: Any, **named: Any) -> Future[Result]:
+        """A task; a process that is started for it takes over that interrupts are blocked meanwhile."""
+        before = signal.pthread_sigmask(signal.SIG_BLOCK, [signal.SIGINT])
+        try:
+            return super().submit(task, *given, **named)
+        finally:
+            signal.pthread_sigmask(signal.SIG_SETMASK, before)
 
 
-def _begin_worker() -> None:
-    """Leaves an interrupt to the parent, and ends this process when the parent has ended, however that was."""
-    signal.signal(signal.SIGINT, signal.SIG_IGN)
+def _watch_parent() -> None:
+    """Sees to it that this process ends when the parent has ended, however that was."""
     threading.Thread(target=_end_with_parent, daemon=True).start()
 
 

@@ -86,9 +86,14 @@ class RefusalCount(NamedTuple):
 
 
 def is_database(path: str) -> bool:
-    """Whether a file begins as SQLite's do."""
-    with open(path, "rb") as file:
-        return file.read(len(SIGNATURE)) == SIGNATURE
+    """Whether a file begins as SQLite's do; a pipe, or what cannot be read, does not."""
+    try:
+        if not os.path.isfile(path):
+            return False
+        with open(path, "rb") as file:
+            return file.read(len(SIGNATURE)) == SIGNATURE
+    except OSError:
+        return False
 
 
 def kept_as(path: str) -> Union[str, bytes]:
@@ -121,12 +126,12 @@ class Night:
 
     def __init__(self, connection: sqlite3.Connection) -> None:
         self.connection = connection
-        self._check()
+        self._check("main")
 
-    def _check(self) -> None:
+    def _check(self, schema: str) -> None:
         """Raises StoreFailed unless the tables are those of a night with these columns."""
-        (application,) = self.connection.execute("PRAGMA application_id").fetchone()
-        columns = [name for _, name, *_ in self.connection.execute("PRAGMA table_info(rows)")]
+        (application,) = self.connection.execute(f"PRAGMA {schema}.application_id").fetchone()
+        columns = [name for _, name, *_ in self.connection.execute(f"PRAGMA {schema}.table_info(rows)")]
         if application != APPLICATION or columns[5:] != list(COLUMNS):
             raise StoreFailed("not a night of this version of nyo")
 
@@ -164,6 +169,29 @@ class Night:
         )
         self.connection.execute("INSERT INTO refusals VALUES (?, ?, ?, ?)", (one.lastrowid, *refusal))
 
+    def take_in(self, path: str) -> None:
+        """Stores all that another night has, in place of what is stored of the same files; StoreFailed where it is none."""
+        try:
+            self.connection.execute("ATTACH ? AS part", (address(path, "ro"),))
+            try:
+                self._check("part")
+                self._copy_part()
+            finally:
+                self.connection.execute("DETACH part")
+        except (sqlite3.Error, StoreFailed) as error:
+            raise StoreFailed(f"{path}: {error}") from error
+
+    def _copy_part(self) -> None:
+        """Copies the attached night, its traces numbered on from the last."""
+        with self.connection:
+            self.connection.execute("DELETE FROM main.traces WHERE path IN (SELECT path FROM part.traces)")
+            last = self.connection.execute("SELECT coalesce(max(trace), 0) FROM main.traces").fetchone()
+            copy = "INSERT INTO main.{0} SELECT trace + ?, {1} FROM part.{0}"
+            self.connection.execute(copy.format("traces", "path, digest, verdict, work, span, sites, lines"), last)
+            self.connection.execute("INSERT OR IGNORE INTO main.sites SELECT * FROM part.sites")
+            self.connection.execute(copy.format("rows", f"row, file, line, column, {', '.join(COLUMNS)}"), last)
+            self.connection.execute(copy.format("refusals", "number, line, sentence"), last)
+
     def totals(self) -> Totals:
         """The sums over all traces."""
         query = f"SELECT count(*), coalesce(sum(verdict = 0), 0), {summed(['lines', 'work', 'span'])} FROM traces"
@@ -194,11 +222,16 @@ class Night:
         return list(found.values())
 
 
+def address(path: str, mode: str) -> str:
+    """How SQLite is told of a file and of what it may do with it."""
+    return f"{Path(path).absolute().as_uri()}?mode={mode}"
+
+
 @contextmanager
 def _connected(path: str, mode: str) -> Iterator[sqlite3.Connection]:
     """A connection that waits for others; whatever fails on it is told with the file's name."""
     try:
-        connection = sqlite3.connect(f"{Path(path).absolute().as_uri()}?mode={mode}", timeout=60, uri=True)
+        connection = sqlite3.connect(address(path, mode), timeout=60, uri=True)
         try:
             connection.execute("PRAGMA foreign_keys = ON")
             yield connection

@@ -194,6 +194,39 @@ class Answers(InAFolder):
             self.assertEqual(night.by_place()[0].numbers["on_span"], 1100 * large)
 
 
+class Parts(InAFolder):
+    """Nights that are taken into another."""
+
+    def test_parts(self) -> None:
+        """Two nights taken in are one night of all their files; what is stored of the same files gives way."""
+        for name in ("case-i", "proxy", "refusal-05"):
+            self.put(f"one/{name}.trace", example(f"{name}.trace"))
+        again = self.put("two/again.trace", example("splitter.trace"))
+        one, two = self.folder / "one.db", self.folder / "two.db"
+        for folder, db in (("one", one), ("two", two)):
+            nyo("night", self.folder / folder, "--db", db, "--workers", "1")
+        self.assertEqual(nyo("night", one, two, "--db", self.db).status, REFUSED)
+        self.assertEqual(self.night().status, REFUSED)
+        whole = self.folder / "whole.db"
+        self.assertEqual(nyo("night", self.folder, "--db", whole, "--workers", "1").status, REFUSED)
+        self.assertEqual(dump(self.db), dump(whole))
+        again.write_bytes(example("capitals.trace"))
+        nyo("night", self.folder / "two", "--db", two, "--workers", "1")
+        self.assertEqual(nyo("night", two, "--db", self.db).status, REFUSED)
+        self.assertEqual(query(self.db, f"SELECT work FROM traces WHERE path = '{again}'"), [(339,)])
+        self.assertEqual(len(query(self.db, "SELECT * FROM traces")), 4)
+
+    def test_no_part(self) -> None:
+        """A database of something else is told, and the others are taken in; a night is not taken into itself."""
+        self.put("a.trace", example("case-i.trace"))
+        self.night()
+        other = self.put("other.db", b"SQLite format 3\0" + bytes(100))
+        ran = nyo("night", other, self.db, "--db", self.folder / "new.db")
+        self.assertEqual((ran.status, ran.err), (FAILED, f"nyo: {other}: file is not a database\n"))
+        self.assertEqual(query(self.folder / "new.db", "SELECT work FROM traces"), [(10,)])
+        self.assertEqual(nyo("night", self.db, "--db", self.db).status, USAGE)
+
+
 class Files(InAFolder):
     """Which files are taken, and what a file may be."""
 

@@ -3,7 +3,6 @@
 from __future__ import annotations
 
 import argparse
-import os
 import re
 from fractions import Fraction
 from typing import Any, Dict, List, NamedTuple, Optional, Union
@@ -83,7 +82,7 @@ def run(args: argparse.Namespace) -> int:
 
 def side(file: str, **limits: Any) -> Side:
     """What a trace or a night has on its span."""
-    if os.path.isfile(file) and store.is_database(file):
+    if store.is_database(file):
         with store.read(file) as night:
             return night_side(night)
     profile = api.profile(streams.read(file), **limits)

@@ -28,7 +28,9 @@ def add(subparsers: Any) -> None:
     parser = subparsers.add_parser(
         "night", help="profile every trace of some folders into a database; goes on where it stopped"
     )
-    parser.add_argument("folders", nargs="+", metavar="FOLDER", help="looked through, with the folders in it; or a trace")
+    parser.add_argument(
+        "folders", nargs="+", metavar="FOLDER", help="looked through, with the folders in it; or a trace, or a night"
+    )
     parser.add_argument("--db", required=True, metavar="FILE", help="the SQLite file, made where there is none")
     parser.add_argument("--match", default="*.trace", metavar="PATTERN", help="names of traces in folders (default: *.trace)")
     parser.add_argument("-n", type=arguments.at_least_one, default=10, metavar="ROWS", help="rows of each table (default: 10)")
@@ -41,11 +43,15 @@ def add(subparsers: Any) -> None:
 def run(args: argparse.Namespace) -> int:
     """Stores what comes of every file that is new, then prints the tables over all that is stored."""
     library.loaded()
-    paths, unlisted = found(args.folders, args.match)
-    failed = unlisted if paths or unlisted else [f"no file matches {args.match}"]
+    parts = [file for file in args.folders if store.is_database(file)]
+    if any(os.path.exists(args.db) and os.path.samefile(part, args.db) for part in parts):
+        raise arguments.Usage(f"{args.db} cannot be taken into itself")
+    paths, failed = found([folder for folder in args.folders if folder not in parts], args.match)
+    if not (paths or parts or failed):
+        failed.append(f"no file matches {args.match}")
     with store.written(args.db) as night:
         try:
-            failed += judge_all(night, paths, args.workers, args.scheduler)
+            failed += taken_in(night, parts) + judge_all(night, paths, args.workers, args.scheduler)
         except BrokenProcessPool:
             failed.append(f"a worker process was ended; what is finished is in {args.db}: start again to go on")
         emit(night, args.format, args.n)
@@ -74,10 +80,23 @@ def found(folders: Iterable[str], pattern: str) -> Tuple[List[str], List[str]]:
     return sorted(paths, key=os.fsencode), failed
 
 
+def taken_in(night: Night, parts: List[str]) -> List[str]:
+    """Stores what other nights have; answers a sentence for each that is none."""
+    failed = []
+    for part in parts:
+        try:
+            night.take_in(part)
+        except store.StoreFailed as error:
+            failed.append(str(error))
+    return failed
+
+
 def judge_all(night: Night, paths: List[str], workers: Optional[int], scheduler: Optional[str]) -> List[str]:
     """Stores what comes of each file, in their order; answers a sentence for each that could not be read."""
     digests, failed = night.digests(), []
     known = [(path, digests.get(store.kept_as(path), "")) for path in paths]
+    if not known:
+        return []
     with crew(workers, scheduler) as (executor, size), Progress(len(paths)) as progress:
         for outcome in outcomes(executor, size, known):
             if outcome.unread:
