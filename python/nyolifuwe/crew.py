@@ -11,12 +11,12 @@ from concurrent.futures import Executor, Future, ProcessPoolExecutor, ThreadPool
 from contextlib import contextmanager
 from importlib import import_module
 from multiprocessing.connection import wait
-from typing import Any, Callable, Deque, Iterable, Iterator, Optional, Tuple, TypeVar
+from typing import Any, Callable, Deque, Iterator, List, Optional, Sequence, Tuple, TypeVar
 
-from .judge import Outcome, judged
+from .judge import Outcome, all_judged
 
-# Files under way for each worker: enough that none waits while results are written.
-UNDER_WAY = 4
+# Files that go to a worker at once, and such batches under way for each worker, so that none waits while results are written.
+BATCH, UNDER_WAY = 8, 3
 
 SCHEDULER_SECONDS = 10  # to wait for a scheduler
 
@@ -28,15 +28,15 @@ class NoScheduler(OSError):
     """A Dask scheduler that cannot be had."""
 
 
-def outcomes(executor: Executor, size: int, known: Iterable[Tuple[str, str]]) -> Iterator[Outcome]:
+def outcomes(executor: Executor, size: int, known: Sequence[Tuple[str, str]]) -> Iterator[Outcome]:
     """What comes of each file, given with the digest known of it, in their order."""
-    under_way: Deque[Future[Outcome]] = deque()
-    for path, digest in known:
-        under_way.append(executor.submit(judged, path, digest))
+    under_way: Deque[Future[List[Outcome]]] = deque()
+    for first in range(0, len(known), BATCH):
+        under_way.append(executor.submit(all_judged, known[first : first + BATCH]))
         if len(under_way) > UNDER_WAY * size:
-            yield under_way.popleft().result()
+            yield from under_way.popleft().result()
     while under_way:
-        yield under_way.popleft().result()
+        yield from under_way.popleft().result()
 
 
 @contextmanager

@@ -3,15 +3,19 @@
 from __future__ import annotations
 
 import hashlib
-from typing import List, NamedTuple, Optional, Tuple
+from typing import List, NamedTuple, Optional, Sequence, Tuple
 
 from . import api
 from .errors import Refused
 from .library import LINE_CHARS, MOST_LINES
-from .model import Row
+from .model import Place
 
 MOST_CHARS = LINE_CHARS * MOST_LINES
 PART = 1 << 20
+
+
+# A row as it is stored: its number, its place (None three times for the root), its columns.
+Stored = Tuple[Optional[int], ...]
 
 
 class Accepted(NamedTuple):
@@ -21,7 +25,7 @@ class Accepted(NamedTuple):
     span: int
     sites: int
     lines: int
-    rows: List[Row]
+    rows: List[Stored]
 
 
 class Refusal(NamedTuple):
@@ -73,5 +77,10 @@ def judged(path: str, known: str) -> Outcome:
         profile = api.profile(trace)
     except Refused as refused:
         return Outcome(path, digest, refusal=Refusal(refused.number, refused.line, refused.sentence))
-    accepted = Accepted(profile.work, profile.span, profile.sites, profile.lines, profile.rows)
-    return Outcome(path, digest, accepted=accepted)
+    rows = [(row.row, *(row.place or (None,) * len(Place._fields)), *row[2:]) for row in profile.rows]
+    return Outcome(path, digest, accepted=Accepted(profile.work, profile.span, profile.sites, profile.lines, rows))
+
+
+def all_judged(files: Sequence[Tuple[str, str]]) -> List[Outcome]:
+    """What comes of each of some files, given with the digest known of it."""
+    return [judged(path, known) for path, known in files]

@@ -155,12 +155,10 @@ class Night:
             "INSERT INTO traces (path, digest, verdict, work, span, sites, lines) VALUES (?, ?, 0, ?, ?, ?, ?)",
             (path, digest, *accepted[:4]),
         )
-        places = [row.place for row in accepted.rows if row.place]
+        places = [row[1:4] for row in accepted.rows if row[0]]
         self.connection.executemany("INSERT OR IGNORE INTO sites VALUES (?, ?, ?)", places)
-        self.connection.executemany(
-            f"INSERT INTO rows VALUES (?, ?, ?, ?, ?{', ?' * len(COLUMNS)})",
-            [(one.lastrowid, row.row, *(row.place or (None,) * 3), *row[2:]) for row in accepted.rows],
-        )
+        rows = [(one.lastrowid, *row) for row in accepted.rows]
+        self.connection.executemany(f"INSERT INTO rows VALUES (?, ?, ?, ?, ?{', ?' * len(COLUMNS)})", rows)
 
     def _write_refusal(self, path: Union[str, bytes], digest: str, refusal: Refusal) -> None:
         """Stores the refusal of a trace."""

@@ -23,7 +23,7 @@ from unittest import mock
 
 import nyolifuwe
 from nyolifuwe import judge, library, progress, store
-from nyolifuwe.model import Place, Row
+from nyolifuwe.model import Place
 
 from . import make_night
 from .support import EXAMPLES, FAILED, GOOD, REFUSED, TOP, USAGE, Outcome, example, nyo, program
@@ -186,7 +186,7 @@ class Answers(InAFolder):
     def test_sums_past_64_bits(self) -> None:
         """Sums over traces are exact where 64 bits do not hold them."""
         large = (1 << 53) + 1
-        row = Row(0, None, 1, large, large, large, large)
+        row = (0, None, None, None, *(large for _ in library.COLUMNS))
         with store.written(str(self.db)) as night:
             for count in range(1100):
                 night.write(judge.Outcome(f"/{count}", "digest", accepted=judge.Accepted(large, large, 0, 1, [row])))
@@ -384,7 +384,7 @@ class Cluster(InAFolder):
             client.get_executor.return_value = threads
             with mock.patch.dict(sys.modules, distributed=dask):
                 ran = nyo("night", self.folder, "--db", self.db, "--scheduler", "tcp://there:8786")
-            self.assertEqual([call.args[0] for call in submitted.call_args_list], [judge.judged] * 2)
+            self.assertEqual([call.args[0] for call in submitted.call_args_list], [judge.all_judged])
         self.assertEqual((ran.status, dask.Client.call_args.args), (REFUSED, ("tcp://there:8786",)))
         self.assertEqual(read_back(self.db), stored(self.folder))
 
