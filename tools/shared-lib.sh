@@ -7,7 +7,7 @@ cd "$(dirname "$0")/.."
 numbers tools/shared-lib.sh 0 "$@"
 tools/native-lib.sh
 archive=target/native/libnyolifuwe.a library=target/native/libnyolifuwe.so
-if ! [ "$library" -nt "$archive" ]; then
+if [ ! -f "$library" ] || [ -n "$(find "$archive" -newer "$library")" ]; then
     "${CC:-cc}" -shared -Wl,--whole-archive "$archive" -Wl,--no-whole-archive -o "$library.$$"
     mv "$library.$$" "$library"
 fi

@@ -1,4 +1,4 @@
-"""The binding: the shared library, its functions as include/nyolifuwe.h declares them, and the room that each one needs."""
+"""The binding: the shared library, its functions as include/nyolifuwe.h declares them, and the room that each needs."""
 
 from __future__ import annotations
 
@@ -67,7 +67,7 @@ def path() -> Path:
     """Where the shared library is: what NYO_LIBRARY names, else beside the package, else where the project builds it."""
     named = os.environ.get("NYO_LIBRARY")
     if named:
-        return Path(named)
+        return Path(named).absolute()
     here = Path(__file__).resolve().parent
     beside = here / FILE_NAME
     return beside if beside.exists() else here.parent.parent / "target" / "native" / FILE_NAME
@@ -135,6 +135,6 @@ def rows_room(sites: int) -> int:
 
 
 def csv_room(count: int) -> int:
-    """Characters that are enough for comma-separated text of so many sites: all numbers of 20 digits."""
+    """Characters that are enough for comma-separated text of so many sites, whose header is shorter than a record."""
     record = 21 * (1 + len(COLUMNS)) + 1
     return record * (count + 2)

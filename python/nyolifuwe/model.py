@@ -59,5 +59,6 @@ class Profile:
         """The rows as a pandas frame with a row's number for its index; wants pandas installed."""
         import pandas
 
-        flat = [(row.row, *(row.place or (None,) * 3), *row[2:]) for row in self.rows]
-        return pandas.DataFrame(flat, columns=["row", *Place._fields, *Row._fields[2:]]).set_index("row")
+        flat = [(row.row, *(row.place or (None,) * len(Place._fields)), *row[2:]) for row in self.rows]
+        frame = pandas.DataFrame(flat, columns=["row", *Place._fields, *Row._fields[2:]])
+        return frame.astype({name: "Int64" for name in Place._fields}).set_index("row")

@@ -72,6 +72,10 @@ class TheProfile(unittest.TestCase):
                 self.assertEqual(sum(row.local for row in marks.rows), marks.work)
                 self.assertEqual(sum(row.on_span for row in marks.rows), marks.span)
 
+    def test_places_wherever_the_site_lines_stand(self) -> None:
+        on_the_way = event("4") + line(1, 1, 10, 1, 5) + event("call 1") + line(1, 2, 20, 2, 9) + 2 * RETURN
+        self.assertEqual(api.places(on_the_way.encode()), [Place(1, 10, 5), Place(2, 20, 9)])
+
     def test_other_engines_are_none(self) -> None:
         self.assertRaises(ValueError, nyolifuwe.profile, example("case-i.trace"), engine="other")
 
@@ -128,7 +132,7 @@ class TheTexts(unittest.TestCase):
             self.assertEqual(nyolifuwe.read_csv(example(name)), bare)
 
     def test_the_widest_text_has_room(self) -> None:
-        widest = [Row(row, None, *5 * [2**64 - 1]) for row in range(256)]
+        widest = [Row(row, None, *len(library.COLUMNS) * [2**64 - 1]) for row in range(256)]
         self.assertEqual(nyolifuwe.read_csv(nyolifuwe.write_csv(widest)), widest)
 
     def test_rows_that_cannot_be_written(self) -> None:

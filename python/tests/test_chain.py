@@ -7,8 +7,9 @@ import unittest
 from collections import Counter
 
 import nyolifuwe
+from nyolifuwe.commands.chain import Cost, marked
 
-from .support import GOOD, RETURN, Outcome, accepted_examples, as_text, example, nyo, read_back
+from .support import GOOD, RETURN, Outcome, accepted_examples, as_text, event, example, line, nyo, read_back
 
 CASE_I = """\
 work 10, span 9, parallelism 1.11, 10 lines, 2 sites
@@ -42,6 +43,14 @@ class TheChain(unittest.TestCase):
         found = nyo("chain", "examples/splitter.trace", "--names", "-", stdin=b"r\nsplit\nleaf\n")
         wide = SPLITTER.format(one=one, two=two).replace("place  cost", f"{'place':{len(one)}}  cost")
         self.assertEqual(found, Outcome(GOOD, wide, ""))
+
+    def test_site_lines_on_the_way(self) -> None:
+        # 4, site 1, call 1 {2, site 2, spawn 2 {6}, 1}, 3: lines 0, 3, 6 and 10 are on the chain, in rows 0, 1, 2 and 0
+        lines = [event("4"), line(1, 1, 1, 1, 1), event("call 1"), event("2"), line(1, 2, 2, 1, 1), event("spawn 2")]
+        lines += [event("6"), RETURN, event("1"), RETURN, event("3"), RETURN]
+        marks = bytes([1, 0, 0, 1, 0, 0, 1, 0, 0, 0, 1, 0])
+        found = list(marked("".join(lines).encode(), marks))
+        self.assertEqual(found, [Cost(0, 0, 4), Cost(3, 1, 2), Cost(6, 2, 6), Cost(10, 0, 3)])
 
     def test_a_trace_without_cost(self) -> None:
         empty = "work 0, span 0, parallelism -, 1 line, 0 sites\n"
