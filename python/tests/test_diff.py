@@ -5,6 +5,7 @@ from __future__ import annotations
 import csv
 import io
 import json
+import re
 import shutil
 import tempfile
 import unittest
@@ -14,7 +15,7 @@ from typing import List, Sequence
 from nyolifuwe import judge, store
 
 from . import make_night
-from .support import FAILED, GOOD, REFUSED, USAGE, Outcome, nyo, trace
+from .support import FAILED, GOOD, REFUSED, TOP, USAGE, Outcome, nyo, program, trace
 
 OVER = 4
 
@@ -134,6 +135,13 @@ class Traces(InAFolder):
         self.assertEqual(records, [list(place), ["", "", "", "0", "4", "4", "100.0"]])
         self.assertEqual(self.diff(C, C, "--format", "csv").out, ",".join(place) + "\r\n")
         self.assertEqual(json.loads(self.diff(C, C, "--format", "json").out)["places"], [])
+
+    def test_the_guide(self) -> None:
+        """The screen of docs/GUIDE.md with a changed trace on a pipe."""
+        guide = (TOP / "docs" / "GUIDE.md").read_text()
+        ((command, screen),) = re.findall(r"^\$ (sed .*)\n((?:.*\n)*?)\$ echo \$\?\n4$", guide, re.M)
+        ran = program(command.replace("./nyo", "$nyo"))
+        self.assertEqual((ran.status, ran.out + ran.err), (OVER, screen))
 
     def test_ends(self) -> None:
         """Every refused trace is told; a pipe is read; what cannot be read or is no percentage is told."""
