@@ -114,9 +114,8 @@ class InAFolder(unittest.TestCase):
         return file
 
     def night(self, *words: object) -> Outcome:
-        """The night of the folder as a program of its own, with one worker."""
-        more = " ".join(map(str, words))
-        return program(f"$nyo night {self.folder} --db {self.db} --workers 1 {more}")
+        """The night of the folder, with one worker unless other words say so."""
+        return nyo("night", self.folder, "--db", self.db, "--workers", "1", *words)
 
 
 class Answers(InAFolder):
@@ -138,7 +137,7 @@ class Answers(InAFolder):
 
     def formats(self) -> None:
         """The same as JSON and as comma-separated text."""
-        ran = self.night("--format json")
+        ran = self.night("--format", "json")
         whole = json.loads(ran.out)
         self.assertEqual(
             [whole[key] for key in ("traces", "accepted", "refused", "lines", "work", "span")], [3, 2, 1, 95, 36150, 11444]
@@ -149,14 +148,14 @@ class Answers(InAFolder):
         self.assertEqual(
             [(one["span"], Path(one["path"]).name) for one in whole["worst"]], [(11435, "proxy.trace"), (9, "case-i.trace")]
         )
-        records = list(csv.DictReader(io.StringIO(self.night("--format csv").out)))
+        records = list(csv.DictReader(io.StringIO(self.night("--format", "csv").out)))
         self.assertEqual(len(records), 11)
         self.assertEqual([records[5][name] for name in ("file", "traces", "local", "on_span")], ["", "2", "242", "227"])
 
     def test_generated(self) -> None:
         """Of generated traces the database has what the library says, and each damage its number."""
         verdicts = make_night.make(self.folder, 120, seed=7, most=400, damaged=30)
-        self.assertEqual(self.night("--workers 2").status, REFUSED)
+        self.assertEqual(self.night("--workers", "2").status, REFUSED)
         self.assertEqual(read_back(self.db), stored(self.folder))
         numbers = dict(query(self.db, "SELECT path, verdict FROM traces"))
         self.assertEqual(numbers, {str(file): number for file, number in verdicts.items()})
@@ -178,7 +177,7 @@ class Answers(InAFolder):
             ]
             self.put(f"{name}.trace", b"".join(sites + calls) + make_night.RETURN)
         places_of = {
-            (one["file"], one["line"], one["column"]): one for one in json.loads(self.night("--format json").out)["places"]
+            (one["file"], one["line"], one["column"]): one for one in json.loads(self.night("--format", "json").out)["places"]
         }
         numbers = {place: (places_of[place]["traces"], places_of[place]["on_span"]) for place in places}
         self.assertEqual(numbers, {place: (2, 2 * place.line) for place in places})
@@ -272,7 +271,7 @@ class Files(InAFolder):
         """What cannot be read is told, is not stored, and ends nothing."""
         self.put("a.trace", example("case-i.trace"))
         self.assertEqual(judge.judged(str(self.folder), "").unread, "Is a directory")
-        ran = program(f"$nyo night {self.folder}/none {self.folder} --db {self.db} --workers 1")
+        ran = self.night(self.folder / "none")
         self.assertEqual((ran.status, ran.err), (FAILED, f"nyo: {self.folder}/none: No such file or directory\n"))
         self.assertEqual(query(self.db, "SELECT work FROM traces"), [(10,)])
 
@@ -304,7 +303,7 @@ class Database(InAFolder):
         self.put("a.trace", example("case-i.trace"))
         self.assertEqual(nyo("night", self.folder, "--db", "/dev/full").status, FAILED)
         self.assertEqual(nyo("night", self.folder, "--db", self.folder / "none" / "night.db").status, FAILED)
-        self.assertEqual(self.night(">/dev/full").status, FAILED)
+        self.assertEqual(program(f"$nyo night {self.folder} --db {self.db} >/dev/full").status, FAILED)
         self.assertEqual(query(self.db, "SELECT work FROM traces"), [(10,)])
 
     def test_usage(self) -> None:
@@ -358,6 +357,24 @@ class Stopped(InAFolder):
                 return
             time.sleep(0.02)
         self.fail("a worker outlives the night")
+
+    def test_lost_worker(self) -> None:
+        """A worker that is killed ends the night with a sentence; what is stored stays, and starting again goes on."""
+        traces = self.folder / "traces"
+        make_night.make(traces, 200, seed=5, most=1000)
+        night = self.started(traces, self.db, stderr=subprocess.PIPE)
+        self.wait_for(self.db, 20, night)
+        os.kill(self.worker_of(night.pid), signal.SIGKILL)
+        said = f"nyo: a worker process was ended; what is finished is in {self.db}: start again to go on\n"
+        self.assertEqual((night.communicate()[1].decode(), night.returncode), (said, FAILED))
+        self.assertGreaterEqual(len(query(self.db, "SELECT * FROM traces")), 20)
+        self.assertEqual(self.started(traces, self.db).wait(), REFUSED)
+        self.assertEqual(query(self.db, "SELECT count(*) FROM traces"), [(200,)])
+
+    def worker_of(self, parent: int) -> int:
+        """A worker process of a night."""
+        children = map(int, Path(f"/proc/{parent}/task/{parent}/children").read_text().split())
+        return next(child for child in children if b"spawn_main" in Path(f"/proc/{child}/cmdline").read_bytes())
 
     def test_interrupted(self) -> None:
         """An interrupt ends it without a trace of the workers, and what is stored is in one file."""
