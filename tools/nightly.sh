@@ -1,7 +1,7 @@
 #!/bin/sh
 # nightly.sh [CASES [SEED]]: the nightly comparison: the C test, other programs on comma-separated text and folded stacks,
-# CASES generated cases against the second program (a million of a seed made from the date, if not said), and a minute of
-# fuzzing. The seed is printed, so that a night can be repeated.
+# nyo's page in a browser and its night over a cluster, CASES generated cases against the second program (a million of a
+# seed made from the date, if not said), and a minute of fuzzing. The seed is printed, so that a night can be repeated.
 set -eu
 cd "$(dirname "$0")/.."
 . tools/usage.sh
@@ -11,6 +11,7 @@ tools/native-lib.sh
 c/run.sh
 tools/sheet-consumers.sh
 tools/folded-consumers.sh
+tools/nyo-nightly.sh
 echo "fuzzing for a minute, seed $seed"
 FUZZ_SECONDS=60 fuzz/run.sh 1000000000 "$seed"
 echo "comparing $cases cases of seed $seed"

@@ -39,6 +39,13 @@ def add_format(parser: argparse.ArgumentParser) -> None:
     parser.add_argument("--format", choices=FORMATS, default="text", help="how to print it (default: text)")
 
 
+def at_least_one(word: str) -> int:
+    """A number from 1 on."""
+    if not (word.isascii() and word.isdigit() and int(word)):
+        raise argparse.ArgumentTypeError(f"not a number from 1 on: {word}")
+    return int(word)
+
+
 def limits(args: argparse.Namespace) -> Dict[str, Any]:
     """The limits as the binding takes them."""
     return {"depth": args.depth, "sites": args.sites}

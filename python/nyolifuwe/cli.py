@@ -9,11 +9,11 @@ from typing import IO, List, Optional, Sequence
 
 from . import __version__
 from .arguments import Usage
-from .commands import chain, check, compact, csv, folded, forecast, report, top
+from .commands import chain, check, compact, csv, diff, folded, forecast, night, page, report, top
 from .errors import Refused
 from .streams import STANDARD_INPUT, OutputFailed, emit, say
 
-COMMANDS: List[ModuleType] = [top, forecast, chain, check, compact, folded, csv, report]
+COMMANDS: List[ModuleType] = [top, forecast, chain, check, page, night, diff, compact, folded, csv, report]
 DEFAULT = "top"
 
 GOOD, REFUSED, USAGE, FAILED, INTERRUPTED = 0, 1, 2, 3, 130

@@ -15,9 +15,9 @@ from .streams import emit
 
 FORMATS = ("text", "json", "csv")
 
-# The columns that say which row a record is of; these stand to the left, numbers to the right.
-SITE, PLACE = "site", "place"
-LEFT = (SITE, PLACE)
+# The columns that say which row or trace a record is of, and notes: these stand to the left, numbers to the right.
+SITE, PLACE, NOTE, TRACE = "site", "place", "note", "trace"
+LEFT = (SITE, PLACE, NOTE, TRACE)
 
 PLAIN, BOLD, GREEN, YELLOW = "", "1", "32", "33"
 
@@ -37,9 +37,14 @@ def percent(part: int, whole: int) -> str:
     return f"{100 * part / whole:.1f}%" if whole else "-"
 
 
-def parallelism(profile: Profile) -> str:
+def ratio(work: int, span: int) -> str:
     """Work over span for people."""
-    return "-" if profile.parallelism is None else f"{profile.parallelism:,.2f}"
+    return f"{work / span:,.2f}" if span else "-"
+
+
+def parallelism(profile: Profile) -> str:
+    """Work over span of a profile for people."""
+    return ratio(profile.work, profile.span)
 
 
 def counted(count: int, thing: str) -> str:
@@ -107,11 +112,11 @@ def emit_json(value: Any) -> None:
     emit(json.dumps(value, indent=2) + "\n")
 
 
-def emit_csv(records: List[Dict[str, Any]]) -> None:
-    """Records, which have the same fields, as comma-separated text under the fields' names; nothing for none."""
-    text = io.StringIO()
-    if records:
-        writer = csv.DictWriter(text, list(records[0]))
+def emit_csv(records: List[Dict[str, Any]], fields: Sequence[str] = ()) -> None:
+    """Records, which have the same fields, as comma-separated text under the fields' names; for none the names if given."""
+    text, names = io.StringIO(), list(fields) or [name for record in records[:1] for name in record]
+    if names:
+        writer = csv.DictWriter(text, names)
         writer.writeheader()
         writer.writerows(records)
     emit(text.getvalue())

@@ -13,9 +13,6 @@ from .support import TOP, nyo
 GUIDE = (TOP / "docs" / "GUIDE.md").read_text()
 README = (TOP / "python" / "README.md").read_text()
 
-# Commands whose screens depend on the machine or on the hour, or that write files.
-NOT_RUN = ("page", "night", "diff")
-
 
 class ThePages(unittest.TestCase):
     """What a reader may paste."""
@@ -24,10 +21,8 @@ class ThePages(unittest.TestCase):
         screens = re.findall(r"^```\n\$ \./nyo (.*)\n((?:.*\n)*?)```$", GUIDE, re.M)
         self.assertTrue(screens)
         for command, screen in screens:
-            words = shlex.split(command)
-            if words[0] not in NOT_RUN:
-                with self.subTest(command):
-                    self.assertEqual(nyo(*words).out.replace("\r\n", "\n"), screen)
+            with self.subTest(command):
+                self.assertEqual(nyo(*shlex.split(command)).out.replace("\r\n", "\n"), screen)
 
     def test_the_program(self) -> None:
         (text,) = re.findall(r"^```python\n(.*?)^```$", README, re.M | re.S)

@@ -22,16 +22,9 @@ def add(subparsers: Any) -> None:
     arguments.add_names(parser)
     parser.add_argument("--by", choices=ORDERS, default="gain", help="the column to sort by (default: gain)")
     parser.add_argument("--all", action="store_true", help="idle rows too")
-    parser.add_argument("-n", type=at_least_one, metavar="ROWS", help="so many rows at most")
+    parser.add_argument("-n", type=arguments.at_least_one, metavar="ROWS", help="so many rows at most")
     arguments.add_format(parser)
     parser.set_defaults(run=run)
-
-
-def at_least_one(word: str) -> int:
-    """A number from 1 on."""
-    if not (word.isascii() and word.isdigit() and int(word)):
-        raise argparse.ArgumentTypeError(f"not a number from 1 on: {word}")
-    return int(word)
 
 
 def run(args: argparse.Namespace) -> int:

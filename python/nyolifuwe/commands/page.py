@@ -1,0 +1,53 @@
+"""nyo page: a profile as one HTML page that needs nothing beside itself."""
+
+from __future__ import annotations
+
+import argparse
+import os
+from pathlib import Path
+from typing import Any, Sequence
+
+from .. import api, arguments, flame, streams
+from ..gains import gains
+from ..model import Row
+from ..names import Names, unnamed
+from ..page import page
+
+STANDARD_OUTPUT = "-"
+
+
+def add(subparsers: Any) -> None:
+    """The words of the command."""
+    parser = subparsers.add_parser("page", help="one HTML page: totals, forecast, table and flame view")
+    arguments.add_trace(parser)
+    arguments.add_names(parser)
+    parser.add_argument("-o", "--output", required=True, metavar="FILE", help="the page to write; - is standard output")
+    parser.set_defaults(run=run)
+
+
+def run(args: argparse.Namespace) -> int:
+    """Writes the page."""
+    trace, lists, limits = streams.read(args.trace), arguments.lists(args), arguments.limits(args)
+    profile = api.profile(trace, **limits)
+    folded = api.folded(trace, lists["project"], filled(lists["stock"], profile.rows), **limits)
+    boxes = flame.boxes(trace, profile.marks or b"", folded)
+    title = "standard input" if args.trace == streams.STANDARD_INPUT else os.path.basename(args.trace)
+    write(args.output, page(title, profile, gains(trace, profile, **limits), boxes, Names(**lists)).encode())
+    return 0
+
+
+def filled(stock: bytes, rows: Sequence[Row]) -> bytes:
+    """The stock list, with what stands for a row that it does not name."""
+    named = dict(enumerate(stock.split(b"\n")))
+    return b"\n".join(named.get(row.row) or unnamed(row).encode() for row in rows)
+
+
+def write(name: str, text: bytes) -> None:
+    """Writes a file, or standard output where the name is -; OSError with the file's name where it does not take all."""
+    if name == STANDARD_OUTPUT:
+        streams.emit(text)
+        return
+    try:
+        Path(name).write_bytes(text)
+    except OSError as error:
+        raise OSError(error.errno, error.strerror, name) from error
