@@ -9,6 +9,7 @@ import threading
 from collections import deque
 from concurrent.futures import BrokenExecutor, CancelledError, Future, ProcessPoolExecutor, ThreadPoolExecutor
 from contextlib import contextmanager
+from functools import partial
 from importlib import import_module
 from multiprocessing.connection import wait
 from typing import Any, Callable, Deque, Iterator, List, NamedTuple, Optional, Protocol, Sequence, Tuple, TypeVar
@@ -108,6 +109,6 @@ def cluster(scheduler: str) -> Iterator[Crew]:
         raise NoScheduler(f"{scheduler}: {error}") from error
     try:
         with client:
-            yield Crew(lambda files: client.submit(all_judged, files, pure=False), sum(client.nthreads().values()) or 1)
+            yield Crew(partial(client.submit, all_judged, pure=False), sum(client.nthreads().values()) or 1)
     except (CancelledError, distributed.KilledWorker) as error:
         raise CrewLost(f"{scheduler}: the cluster was lost") from error
