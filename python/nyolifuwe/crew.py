@@ -7,11 +7,12 @@ import os
 import signal
 import threading
 from collections import deque
-from concurrent.futures import Executor, Future, ProcessPoolExecutor, ThreadPoolExecutor
+from concurrent.futures import BrokenExecutor, CancelledError, Future, ProcessPoolExecutor, ThreadPoolExecutor
 from contextlib import contextmanager
+from functools import partial
 from importlib import import_module
 from multiprocessing.connection import wait
-from typing import Any, Callable, Deque, Iterator, List, Optional, Sequence, Tuple, TypeVar
+from typing import Any, Callable, Deque, Iterator, List, NamedTuple, Optional, Protocol, Sequence, Tuple, TypeVar
 
 from .judge import Outcome, all_judged
 
@@ -20,7 +21,6 @@ BATCH, UNDER_WAY = 8, 3
 
 SCHEDULER_SECONDS = 10  # to wait for a scheduler
 
-
 Result = TypeVar("Result")
 
 
@@ -28,27 +28,44 @@ class NoScheduler(OSError):
     """A Dask scheduler that cannot be had."""
 
 
-def outcomes(executor: Executor, size: int, known: Sequence[Tuple[str, str]]) -> Iterator[Outcome]:
+class CrewLost(Exception):
+    """Workers that ended before their work."""
+
+
+class Promise(Protocol):
+    """What will come of a batch of files."""
+
+    def result(self) -> List[Outcome]:
+        """It, once it is there."""
+
+
+class Crew(NamedTuple):
+    """How a batch of files is given to a worker, and how many workers there are."""
+
+    give: Callable[[Sequence[Tuple[str, str]]], Promise]
+    size: int
+
+
+def outcomes(crew: Crew, known: Sequence[Tuple[str, str]]) -> Iterator[Outcome]:
     """What comes of each file, given with the digest known of it, in their order."""
-    under_way: Deque[Future[List[Outcome]]] = deque()
+    under_way: Deque[Promise] = deque()
     for first in range(0, len(known), BATCH):
-        under_way.append(executor.submit(all_judged, known[first : first + BATCH]))
-        if len(under_way) > UNDER_WAY * size:
+        under_way.append(crew.give(known[first : first + BATCH]))
+        if len(under_way) > UNDER_WAY * crew.size:
             yield from under_way.popleft().result()
     while under_way:
         yield from under_way.popleft().result()
 
 
 @contextmanager
-def crew(workers: Optional[int], scheduler: Optional[str]) -> Iterator[Tuple[Executor, int]]:
-    """An executor and how many tasks it does at a time."""
-    if scheduler:
-        with cluster(scheduler) as found:
-            yield found
-        return
+def machine(workers: Optional[int]) -> Iterator[Crew]:
+    """So many workers of this machine, one a core if not said; CrewLost where one ends."""
     size = workers or os.cpu_count() or 1
-    with Processes(size) if size > 1 else ThreadPoolExecutor(size) as executor:
-        yield executor, size
+    try:
+        with Processes(size) if size > 1 else ThreadPoolExecutor(size) as executor:
+            yield Crew(lambda files: executor.submit(all_judged, files), size)
+    except BrokenExecutor as error:
+        raise CrewLost("a worker process was ended") from error
 
 
 class Processes(ProcessPoolExecutor):
@@ -80,8 +97,8 @@ def _end_with_parent() -> None:
 
 
 @contextmanager
-def cluster(scheduler: str) -> Iterator[Tuple[Executor, int]]:
-    """The workers of a Dask cluster; NoScheduler where there is none, or no Dask here."""
+def cluster(scheduler: str) -> Iterator[Crew]:
+    """The workers of a Dask cluster; NoScheduler where there is none, or no Dask here, and CrewLost where it is lost."""
     try:
         distributed = import_module("distributed")
     except ImportError as error:
@@ -90,5 +107,8 @@ def cluster(scheduler: str) -> Iterator[Tuple[Executor, int]]:
         client = distributed.Client(scheduler, timeout=SCHEDULER_SECONDS)
     except (OSError, ValueError) as error:
         raise NoScheduler(f"{scheduler}: {error}") from error
-    with client:
-        yield client.get_executor(), sum(client.nthreads().values()) or 1
+    try:
+        with client:
+            yield Crew(partial(client.submit, all_judged, pure=False), sum(client.nthreads().values()) or 1)
+    except (CancelledError, distributed.KilledWorker) as error:
+        raise CrewLost(f"{scheduler}: the cluster was lost") from error

@@ -24,9 +24,9 @@ from unittest import mock
 from nyolifuwe import library
 
 from . import make_night
-from .support import REFUSED, TOP
+from .support import FAILED, REFUSED, TOP
 
-TRACES = 300
+TRACES = 1500
 
 
 def environment() -> Dict[str, str]:
@@ -48,7 +48,7 @@ class Cluster(unittest.TestCase):
         self.folder = Path(tempfile.mkdtemp())
         self.addCleanup(shutil.rmtree, self.folder)
         self.traces = self.folder / "traces"
-        make_night.make(self.traces, TRACES, seed=11, most=2000, damaged=10)
+        make_night.make(self.traces, TRACES, seed=11, most=1000, damaged=10)
 
     def cluster(self) -> Any:
         """Two workers; each is started anew where it ends."""
@@ -59,11 +59,22 @@ class Cluster(unittest.TestCase):
         self.addCleanup(found.close)
         return found
 
-    def started(self, name: str, *words: str) -> Tuple[Path, "subprocess.Popen[bytes]"]:
+    def started(self, name: str, *words: str, **more: Any) -> Tuple[Path, "subprocess.Popen[bytes]"]:
         """A night that is under way, and its database."""
         db = self.folder / name
         command = [sys.executable, "-m", "nyolifuwe", "night", str(self.traces), "--db", str(db), *words]
-        return db, subprocess.Popen(command, env=environment(), stdout=subprocess.DEVNULL)
+        return db, subprocess.Popen(command, env=environment(), stdout=subprocess.DEVNULL, **more)
+
+    def wait_for(self, db: Path, night: "subprocess.Popen[bytes]") -> None:
+        """Waits until some traces are stored."""
+        while night.poll() is None:
+            try:
+                with closing(sqlite3.connect(db)) as connection:
+                    if connection.execute("SELECT count(*) FROM traces").fetchone()[0]:
+                        return
+            except sqlite3.OperationalError:
+                pass
+            time.sleep(0.01)
 
     def test_same_as_one_machine(self) -> None:
         """The two databases are the same."""
@@ -78,13 +89,23 @@ class Cluster(unittest.TestCase):
         """A worker that is killed costs time and no trace."""
         cluster = self.cluster()
         db, night = self.started("night.db", "--scheduler", cluster.scheduler_address)
-        while night.poll() is None and not db.exists():
-            time.sleep(0.01)
+        self.wait_for(db, night)
         os.kill(next(iter(cluster.workers.values())).pid, signal.SIGKILL)
         self.assertEqual(night.wait(), REFUSED)
         alone, again = self.started("alone.db", "--workers", "1")
         self.assertEqual(again.wait(), REFUSED)
         self.assertEqual(contents(db), contents(alone))
+
+    def test_lost_scheduler(self) -> None:
+        """A scheduler that goes away ends the night with a sentence; what is stored stays, and starting again goes on."""
+        cluster = self.cluster()
+        db, night = self.started("night.db", "--scheduler", cluster.scheduler_address, stderr=subprocess.PIPE)
+        self.wait_for(db, night)
+        cluster.close()
+        said = f"nyo: {cluster.scheduler_address}: the cluster was lost; what is finished is in {db}: start again to go on\n"
+        told = night.communicate()[1].decode()
+        self.assertEqual((told[-len(said) :], night.returncode), (said, FAILED))
+        self.assertEqual(self.started("night.db", "--workers", "1")[1].wait(), REFUSED)
 
     def test_no_scheduler(self) -> None:
         """An address where none is ends it with status 3 and a sentence."""

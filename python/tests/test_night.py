@@ -391,17 +391,16 @@ class Cluster(InAFolder):
     """A night over a scheduler; tests/nightly_cluster.py has a real one."""
 
     def test_scheduler(self) -> None:
-        """The same function goes to the cluster's executor, and what comes back is stored."""
+        """The same function goes to the cluster, and what comes back is stored."""
         self.put("a.trace", example("case-i.trace"))
         self.put("b.trace", example("refusal-07.trace"))
         client, dask = mock.MagicMock(), mock.MagicMock()
         client.__enter__.return_value, client.nthreads.return_value = client, {"one": 1, "other": 2}
         dask.Client.return_value = client
-        with ThreadPoolExecutor(3) as threads, mock.patch.object(threads, "submit", wraps=threads.submit) as submitted:
-            client.get_executor.return_value = threads
-            with mock.patch.dict(sys.modules, distributed=dask):
-                ran = nyo("night", self.folder, "--db", self.db, "--scheduler", "tcp://there:8786")
-            self.assertEqual([call.args[0] for call in submitted.call_args_list], [judge.all_judged])
+        with ThreadPoolExecutor(3) as threads, mock.patch.dict(sys.modules, distributed=dask):
+            client.submit.side_effect = lambda task, files, pure: threads.submit(task, files)
+            ran = nyo("night", self.folder, "--db", self.db, "--scheduler", "tcp://there:8786")
+        self.assertEqual([call.args[0] for call in client.submit.call_args_list], [judge.all_judged])
         self.assertEqual((ran.status, dask.Client.call_args.args), (REFUSED, ("tcp://there:8786",)))
         self.assertEqual(read_back(self.db), stored(self.folder))
 

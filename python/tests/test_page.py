@@ -2,6 +2,7 @@
 
 from __future__ import annotations
 
+import os
 import tempfile
 import unittest
 from html.parser import HTMLParser
@@ -156,6 +157,14 @@ class Page(unittest.TestCase):
             read = made("examples/proxy.trace", "--names", str(names))
         self.assertEqual(read.table()[0][0], ("<b>&\"'</b>",) * 2)
         self.assertEqual(read.boxes()[0].name, "<b>&\"'</b>")
+
+    def test_names_of_files(self) -> None:
+        """A file's name may be any: the page is text all the same."""
+        with tempfile.TemporaryDirectory() as folder:
+            odd = os.fsdecode(os.fsencode(folder) + b"/<\xff>.trace")
+            Path(odd).write_bytes(example("case-i.trace"))
+            read = made(odd)
+        self.assertEqual(read.texts[[one.tag for one in read.elements].index("h1")], "<\\xff>.trace")
 
     def test_places_stand_in(self) -> None:
         """A row that no list names has its place, in the table and in the flame view."""

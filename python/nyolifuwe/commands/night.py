@@ -5,11 +5,10 @@ from __future__ import annotations
 import argparse
 import fnmatch
 import os
-from concurrent.futures.process import BrokenProcessPool
 from typing import Any, Dict, Iterable, List, Optional, Set, Tuple
 
 from .. import arguments, library, show, store, streams
-from ..crew import crew, outcomes
+from ..crew import CrewLost, cluster, machine, outcomes
 from ..library import COLUMNS
 from ..model import Place
 from ..names import ROOT, place_text
@@ -52,8 +51,8 @@ def run(args: argparse.Namespace) -> int:
     with store.written(args.db) as night:
         try:
             failed += taken_in(night, parts) + judge_all(night, paths, args.workers, args.scheduler)
-        except BrokenProcessPool:
-            failed.append(f"a worker process was ended; what is finished is in {args.db}: start again to go on")
+        except CrewLost as lost:
+            failed.append(f"{lost}; what is finished is in {args.db}: start again to go on")
         emit(night, args.format, args.n)
         refused = night.totals().refused
     for sentence in failed:
@@ -97,8 +96,8 @@ def judge_all(night: Night, paths: List[str], workers: Optional[int], scheduler:
     known = [(path, digests.get(store.kept_as(path), "")) for path in paths]
     if not known:
         return []
-    with crew(workers, scheduler) as (executor, size), Progress(len(paths)) as progress:
-        for outcome in outcomes(executor, size, known):
+    with cluster(scheduler) if scheduler else machine(workers) as crew, Progress(len(paths)) as progress:
+        for outcome in outcomes(crew, known):
             if outcome.unread:
                 failed.append(f"{store.shown(store.kept_as(outcome.path))}: {outcome.unread}")
             elif not outcome.kept:

@@ -12,6 +12,7 @@ from ..gains import gains
 from ..model import Row
 from ..names import Names, unnamed
 from ..page import page
+from ..store import kept_as, shown
 
 STANDARD_OUTPUT = "-"
 
@@ -31,7 +32,7 @@ def run(args: argparse.Namespace) -> int:
     profile = api.profile(trace, **limits)
     folded = api.folded(trace, lists["project"], filled(lists["stock"], profile.rows), **limits)
     boxes = flame.boxes(trace, profile.marks or b"", folded)
-    title = "standard input" if args.trace == streams.STANDARD_INPUT else os.path.basename(args.trace)
+    title = "standard input" if args.trace == streams.STANDARD_INPUT else shown(kept_as(os.path.basename(args.trace)))
     write(args.output, page(title, profile, gains(trace, profile, **limits), boxes, Names(**lists)).encode())
     return 0
 
