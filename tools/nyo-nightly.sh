@@ -1,6 +1,6 @@
 #!/bin/sh
-# nyo-nightly.sh: tests of nyo that want more than Python: its page in Chromium, and a night over a Dask cluster of two
-# workers. What lacks is installed where that can be done (Debian, as root); a test that is skipped says why.
+# nyo-nightly.sh: tests of nyo that want more than Python: its page in Chromium, a night over a Dask cluster of two
+# workers, and nights that are killed while they are under way, which want a machine that is not too busy. What lacks is installed where that can be done (Debian, as root); a test that is skipped says why.
 set -eu
 cd "$(dirname "$0")/.."
 . tools/usage.sh
@@ -30,4 +30,5 @@ wanted chromium command -v chromium
 wanted python3-distributed with_dask
 cd python
 python3 -m unittest -v tests.nightly_browser
+python3 -m unittest -v tests.nightly_stopped
 "$(with_dask 2>/dev/null || echo python3)" -m unittest -v tests.nightly_cluster

@@ -1,4 +1,4 @@
-"""nyo night: what is stored is what the library says of each file, by SQL; killed and started again it is the same."""
+"""nyo night: what is stored is what the library says of each file, by SQL."""
 
 from __future__ import annotations
 
@@ -8,9 +8,7 @@ import io
 import json
 import os
 import shutil
-import signal
 import sqlite3
-import subprocess
 import sys
 import tempfile
 import time
@@ -26,7 +24,7 @@ from nyolifuwe import judge, library, progress, store
 from nyolifuwe.model import Place
 
 from . import make_night
-from .support import EXAMPLES, FAILED, GOOD, REFUSED, TOP, USAGE, Outcome, example, nyo, program
+from .support import EXAMPLES, FAILED, GOOD, REFUSED, USAGE, Outcome, example, nyo, program
 
 # The places of proxy.trace and case-i.trace with their numbers in examples/README.md, on span falling, then local.
 SMALL_NIGHT = """\
@@ -310,81 +308,6 @@ class Database(InAFolder):
         """A night wants a database, and workers."""
         self.assertEqual(nyo("night", self.folder).status, USAGE)
         self.assertEqual(nyo("night", self.folder, "--db", self.db, "--workers", "0").status, USAGE)
-
-
-class Stopped(InAFolder):
-    """A night that is stopped."""
-
-    def started(self, folder: Path, db: Path, **more: Any) -> subprocess.Popen[bytes]:
-        """A night that is under way."""
-        words = [sys.executable, "-m", "nyolifuwe", "night", str(folder), "--db", str(db), "--workers", "2"]
-        own = {**os.environ, "PYTHONPATH": str(TOP / "python"), "NYO_LIBRARY": str(library.path())}
-        return subprocess.Popen(words, env=own, stdout=subprocess.DEVNULL, start_new_session=True, **more)
-
-    def wait_for(self, db: Path, count: int, running: subprocess.Popen[bytes]) -> None:
-        """Waits until so many traces are stored."""
-        while running.poll() is None:
-            try:
-                if query(db, "SELECT count(*) FROM traces")[0][0] >= count:
-                    return
-            except sqlite3.OperationalError:
-                pass
-            time.sleep(0.001)
-
-    def test_killed(self) -> None:
-        """Killed in the middle it has lost no stored trace; its workers end; started again it stores what one run stores."""
-        traces, whole = self.folder / "traces", self.folder / "whole.db"
-        make_night.make(traces, 240, seed=3, most=1500, damaged=10)
-        killed = self.started(traces, self.db, stderr=subprocess.DEVNULL)
-        self.wait_for(self.db, 40, killed)
-        os.kill(killed.pid, signal.SIGKILL)
-        killed.wait()
-        kept = query(self.db, "SELECT * FROM traces")
-        self.assertTrue(40 <= len(kept) < 240, len(kept))
-        self.ended(killed.pid)
-        self.assertEqual(self.started(traces, self.db).wait(), REFUSED)
-        self.assertEqual(self.started(traces, whole).wait(), REFUSED)
-        self.assertEqual(query(self.db, "SELECT * FROM traces")[: len(kept)], kept)
-        self.assertEqual(dump(self.db), dump(whole))
-
-    def ended(self, session: int) -> None:
-        """Waits until no process of a session is left."""
-        until = time.monotonic() + 10
-        while time.monotonic() < until:
-            try:
-                os.killpg(session, 0)
-            except ProcessLookupError:
-                return
-            time.sleep(0.02)
-        self.fail("a worker outlives the night")
-
-    def test_lost_worker(self) -> None:
-        """A worker that is killed ends the night with a sentence; what is stored stays, and starting again goes on."""
-        traces = self.folder / "traces"
-        make_night.make(traces, 200, seed=5, most=1000)
-        night = self.started(traces, self.db, stderr=subprocess.PIPE)
-        self.wait_for(self.db, 20, night)
-        os.kill(self.worker_of(night.pid), signal.SIGKILL)
-        said = f"nyo: a worker process was ended; what is finished is in {self.db}: start again to go on\n"
-        self.assertEqual((night.communicate()[1].decode(), night.returncode), (said, FAILED))
-        self.assertGreaterEqual(len(query(self.db, "SELECT * FROM traces")), 20)
-        self.assertEqual(self.started(traces, self.db).wait(), REFUSED)
-        self.assertEqual(query(self.db, "SELECT count(*) FROM traces"), [(200,)])
-
-    def worker_of(self, parent: int) -> int:
-        """A worker process of a night."""
-        children = map(int, Path(f"/proc/{parent}/task/{parent}/children").read_text().split())
-        return next(child for child in children if b"spawn_main" in Path(f"/proc/{child}/cmdline").read_bytes())
-
-    def test_interrupted(self) -> None:
-        """An interrupt ends it without a trace of the workers, and what is stored is in one file."""
-        make_night.make(self.folder, 200, seed=4, most=1000)
-        night = self.started(self.folder, self.db, stderr=subprocess.PIPE)
-        self.wait_for(self.db, 20, night)
-        os.killpg(night.pid, signal.SIGINT)
-        self.assertEqual((night.communicate()[1], night.returncode), (b"", 130))
-        self.assertEqual([file.name for file in self.folder.glob("night.db*")], ["night.db"])
-        self.assertGreaterEqual(len(query(self.db, "SELECT * FROM traces")), 20)
 
 
 class Cluster(InAFolder):
