@@ -21,6 +21,12 @@ def add_trace(parser: argparse.ArgumentParser) -> None:
     add_limits(parser)
 
 
+def trace(args: argparse.Namespace) -> bytes:
+    """The trace that is named, kept for whoever tells of its refusal."""
+    args.text = streams.read(args.trace)
+    return bytes(args.text)
+
+
 def add_limits(parser: argparse.ArgumentParser) -> None:
     """The limits on depth and sites, at their largest by default."""
     for name, most, least in (("depth", MOST_DEPTH, 1), ("sites", MOST_SITES, 0)):

@@ -11,6 +11,7 @@ from . import __version__
 from .arguments import Usage
 from .commands import chain, check, compact, csv, diff, folded, forecast, night, page, report, top
 from .errors import Refused
+from .faults import told
 from .streams import STANDARD_INPUT, OutputFailed, emit, say
 
 COMMANDS: List[ModuleType] = [top, forecast, chain, check, page, night, diff, compact, folded, csv, report]
@@ -65,7 +66,7 @@ def outcome(args: argparse.Namespace) -> int:
     try:
         return int(args.run(args))
     except Refused as refused:
-        say(f"{args.trace}: {refused}")
+        say(told(args.trace, args.text, refused))
         return REFUSED
     except Usage as usage:
         say(str(usage))

@@ -26,18 +26,44 @@ SENTENCES: Dict[int, str] = {
     21: "of a compacted trace: the output is shorter than the result",
 }
 
+# What to do about each: what the card says, but for limits, lists and sheets, which nyo and Python have their own way with.
+REMEDIES: Dict[int, str] = {
+    1: "set limits in these ranges, or none: the largest are the default",
+    2: "a line is cut, or the lines end in CR LF: send the file again, with line feeds alone",
+    3: "trace a shorter run; a trace cannot be split, since a chain crosses the cut",
+    4: "lend what the limits ask for",
+    5: "the line is damaged: look for spaces and other letters, and in line 0 for CR LF"
+    " (it gives 5, and not 2, where the number of lines is a multiple of 23)",
+    6: "the collector is newer or broken; a cost is at least 1",
+    7: "two traces in one file?",
+    8: "number the site lines 1, 2, 3 and on in the order in which they stand",
+    9: "declare fewer sites, or set no limit: 255 is the largest",
+    10: "two sites cannot share a place",
+    11: "declare it on an earlier line",
+    12: "look for a return that is missing, or set no limit: 64 is the largest",
+    14: "the trace was cut at a line's end; send it again",
+    15: "look for LF alone as line end, semicolons, spaces, and numbers that a spreadsheet rewrote (docs/CARD.md)",
+    16: "lend `NYO_CSV_CHARS(count)` characters to write, `NYO_ROWS(255)` numbers to read",
+    17: "mend the line of that row in the list of names: characters from `!` to `~` without `;`, and line feeds alone",
+    18: "lend more: `NYO_FOLDED_CHARS(costs, depth, longest)` characters are always enough",
+    19: "name at most 16 rows, each once: 0 for the root, otherwise a declared site",
+    20: "leave out the entry of a row that is to stay as it is",
+    21: "lend more: as many characters as the trace has are always enough (`NYO_COMPACT_CHARS`)",
+}
+
 # What the second number of a refusal counts, where that is not lines of the trace.
 COUNTED: Dict[int, str] = {15: "record", 17: "row"}
 
 
 class Refused(Exception):
-    """A refusal of the library: its number, its line (of 15 a record, of 17 a row) and the card's sentence."""
+    """A refusal of the library: its number, its line (of 15 a record, of 17 a row), the card's sentence, and what to do."""
 
     def __init__(self, number: int, line: int) -> None:
         super().__init__(number, line)
         self.number = number
         self.line = line
         self.sentence = SENTENCES.get(number, "a refusal that the card does not have")
+        self.remedy = REMEDIES.get(number, "take the version of nyo that belongs to the library")
 
     def __str__(self) -> str:
         return f"refusal {self.number}, {COUNTED.get(self.number, 'line')} {self.line}: {self.sentence}"

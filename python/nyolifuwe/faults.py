@@ -1,4 +1,4 @@
-"""Where a refused trace is wrong: the line to show and which of its characters, found by asking the library."""
+"""Where a refused trace is wrong: the line to show and which of its characters, found by asking the library; and what to do."""
 
 from __future__ import annotations
 
@@ -12,7 +12,11 @@ from .model import Frame
 from .names import printable
 
 ACCEPTED, LENGTH, CHARACTER, TABLE, PLACE = 0, 2, 5, 6, 10
+OF_A_LINE = range(5, 13)
 OF_THE_SITE = (8, 9, 11)
+
+# Characters of a line that are shown: a line that is much too long is cut.
+WIDEST = 80
 
 # The fields of a trace line with the number of their digits, and where each ends.
 DIGITS = dict(zip(Frame._fields, (2, 4, 8, 4, 4)))
@@ -40,9 +44,34 @@ def fault(trace: bytes, refused: Refused) -> Optional[Fault]:
     if refused.number == LENGTH:
         return wrong_length(trace)
     chars = trace[LINE_CHARS * refused.line : LINE_CHARS * (refused.line + 1)]
-    if refused.number < CHARACTER or not chars:
+    if refused.number not in OF_A_LINE:
         return None
     return Fault(refused.line, without_end(chars), wrong_part(chars, refused.number))
+
+
+def told(name: str, trace: bytes, refused: Refused) -> str:
+    """The refusal of a named trace for people, without the last line feed."""
+    return f"{name}: {refused}\n{below(fault(trace, refused), refused)}"[:-1]
+
+
+def below(found: Optional[Fault], refused: Refused) -> str:
+    """What is shown below a refusal: the line that is wrong, where one is, and what to do."""
+    return f"{marked(found) if found else ''}  what to do: {refused.remedy}\n"
+
+
+def marked(found: Fault) -> str:
+    """The line that is wrong, and below it the part that is."""
+    before = f"  line {found.line}: "
+    line = f"{before}{shown(found.text)}\n"
+    if not found.part:
+        return line
+    return f"{line}{' ' * (len(before) + found.part.column)}{'^' * found.part.width} {found.part.note}\n"
+
+
+def shown(line: bytes) -> str:
+    """A line character by character, a question mark for those that are none."""
+    cut = "".join(chr(byte) if 32 <= byte < 127 else "?" for byte in line[:WIDEST])
+    return cut if len(line) <= WIDEST else f"{cut}..."
 
 
 def without_end(chars: bytes) -> bytes:

@@ -15,6 +15,7 @@ from unittest import mock
 
 from nyolifuwe import library
 from nyolifuwe.cli import main
+from nyolifuwe.errors import REMEDIES
 
 TOP = Path(__file__).resolve().parent.parent.parent
 EXAMPLES = TOP / "examples"
@@ -62,6 +63,11 @@ def program(command: str, **environment: str) -> Outcome:
     words, environment = ["bash", "-c", command], {**os.environ, **known, **environment}
     done = subprocess.run(words, cwd=TOP, capture_output=True, stdin=subprocess.DEVNULL, env=environment)
     return Outcome(done.returncode, done.stdout.decode(), done.stderr.decode())
+
+
+def what_to_do(number: int) -> str:
+    """The last line below a refusal."""
+    return f"  what to do: {REMEDIES[number]}\n"
 
 
 def read_back(text: str) -> List[Dict[str, str]]:

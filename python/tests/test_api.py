@@ -12,7 +12,7 @@ from unittest import mock
 
 import nyolifuwe
 from nyolifuwe import Frame, LibraryMissing, Place, Refused, Row, api, library
-from nyolifuwe.errors import SENTENCES
+from nyolifuwe.errors import REMEDIES, SENTENCES
 
 from .support import EXAMPLES, RETURN, TOP, accepted_examples, event, example, line, sites, trace
 
@@ -230,6 +230,12 @@ class TheRefusals(unittest.TestCase):
         card = dict(re.findall(r"^\| (\d+) \| [^|]*\| ([^|]+) \|", CARD, re.M))
         own_limits = r"[,;] (which is \d+ )?for the report program.*"
         self.assertEqual({int(number): re.sub(own_limits, "", says) for number, says in card.items()}, SENTENCES)
+
+    def test_what_to_do_is_the_cards(self) -> None:
+        card = dict(re.findall(r"^\| (\d+) \| [^|]*\| [^|]+ \| ([^|]+) \|", CARD, re.M))
+        self.assertEqual(set(REMEDIES), set(SENTENCES))
+        own = {number for number, todo in REMEDIES.items() if todo != card[str(number)]}
+        self.assertEqual(own, {1, 3, 9, 12, 15, 17, 19})  # limits, lists and sheets
 
     def test_how_a_refusal_reads(self) -> None:
         self.assertEqual(str(Refused(7, 5)), "refusal 7, line 5: a line after the root's return")

@@ -9,11 +9,26 @@ import tempfile
 import unittest
 from typing import Dict, List
 
-from nyolifuwe.errors import SENTENCES
+from nyolifuwe.errors import REMEDIES, SENTENCES
 
-from .support import EXAMPLES, FAILED, GOOD, REFUSED, RETURN, SYNC, Outcome, as_text, line, nyo, program, read_back, sites
+from .support import (
+    EXAMPLES,
+    FAILED,
+    GOOD,
+    REFUSED,
+    RETURN,
+    SYNC,
+    Outcome,
+    as_text,
+    line,
+    nyo,
+    program,
+    read_back,
+    sites,
+    what_to_do,
+)
 
-# For an example what stands behind its name: the refusal's number and line, and the lines below it.
+# For an example what stands behind its name: the refusal's number and line, and the lines below it up to what to do.
 REFUSALS: Dict[str, List[str]] = {
     "refusal-02": [
         "refusal 2, line 0: " + SENTENCES[2],
@@ -69,7 +84,7 @@ class Text(unittest.TestCase):
     def test_each_refusal(self) -> None:
         for name, said in REFUSALS.items():
             with self.subTest(name):
-                text = "\n".join([f"examples/{name}.trace: {said[0]}", *said[1:], ""])
+                text = "\n".join([f"examples/{name}.trace: {said[0]}", *said[1:], what_to_do(int(name[-2:]))])
                 self.assertEqual(nyo("check", f"examples/{name}.trace"), Outcome(REFUSED, text, ""))
 
     def test_site_refusals_mark_the_site(self) -> None:
@@ -80,7 +95,7 @@ class Text(unittest.TestCase):
         self.assertEqual(found[2], " " + marked)
 
     def test_depth(self) -> None:
-        said = f"examples/refusal-12.trace: refusal 12, line 32: {SENTENCES[12]}\n  line 32: {line(2, 1)}"
+        said = f"examples/refusal-12.trace: refusal 12, line 32: {SENTENCES[12]}\n  line 32: {line(2, 1)}{what_to_do(12)}"
         self.assertEqual(nyo("check", "--depth", "32", "examples/refusal-12.trace"), Outcome(REFUSED, said, ""))
 
     def test_refusals_without_a_line(self) -> None:
@@ -91,7 +106,8 @@ class Text(unittest.TestCase):
             ("", "", 14),
         ):
             found = nyo("check", "-", *words.split(), stdin=stdin.encode())
-            self.assertEqual(found, Outcome(REFUSED, f"-: refusal {number}, line 0: {SENTENCES[number]}\n", ""))
+            said = f"-: refusal {number}, line 0: {SENTENCES[number]}\n{what_to_do(number)}"
+            self.assertEqual(found, Outcome(REFUSED, said, ""))
 
     def test_the_field_of_a_line(self) -> None:
         for wrong, name in FIELDS.items():
@@ -109,10 +125,10 @@ class Text(unittest.TestCase):
         # 23 lines with CR LF are a multiple of 23 characters; the 23rd character is the CR
         text = (22 * SYNC + RETURN).replace("\n", "\r\n").encode()
         shown = f"  line 0: {SYNC[:22]}?\n{' ' * 32}^"
-        wanted = f"-: refusal 5, line 0: {SENTENCES[5]}\n{shown} no line feed: \\x0d\n"
+        wanted = f"-: refusal 5, line 0: {SENTENCES[5]}\n{shown} no line feed: \\x0d\n{what_to_do(5)}"
         self.assertEqual(nyo("check", "-", stdin=text), Outcome(REFUSED, wanted, ""))
         # two such lines are not: the first line is a character too long
-        wanted = f"-: refusal 2, line 0: {SENTENCES[2]}\n{shown} the line has 24 characters and not 23\n"
+        wanted = f"-: refusal 2, line 0: {SENTENCES[2]}\n{shown} the line has 24 characters and not 23\n{what_to_do(2)}"
         self.assertEqual(nyo("check", "-", stdin=text[:48]), Outcome(REFUSED, wanted, ""))
 
     def test_a_line_much_too_long_is_cut(self) -> None:
@@ -126,8 +142,8 @@ class Text(unittest.TestCase):
         text = (
             "examples/case-i.trace: accepted, 10 lines, 2 sites\n"
             "no-such-file: No such file or directory\n"
-            f"examples/refusal-14.trace: refusal 14, line 4: {SENTENCES[14]}\n"
-            f"-: refusal 14, line 1: {SENTENCES[14]}\n"
+            f"examples/refusal-14.trace: refusal 14, line 4: {SENTENCES[14]}\n{what_to_do(14)}"
+            f"-: refusal 14, line 1: {SENTENCES[14]}\n{what_to_do(14)}"
             "1 accepted, 2 refused, 1 not read\n"
         )
         self.assertEqual(found, Outcome(FAILED, text, ""))
@@ -151,7 +167,7 @@ class ForPrograms(unittest.TestCase):
     def test_json_and_csv(self) -> None:
         words = ["check", "examples/case-i.trace", "examples/refusal-05.trace", "--format"]
         verdicts = json.loads(nyo(*words, "json").out)
-        none = dict.fromkeys(["number", "line", "sentence", "text", "column", "width", "note"])
+        none = dict.fromkeys(["number", "line", "sentence", "what_to_do", "text", "column", "width", "note"])
         accepted = {"trace": words[1], "accepted": True, "lines": 10, "sites": 2, **none}
         refused = {
             "trace": words[2],
@@ -161,6 +177,7 @@ class ForPrograms(unittest.TestCase):
             "number": 5,
             "line": 2,
             "sentence": SENTENCES[5],
+            "what_to_do": REMEDIES[5],
             "text": "0600000000000g00000000",
             "column": 13,
             "width": 1,

@@ -14,7 +14,7 @@ from pathlib import Path
 from nyolifuwe import library
 from nyolifuwe.errors import SENTENCES
 
-from .support import FAILED, GOOD, REFUSED, TOP, USAGE, Outcome, nyo, program
+from .support import FAILED, GOOD, REFUSED, TOP, USAGE, Outcome, nyo, program, what_to_do
 from .test_top import CASE_I
 
 # Each command with the words that it wants; check goes on where a trace is not to be had.
@@ -39,10 +39,19 @@ class Input(unittest.TestCase):
             self.assertEqual(program(command, trace="examples/case-i.trace"), Outcome(GOOD, CASE_I, ""), command)
 
     def test_an_empty_file(self) -> None:
-        said = f"nyo: /dev/null: refusal 14, line 0: {SENTENCES[14]}\n"
+        said = f"nyo: /dev/null: refusal 14, line 0: {SENTENCES[14]}\n{what_to_do(14)}"
         for command in ON_ONE_TRACE:
             found = nyo(*command.replace("examples/case-i.trace", "/dev/null").split())
             printed = "ff0e00000000\n" if command.startswith("report") else ""
+            self.assertEqual(found, Outcome(REFUSED, printed, said), command)
+
+    def test_a_refused_trace_is_shown_where_it_is_wrong(self) -> None:
+        name = "examples/refusal-06.trace"
+        line = "  line 4: 0600000000000000000000\n                ^^^^^^^^ value\n"
+        said = f"nyo: {name}: refusal 6, line 4: {SENTENCES[6]}\n{line}{what_to_do(6)}"
+        for command in ON_ONE_TRACE:
+            found = nyo(*command.replace("examples/case-i.trace", name).split())
+            printed = "ff0600000004\n" if command.startswith("report") else ""
             self.assertEqual(found, Outcome(REFUSED, printed, said), command)
 
     def test_what_cannot_be_read(self) -> None:

@@ -13,9 +13,10 @@ from pathlib import Path
 from typing import List, Sequence
 
 from nyolifuwe import judge, store
+from nyolifuwe.errors import SENTENCES
 
 from . import make_night
-from .support import FAILED, GOOD, REFUSED, TOP, USAGE, Outcome, nyo, program, trace
+from .support import FAILED, GOOD, REFUSED, TOP, USAGE, Outcome, event, nyo, program, trace, what_to_do
 
 OVER = 4
 
@@ -146,8 +147,9 @@ class Traces(InAFolder):
     def test_ends(self) -> None:
         """Every refused trace is told; a pipe is read; what cannot be read or is no percentage is told."""
         ran = nyo("diff", "examples/refusal-07.trace", "examples/refusal-14.trace")
-        self.assertEqual((ran.status, ran.out, len(ran.err.splitlines())), (REFUSED, "", 2))
-        self.assertIn("examples/refusal-14.trace: refusal 14, line 4", ran.err)
+        first = f"nyo: examples/refusal-07.trace: refusal 7, line 5: {SENTENCES[7]}\n  line 5: {event('4')}{what_to_do(7)}"
+        second = f"nyo: examples/refusal-14.trace: refusal 14, line 4: {SENTENCES[14]}\n{what_to_do(14)}"
+        self.assertEqual(ran, (REFUSED, "", first + second))
         self.assertEqual(nyo("diff", "-", self.put("new.trace", E), stdin=C), (GOOD, C_TO_E, ""))
         self.assertEqual(nyo("diff", "none.trace", "examples/case-i.trace").status, FAILED)
         for word in ("-1", "1/2", "x", "1e9", "nan"):

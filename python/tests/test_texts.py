@@ -9,7 +9,7 @@ import unittest
 from nyolifuwe import read_csv
 from nyolifuwe.errors import SENTENCES
 
-from .support import GOOD, NAMED, REFUSED, Outcome, example, nyo
+from .support import GOOD, NAMED, REFUSED, Outcome, example, nyo, what_to_do
 
 CASE_I_REPORT = """\
 00000000000000000001000000000000000a000000000000000900000000000000020000000000000002
@@ -35,7 +35,8 @@ class Texts(unittest.TestCase):
 
     def test_folded_with_a_name_missing(self) -> None:
         found = nyo("folded", "examples/case-i.trace", "--names", "-", stdin=b"root\nouter\n")
-        self.assertEqual(found, Outcome(REFUSED, "", f"nyo: examples/case-i.trace: refusal 17, row 2: {SENTENCES[17]}\n"))
+        said = f"nyo: examples/case-i.trace: refusal 17, row 2: {SENTENCES[17]}\n{what_to_do(17)}"
+        self.assertEqual(found, Outcome(REFUSED, "", said))
 
     def test_csv(self) -> None:
         found = nyo("csv", "examples/case-i.trace")
@@ -53,5 +54,5 @@ class Texts(unittest.TestCase):
         self.assertTrue(whole.startswith(called))
 
     def test_a_refusal_in_the_report_programs_bytes(self) -> None:
-        said = f"nyo: examples/refusal-14.trace: refusal 14, line 4: {SENTENCES[14]}\n"
+        said = f"nyo: examples/refusal-14.trace: refusal 14, line 4: {SENTENCES[14]}\n{what_to_do(14)}"
         self.assertEqual(nyo("report", "examples/refusal-14.trace"), Outcome(REFUSED, "ff0e00000004\n", said))

@@ -41,7 +41,7 @@ def add(subparsers: Any) -> None:
 
 def run(args: argparse.Namespace) -> int:
     """Prints the headline and the stretches."""
-    trace, names = streams.read(args.trace), arguments.names(args)
+    trace, names = arguments.trace(args), arguments.names(args)
     profile = api.profile(trace, **arguments.limits(args))
     found = stretches(list(marked(trace, profile.marks or b"")))
     if args.format == "json":

@@ -1,4 +1,4 @@
-"""nyo check: per trace accepted, or the refusal with its sentence and the place in the trace."""
+"""nyo check: per trace accepted, or the refusal with its sentence, the place in the trace and what to do."""
 
 from __future__ import annotations
 
@@ -7,14 +7,11 @@ from typing import Any, Dict, List, NamedTuple, Optional
 
 from .. import api, arguments, show, streams
 from ..errors import Refused
-from ..faults import Fault, fault
+from ..faults import Fault, below, fault, shown
 from ..model import Profile
 from ..show import counted
 
 GOOD, REFUSED, FAILED = 0, 1, 3
-
-# Characters of a line that are shown: a line that is much too long is cut.
-WIDEST = 80
 
 
 class Verdict(NamedTuple):
@@ -75,23 +72,8 @@ def text(one: Verdict) -> str:
         size = f"{counted(one.profile.lines, 'line')}, {counted(one.profile.sites, 'site')}"
         return f"{one.trace}: {show.paint('accepted', show.GREEN)}, {size}\n"
     if one.refused:
-        return f"{one.trace}: {show.paint(str(one.refused), show.YELLOW)}\n{marked(one.fault) if one.fault else ''}"
+        return f"{one.trace}: {show.paint(str(one.refused), show.YELLOW)}\n{below(one.fault, one.refused)}"
     return f"{one.trace}: {one.unread}\n"
-
-
-def marked(found: Fault) -> str:
-    """The line that is wrong, and below it the part that is."""
-    before = f"  line {found.line}: "
-    line = f"{before}{shown(found.text)}\n"
-    if not found.part:
-        return line
-    return f"{line}{' ' * (len(before) + found.part.column)}{'^' * found.part.width} {found.part.note}\n"
-
-
-def shown(line: bytes) -> str:
-    """A line character by character, a question mark for those that are none."""
-    cut = "".join(chr(byte) if 32 <= byte < 127 else "?" for byte in line[:WIDEST])
-    return cut if len(line) <= WIDEST else f"{cut}..."
 
 
 def fields(one: Verdict) -> Dict[str, Any]:
@@ -106,6 +88,7 @@ def fields(one: Verdict) -> Dict[str, Any]:
         "number": refused.number if refused else None,
         "line": refused.line if refused else None,
         "sentence": refused.sentence if refused else one.unread,
+        "what_to_do": refused.remedy if refused else None,
         "text": shown(one.fault.text) if one.fault else None,
         "column": part.column if part else None,
         "width": part.width if part else None,

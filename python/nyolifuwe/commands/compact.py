@@ -17,5 +17,5 @@ def add(subparsers: Any) -> None:
 
 def run(args: argparse.Namespace) -> int:
     """Prints the compacted trace."""
-    streams.emit(api.compact(streams.read(args.trace), **arguments.limits(args)))
+    streams.emit(api.compact(arguments.trace(args), **arguments.limits(args)))
     return 0

@@ -17,6 +17,6 @@ def add(subparsers: Any) -> None:
 
 def run(args: argparse.Namespace) -> int:
     """Prints the header and a record for each row."""
-    profile = api.profile(streams.read(args.trace), **arguments.limits(args))
+    profile = api.profile(arguments.trace(args), **arguments.limits(args))
     streams.emit(api.write_csv(profile.rows))
     return 0

@@ -9,6 +9,7 @@ from typing import Any, Dict, List, NamedTuple, Optional, Union
 
 from .. import api, arguments, show, store, streams
 from ..errors import Refused
+from ..faults import told
 from ..model import Place
 from ..names import ROOT, place_text
 from ..show import counted, number
@@ -62,15 +63,9 @@ def allowance(word: str) -> Fraction:
 
 def run(args: argparse.Namespace) -> int:
     """Prints what changed; the status says whether it is within what is allowed."""
-    sides = []
-    for file in (args.old, args.new):
-        try:
-            sides.append(side(file, **arguments.limits(args)))
-        except Refused as refused:
-            streams.say(f"{file}: {refused}")
-    if len(sides) < 2:
+    old, new = (side(file, **arguments.limits(args)) for file in (args.old, args.new))
+    if old is None or new is None:
         return REFUSED
-    old, new = sides
     if (old.traces is None) != (new.traces is None):
         raise arguments.Usage(f"{args.old} and {args.new}: one is a night and the other a trace")
     emit(args, old, new)
@@ -80,12 +75,17 @@ def run(args: argparse.Namespace) -> int:
     return OVER
 
 
-def side(file: str, **limits: Any) -> Side:
-    """What a trace or a night has on its span."""
+def side(file: str, **limits: Any) -> Optional[Side]:
+    """What a trace or a night has on its span; None where the trace is refused, which is told."""
     if store.is_database(file):
         with store.read(file) as night:
             return night_side(night)
-    profile = api.profile(streams.read(file), **limits)
+    trace = streams.read(file)
+    try:
+        profile = api.profile(trace, **limits)
+    except Refused as refused:
+        streams.say(told(file, trace, refused))
+        return None
     on_span = {row.place: Fraction(row.on_span) for row in profile.rows}
     return Side(None, Fraction(profile.work), Fraction(profile.span), on_span)
 

@@ -19,7 +19,7 @@ def add(subparsers: Any) -> None:
 
 def run(args: argparse.Namespace) -> int:
     """Prints a line for each cost; where a list is given, every row needs a name from it."""
-    trace, limits = streams.read(args.trace), arguments.limits(args)
+    trace, limits = arguments.trace(args), arguments.limits(args)
     if args.names or args.stock:
         lists = arguments.lists(args)
         streams.emit(api.folded(trace, lists["project"], lists["stock"], **limits))

@@ -35,7 +35,7 @@ def run(args: argparse.Namespace) -> int:
     """Prints what the entries change, or the sweep."""
     if args.sweep == bool(args.entries):
         raise Usage("forecast wants SITE=FACTOR words or --sweep, one of the two")
-    trace, names = streams.read(args.trace), arguments.names(args)
+    trace, names = arguments.trace(args), arguments.names(args)
     now = api.profile(trace, **arguments.limits(args))
     if args.sweep:
         emit_sweep(args, now, sweep(trace, now, args), names)

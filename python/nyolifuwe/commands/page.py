@@ -28,7 +28,7 @@ def add(subparsers: Any) -> None:
 
 def run(args: argparse.Namespace) -> int:
     """Writes the page."""
-    trace, lists, limits = streams.read(args.trace), arguments.lists(args), arguments.limits(args)
+    trace, lists, limits = arguments.trace(args), arguments.lists(args), arguments.limits(args)
     profile = api.profile(trace, **limits)
     folded = api.folded(trace, lists["project"], filled(lists["stock"], profile.rows), **limits)
     boxes = flame.boxes(trace, profile.marks or b"", folded)

@@ -20,7 +20,7 @@ def add(subparsers: Any) -> None:
 def run(args: argparse.Namespace) -> int:
     """Prints the report; or the line of the refusal, which then goes on to be said in words."""
     try:
-        profile = api.profile(streams.read(args.trace), **arguments.limits(args))
+        profile = api.profile(arguments.trace(args), **arguments.limits(args))
     except Refused as refused:
         streams.emit(api.refusal_line(refused.number, refused.line))
         raise

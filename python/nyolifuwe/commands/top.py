@@ -29,7 +29,7 @@ def add(subparsers: Any) -> None:
 
 def run(args: argparse.Namespace) -> int:
     """Prints the headline, the table and the sentence."""
-    trace, names = streams.read(args.trace), arguments.names(args)
+    trace, names = arguments.trace(args), arguments.names(args)
     profile = api.profile(trace, **arguments.limits(args))
     ranked = gains(trace, profile, **arguments.limits(args))
     kept = [gain for gain in ordered(ranked, args.by) if args.all or gain.row.calls]
