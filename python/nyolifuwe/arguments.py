@@ -15,6 +15,14 @@ class Usage(Exception):
     """Words that a command cannot be run with."""
 
 
+def command(subparsers: Any, name: str, brief: str, says: str, example: str) -> argparse.ArgumentParser:
+    """A command: what the list of commands says of it, what its own help says, and words that run in the top folder."""
+    made: argparse.ArgumentParser = subparsers.add_parser(
+        name, help=brief, description=says, epilog=f"Example: nyo {name} {example}"
+    )
+    return made
+
+
 def add_trace(parser: argparse.ArgumentParser) -> None:
     """One trace and the limits that it is read with."""
     parser.add_argument("trace", metavar="TRACE", help="a file or pipe; - is standard input")

@@ -4,14 +4,17 @@ from __future__ import annotations
 
 import os
 import pty
+import re
 import shutil
 import subprocess
 import sys
 import tempfile
 import unittest
 from pathlib import Path
+from unittest import mock
 
 from nyolifuwe import library
+from nyolifuwe.cli import NAMES
 from nyolifuwe.errors import SENTENCES
 
 from .support import FAILED, GOOD, REFUSED, TOP, USAGE, Outcome, nyo, program, what_to_do
@@ -118,8 +121,32 @@ class Usage(unittest.TestCase):
             self.assertEqual(found[:2], (USAGE, ""), words)
             self.assertTrue(found.err.startswith("usage: nyo"), words)
 
+    def test_no_words(self) -> None:
+        self.assertEqual(nyo(), Outcome(USAGE, "", nyo("--help").out))
+
+    def test_words_that_are_nearly_right(self) -> None:
+        for words, says in (
+            ("chian examples/case-i.trace", "chian: no command and no file of that name; did you mean chain?"),
+            ("tops", "tops: no command and no file of that name; did you mean top?"),
+            ("one two", "top takes one trace, and not two too; check and night take several"),
+            ("chain one two", "chain takes one trace, and not two too; check and night take several"),
+            ("chain one --two", "unrecognized arguments: --two"),
+        ):
+            found = nyo(*words.split())
+            self.assertEqual((found.status, found.out, found.err.splitlines()[-1]), (USAGE, "", f"nyo: error: {says}"))
+        self.assertEqual(nyo("nothing").err, "nyo: nothing: No such file or directory\n")
+
+    def test_the_example_of_each_help(self) -> None:
+        for name in NAMES:
+            with mock.patch.dict("os.environ", COLUMNS="80"):
+                ((example, words),) = re.findall(r"^(Example: nyo (.*))\n\Z", nyo(name, "--help").out, re.M)
+            with self.subTest(example), tempfile.TemporaryDirectory() as folder:
+                found = program(f"ln -s $PWD/examples {folder} && cd {folder} && $nyo {words}")
+                refused = name in ("check", "night")
+                self.assertEqual((found.status, found.err), (REFUSED if refused else GOOD, ""))
+
     def test_help(self) -> None:
-        for words in ("--help", "-h", *(f"{command.split()[0]} --help" for command in COMMANDS)):
+        for words in ("--help", "-h", *(f"{command} --help" for command in NAMES)):
             found = nyo(*words.split())
             self.assertEqual((found.status, found.err), (GOOD, ""), words)
             self.assertTrue(found.out.startswith("usage: nyo"), words)

@@ -32,7 +32,14 @@ class Stretch(NamedTuple):
 
 def add(subparsers: Any) -> None:
     """The words of the command."""
-    parser = subparsers.add_parser("chain", help="the chosen chain: which sites make up the span, in order")
+    parser = arguments.command(
+        subparsers,
+        "chain",
+        "the chosen chain: which sites make up the span, in order",
+        "The costs that make up the span, in order; those of one site that follow one another are one line. running"
+        " is how much of the span is reached.",
+        "examples/proxy.trace",
+    )
     arguments.add_trace(parser)
     arguments.add_names(parser)
     arguments.add_format(parser)

@@ -26,7 +26,13 @@ class Verdict(NamedTuple):
 
 def add(subparsers: Any) -> None:
     """The words of the command."""
-    parser = subparsers.add_parser("check", help="which traces are accepted, and where the others are wrong")
+    parser = arguments.command(
+        subparsers,
+        "check",
+        "which traces are accepted, and where the others are wrong",
+        "Of each trace that it is accepted; or the refusal, the line with the part that is wrong, and what to do.",
+        "examples/case-i.trace examples/refusal-06.trace",
+    )
     parser.add_argument("traces", nargs="+", metavar="TRACE", help="a file or pipe; - is standard input")
     arguments.add_limits(parser)
     arguments.add_format(parser)

@@ -10,7 +10,14 @@ from .. import api, arguments, streams
 
 def add(subparsers: Any) -> None:
     """The words of the command."""
-    parser = subparsers.add_parser("compact", help="the trace without the lines that say nothing; every row stays")
+    parser = arguments.command(
+        subparsers,
+        "compact",
+        "the trace without the lines that say nothing; every row stays",
+        "A shorter trace with the same work, span and rows: syncs that join nothing are dropped and costs side by"
+        " side added up. Its lines have other numbers.",
+        "examples/wordy.trace",
+    )
     arguments.add_trace(parser)
     parser.set_defaults(run=run)
 

@@ -10,7 +10,14 @@ from .. import api, arguments, streams
 
 def add(subparsers: Any) -> None:
     """The words of the command."""
-    parser = subparsers.add_parser("csv", help="every row as comma-separated text (RFC 4180)")
+    parser = arguments.command(
+        subparsers,
+        "csv",
+        "every row as comma-separated text (RFC 4180)",
+        "The rows of a trace for a spreadsheet, row 0 for the root; nyo top --format csv has names, places and gains"
+        " too.",
+        "examples/case-i.trace",
+    )
     arguments.add_trace(parser)
     parser.set_defaults(run=run)
 

@@ -42,7 +42,14 @@ class Change(NamedTuple):
 
 def add(subparsers: Any) -> None:
     """The words of the command."""
-    parser = subparsers.add_parser("diff", help="two traces, or two nights: by place, what grew on the span")
+    parser = arguments.command(
+        subparsers,
+        "diff",
+        "two traces, or two nights: by place, what grew on the span",
+        "Which places have more or less of the span than before, what grew most first; of two nights the means of"
+        " their accepted traces.",
+        "examples/wordy.trace examples/wordy-compact.trace",
+    )
     parser.add_argument("old", metavar="OLD", help="a trace, or the database of a night")
     parser.add_argument("new", metavar="NEW", help="another of the same kind")
     over_help = "status 4 where the span grew by more than this much of the old"

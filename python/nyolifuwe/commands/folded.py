@@ -11,7 +11,14 @@ from ..names import unnamed_list
 
 def add(subparsers: Any) -> None:
     """The words of the command."""
-    parser = subparsers.add_parser("folded", help="folded stacks for a flame view; by place where no list is given")
+    parser = arguments.command(
+        subparsers,
+        "folded",
+        "folded stacks for a flame view; by place where no list is given",
+        "For each cost the names from the root to the invocation that it stands in, and the cost: what flamegraph.pl"
+        " and other flame views take.",
+        "examples/proxy.trace --stock examples/stock.names",
+    )
     arguments.add_trace(parser)
     arguments.add_names(parser)
     parser.set_defaults(run=run)

@@ -20,7 +20,14 @@ Swept = Tuple[Row, List[int]]
 
 def add(subparsers: Any) -> None:
     """The words of the command."""
-    parser = subparsers.add_parser("forecast", help="the profile if some sites were faster")
+    parser = arguments.command(
+        subparsers,
+        "forecast",
+        "the profile if some sites were faster",
+        "The span and the rows if the own cost of some sites were divided by factors, each cost rounded up; or with"
+        " --sweep the span for every site alone.",
+        "examples/proxy.trace 6=2 2:23:13=4",
+    )
     arguments.add_trace(parser)
     said = "a row, name or place, and by what its own cost is divided, 2 to 1000"
     parser.add_argument("entries", nargs="*", metavar="SITE=FACTOR", help=said)

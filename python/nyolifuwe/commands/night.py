@@ -24,8 +24,13 @@ SAYS = "The numbers of each trace are the proved library's; sums over traces, pa
 
 def add(subparsers: Any) -> None:
     """The words of the command."""
-    parser = subparsers.add_parser(
-        "night", help="profile every trace of some folders into a database; goes on where it stopped"
+    parser = arguments.command(
+        subparsers,
+        "night",
+        "profile every trace of some folders into a database; goes on where it stopped",
+        "Profiles every trace that is not stored yet, a process a core, and prints the sums by place, the largest"
+        " spans and the refusals of all that is stored. A night that is named like a folder is taken in.",
+        "examples --db night.db",
     )
     parser.add_argument(
         "folders", nargs="+", metavar="FOLDER", help="looked through, with the folders in it; or a trace, or a night"

@@ -19,7 +19,13 @@ STANDARD_OUTPUT = "-"
 
 def add(subparsers: Any) -> None:
     """The words of the command."""
-    parser = subparsers.add_parser("page", help="one HTML page: totals, forecast, table and flame view")
+    parser = arguments.command(
+        subparsers,
+        "page",
+        "one HTML page: totals, forecast, table and flame view",
+        "One file for a browser that needs nothing beside itself and asks the network for nothing.",
+        "examples/proxy.trace -o proxy.html",
+    )
     arguments.add_trace(parser)
     arguments.add_names(parser)
     parser.add_argument("-o", "--output", required=True, metavar="FILE", help="the page to write; - is standard output")

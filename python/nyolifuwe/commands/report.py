@@ -11,7 +11,13 @@ from ..errors import Refused
 
 def add(subparsers: Any) -> None:
     """The words of the command."""
-    parser = subparsers.add_parser("report", help="the report in hexadecimal, a line for each row; or the refusal's line")
+    parser = arguments.command(
+        subparsers,
+        "report",
+        "the report in hexadecimal, a line for each row; or the refusal's line",
+        "The bytes of the report program, with the largest limits where none are set.",
+        "examples/case-i.trace",
+    )
     arguments.add_trace(parser)
     parser.add_argument("--called", action="store_true", help="leave idle rows off")
     parser.set_defaults(run=run)

@@ -17,7 +17,14 @@ ORDERS = ["gain", *(column.replace("_", "-") for column in COLUMNS), "row"]
 
 def add(subparsers: Any) -> None:
     """The words of the command."""
-    parser = subparsers.add_parser("top", help="the rows of a trace, largest gain first (the default)")
+    parser = arguments.command(
+        subparsers,
+        "top",
+        "the rows of a trace, largest gain first (the default)",
+        "Work, span and parallelism of a trace, and its rows. if halved is the span if the site's own cost were"
+        " halved, gain how much less that is. The last sentence says what to make faster first.",
+        "examples/proxy.trace --stock examples/stock.names -n 5",
+    )
     arguments.add_trace(parser)
     arguments.add_names(parser)
     parser.add_argument("--by", choices=ORDERS, default="gain", help="the column to sort by (default: gain)")
