@@ -1,21 +1,39 @@
-"""nyo night, stopped: killed in the middle and started again it stores what one run stores. Needs a night that is still under way."""
+"""nyo night, stopped: killed in the middle and started again it stores what one run stores. Needs a night that is still under way.
+
+And the night of docs/GUIDE.md, which takes a minute.
+"""
 
 from __future__ import annotations
 
 import os
+import re
+import shutil
 import signal
 import sqlite3
 import subprocess
 import sys
 import time
+import unittest
 from pathlib import Path
 from typing import Any
 
 from nyolifuwe import library
 
 from . import make_night
-from .support import FAILED, REFUSED, TOP
+from .support import FAILED, REFUSED, TOP, screens
+from .test_guide import GUIDE, pasted
 from .test_night import InAFolder, dump, query
+
+
+class Pasted(InAFolder):
+    """The night of docs/GUIDE.md."""
+
+    @unittest.skipUnless(shutil.which("sqlite3"), "no sqlite3 here")
+    def test_the_screens(self) -> None:
+        """Made, stored, asked and compared, each screen is what its command prints."""
+        own = [one for one in screens(GUIDE) if re.search(r"^(?!.*/shared/).*night", one[0])]
+        self.assertEqual(len(own), 8)
+        pasted(self, self.folder, own)
 
 
 class Stopped(InAFolder):

@@ -10,7 +10,7 @@ import re
 import subprocess
 import sys
 from pathlib import Path
-from typing import Any, Dict, List, NamedTuple, Sequence
+from typing import Any, Dict, List, NamedTuple, Sequence, Tuple
 from unittest import mock
 
 from nyolifuwe import library
@@ -68,6 +68,15 @@ def program(command: str, **environment: str) -> Outcome:
 def what_to_do(number: int) -> str:
     """The last line below a refusal."""
     return f"  what to do: {REMEDIES[number]}\n"
+
+
+def screens(page: str) -> List[Tuple[str, str]]:
+    """The commands of a page's screens, those that the shell is to run, each with what it prints."""
+    found: List[Tuple[str, str]] = []
+    for block in re.findall(r"^```console\n(.*?)^```$", page, re.M | re.S):
+        for command, screen in re.findall(r"^\$ ((?:[^\"\n]|\"[^\"]*\")+)\n((?:(?!\$ ).*\n)*)", block, re.M):
+            found.append((command, screen))
+    return found
 
 
 def read_back(text: str) -> List[Dict[str, str]]:

@@ -5,7 +5,6 @@ from __future__ import annotations
 import csv
 import io
 import json
-import re
 import shutil
 import tempfile
 import unittest
@@ -16,7 +15,7 @@ from nyolifuwe import judge, store
 from nyolifuwe.errors import SENTENCES
 
 from . import make_night
-from .support import FAILED, GOOD, REFUSED, TOP, USAGE, Outcome, event, nyo, program, trace, what_to_do
+from .support import FAILED, GOOD, REFUSED, USAGE, Outcome, event, nyo, trace, what_to_do
 
 OVER = 4
 
@@ -136,13 +135,6 @@ class Traces(InAFolder):
         self.assertEqual(records, [list(place), ["", "", "", "0", "4", "4", "100.0"]])
         self.assertEqual(self.diff(C, C, "--format", "csv").out, ",".join(place) + "\r\n")
         self.assertEqual(json.loads(self.diff(C, C, "--format", "json").out)["places"], [])
-
-    def test_the_guide(self) -> None:
-        """The screen of docs/GUIDE.md with a changed trace on a pipe."""
-        guide = (TOP / "docs" / "GUIDE.md").read_text()
-        ((command, screen),) = re.findall(r"^\$ (sed .*)\n((?:.*\n)*?)\$ echo \$\?\n4$", guide, re.M)
-        ran = program(command.replace("./nyo", "$nyo"))
-        self.assertEqual((ran.status, ran.out + ran.err), (OVER, screen))
 
     def test_ends(self) -> None:
         """Every refused trace is told; a pipe is read; what cannot be read or is no percentage is told."""

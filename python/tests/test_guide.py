@@ -6,12 +6,32 @@ import contextlib
 import io
 import re
 import shlex
+import tempfile
 import unittest
+from pathlib import Path
+from typing import List, Sequence, Tuple
 
-from .support import TOP, nyo
+from .support import TOP, nyo, program, screens
 
 GUIDE = (TOP / "docs" / "GUIDE.md").read_text()
 README = (TOP / "python" / "README.md").read_text()
+
+
+def pasted(test: unittest.TestCase, folder: Path, commands: Sequence[Tuple[str, str]]) -> None:
+    """Runs commands one after another in a folder that looks like the top one: each prints its screen, traces in this folder."""
+    status = 0
+    for name in ("nyo", "python", "examples"):
+        (folder / name).symlink_to(TOP / name)
+    for command, screen in commands:
+        own = command.replace("/tmp/", f"{folder}/")
+        ran = program(f"cd {folder}; (exit {status}); {own}")
+        test.assertEqual(unaligned((ran.out + ran.err).replace(f"{folder}/", "/tmp/")), unaligned(screen), command)
+        status = ran.status
+
+
+def unaligned(text: str) -> List[List[str]]:
+    """The words of each line, without the blanks and dashes that align columns, since these depend on a folder's name."""
+    return [re.findall(r"[^ -]+", line) for line in text.splitlines()]
 
 
 class ThePages(unittest.TestCase):
@@ -23,6 +43,12 @@ class ThePages(unittest.TestCase):
         for command, screen in screens:
             with self.subTest(command):
                 self.assertEqual(nyo(*shlex.split(command)).out.replace("\r\n", "\n"), screen)
+
+    def test_the_screens_of_the_shell(self) -> None:
+        with tempfile.TemporaryDirectory() as folder:
+            own = [one for one in screens(GUIDE) if not re.search(r"night|dask", one[0])]
+            self.assertEqual(len(own), 3)
+            pasted(self, Path(folder), own)
 
     def test_the_program(self) -> None:
         (text,) = re.findall(r"^```python\n(.*?)^```$", README, re.M | re.S)
