@@ -1,6 +1,6 @@
 #!/bin/sh
 # run.sh [SAMPLES]: times both engines against plain Rust, the Python script and a pass that only sums the bytes, and the
-# writer of folded stacks, the forecasts and the compactor against plain Rust. The tables are printed, and the CSV file of the
+# writer of folded stacks, the forecasts, the compactor and traces with instructions against plain Rust. The tables are printed, and the CSV file of the
 # engines, the traces and the picture are left in target/bench.
 set -eu
 cd "$(dirname "$0")/.."

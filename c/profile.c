@@ -66,6 +66,7 @@ static int refuse(uint64_t answer) {
         [NYO_UNDECLARED] = "the site that is called or spawned has no site line before",
         [NYO_DEPTH] = "more invocations are open than the depth limit: raise it with -d",
         [NYO_UNFINISHED] = "the lines end before the root's return",
+        [NYO_STRAY] = "the line before this kind 07 line is no cost line",
     };
     uint8_t text[NYO_REFUSAL_CHARS];
     uint64_t written = 0;

@@ -61,6 +61,8 @@ tried 0 '^work 10, span 9, 2 sites, 10 lines; on the chosen chain: 4 8$' '$profi
 tried 0 '^work 10, span 9' '$profile -d 64 -s 255 examples/case-i.trace'
 shown on-the-way.trace >"$wanted"
 tried 0 '^work 22, span 17, 4 sites, 21 lines; on the chosen chain: 0 3 5 8 10 19$' '$profile examples/on-the-way.trace'
+shown instructions.trace >"$wanted"
+tried 0 '^work 31, span 20, 2 sites, 23 lines; on the chosen chain: 2 4 7 10 21$' '$profile examples/instructions.trace'
 shown proxy.trace | grep -v '^0008' >"$wanted"
 tried 0 '^work 36140, span 11435, 8 sites' '$profile -i examples/proxy.trace'
 shown case-g.trace >"$wanted"
@@ -85,15 +87,22 @@ for trace in case-i refusal-14; do
     tried 3 '^profile: standard output: ' "\$profile examples/$trace.trace >&-"
 done
 
-# The sheet of case I written, and read back bare and in quotes; two that are not good, and too little room.
+# The sheet of case I written, and read back bare and in quotes; one with instructions; three that are not good, and too
+# little room.
 sheet=$out/sheet
 export sheet
 cp examples/case-i.csv "$wanted"
 tried 0 '' '$sheet write examples/case-i.trace'
 shown case-i.trace >"$wanted"
 for name in case-i case-i-quoted; do tried 0 '' "\$sheet read 2 examples/$name.csv"; done
+cp examples/instructions.csv "$wanted"
+tried 0 '' '$sheet write examples/instructions.trace'
+shown instructions.trace >"$wanted"
+tried 0 '' '$sheet read 2 examples/instructions.csv'
 echo ff0f00000000 >"$wanted"
-tried 1 '^sheet: refusal 15, record 0$' '$sheet read 2 examples/refusal-15-line-ends.csv'
+for name in line-ends header; do
+    tried 1 '^sheet: refusal 15, record 0$' "\$sheet read 2 examples/refusal-15-$name.csv"
+done
 echo ff0f00000001 >"$wanted"
 tried 1 '^sheet: refusal 15, record 1$' '$sheet read 2 examples/refusal-15-number.csv'
 echo ff1000000000 >"$wanted"
@@ -176,6 +185,9 @@ cp examples/proxy.trace "$wanted"
 tried 0 '' '$compact 9999 examples/proxy.trace'
 cp examples/on-the-way.trace "$wanted"
 tried 0 '' '$compact 483 examples/on-the-way.trace'
+cp examples/instructions-compact.trace "$wanted"
+tried 0 '' '$compact 483 examples/instructions.trace'
+tried 0 '' '$compact 483 examples/instructions-compact.trace'
 echo ff1500000000 >"$wanted"
 tried 1 '^compact: refusal 21, line 0$' '$compact 413 examples/wordy.trace'
 echo ff0e00000004 >"$wanted"

@@ -87,11 +87,15 @@ static void lines_are_read(void) {
     CHECK(numbers_are(&frame, (const uint64_t[]){6, 0, 4294967295, 0, 0}, 5));
     CHECK(read_line(TEXT("060000aBcDeF0100000000\n"), 5) == 0);
     CHECK(numbers_are(&frame, (const uint64_t[]){6, 0, 0xabcdef01, 0, 0}, 5));
+    CHECK(read_line(TEXT("070000ffffffff00000000\n"), 5) == 0);
+    CHECK(numbers_are(&frame, (const uint64_t[]){7, 0, 4294967295, 0, 0}, 5));
     CHECK(read_line(TEXT("0500000000000000000000"), 5) == 2 && numbers_unchanged(&frame));
     CHECK(read_line(TEXT("0500000000000000000000\n\n"), 0) == 2 && numbers_unchanged(&frame));
     CHECK(read_line(TEXT("0g00000000000000000000\n"), 4) == 4 && numbers_unchanged(&frame));
     CHECK(read_line(TEXT("0G00000000000000000000\n"), 5) == 5 && numbers_unchanged(&frame));
     CHECK(read_line(TEXT("0700000000000000000000\n"), 5) == 6 && numbers_unchanged(&frame));
+    CHECK(read_line(TEXT("0700010000000900000000\n"), 5) == 6 && numbers_unchanged(&frame));
+    CHECK(read_line(TEXT("0800000000000900000000\n"), 5) == 6 && numbers_unchanged(&frame));
     CHECK(read_line(TEXT("0600000000000000000000\n"), 5) == 6 && numbers_unchanged(&frame));
 }
 
@@ -108,12 +112,16 @@ static void lines_are_written(void) {
     CHECK(chars_are(&out, "0100020000001400010009\n", 23) && numbers_are(&written, (const uint64_t[]){23}, 1));
     CHECK(write_line((const uint64_t[]){3, 65535, 0, 0, 0, 77}, 6, 30, 3) == 0);
     CHECK(chars_are(&out, "03ffff0000000000000000\n", 23) && numbers_are(&written, (const uint64_t[]){23}, 1));
+    CHECK(write_line((const uint64_t[]){7, 0, 171, 0, 0}, 5, 23, 1) == 0);
+    CHECK(chars_are(&out, "070000000000ab00000000\n", 23) && numbers_are(&written, (const uint64_t[]){23}, 1));
     CHECK(write_line((const uint64_t[]){9, 0, 0, 0}, 4, 23, 1) == 4 && nothing_written());
     CHECK(write_line((const uint64_t[]){9, 0, 0, 0, 0}, 5, 22, 1) == 4 && nothing_written());
     CHECK(write_line((const uint64_t[]){9, 0, 0, 0, 0}, 5, 23, 0) == 4 && nothing_written());
     CHECK(write_line((const uint64_t[]){2, 65536, 0, 0, 0}, 5, 23, 1) == 6 && nothing_written());
     CHECK(write_line((const uint64_t[]){256 + 5, 0, 0, 0, 0}, 5, 23, 1) == 6 && nothing_written());
     CHECK(write_line((const uint64_t[]){6, 0, UINT64_C(1) << 32, 0, 0}, 5, 23, 1) == 6 && nothing_written());
+    CHECK(write_line((const uint64_t[]){7, 0, UINT64_C(1) << 32, 0, 0}, 5, 23, 1) == 6 && nothing_written());
+    CHECK(write_line((const uint64_t[]){7, 0, 0, 0, 0}, 5, 23, 1) == 6 && nothing_written());
     CHECK(write_line((const uint64_t[]){1, 1, 1, 1, 0}, 5, 23, 1) == 6 && nothing_written());
 }
 
@@ -130,7 +138,7 @@ static const char case_i[] =
     "0600000000000200000000\n"
     "0500000000000000000000\n";
 
-static const uint64_t case_i_rows[] = {1, 10, 9, 2, 2, 1, 8, 7, 1, 0, 1, 7, 7, 7, 7};
+static const uint64_t case_i_rows[] = {1, 10, 9, 2, 2, 0, 0, 1, 8, 7, 1, 0, 0, 0, 1, 7, 7, 7, 7, 0, 0};
 
 /* Case K: site 1 calls itself, and the inner invocation's 2 are in work and span once. */
 static const char case_k[] =
@@ -144,7 +152,7 @@ static const char case_k[] =
     "0500000000000000000000\n"
     "0500000000000000000000\n";
 
-static const uint64_t case_k_rows[] = {1, 3, 3, 0, 0, 2, 3, 3, 3, 3, 0, 0, 0, 0, 0};
+static const uint64_t case_k_rows[] = {1, 3, 3, 0, 0, 0, 0, 2, 3, 3, 3, 3, 0, 0, 0, 0, 0, 0, 0, 0, 0};
 
 /* Site 1 behind a cost, site 2 between a spawn and its first cost, site 3 between a sync and the return:
  * 1, site 1, spawn 1 {site 2, call 2 {5}}, 2, sync, site 3. The 5 stand beside the 2, behind the 1. */
@@ -162,25 +170,25 @@ static const char on_the_way[] =
     "0100030000001e0001000d\n"
     "0500000000000000000000\n";
 
-static const uint64_t on_the_way_rows[] = {1, 8, 6, 3, 1, 1, 5, 5, 0, 0, 1, 5, 5, 5, 5, 0, 0, 0, 0, 0};
+static const uint64_t on_the_way_rows[] = {1, 8, 6, 3, 1, 0, 0, 1, 5, 5, 0, 0, 0, 0, 1, 5, 5, 5, 5, 0, 0, 0, 0, 0, 0, 0, 0, 0};
 
 static const char case_i_report[] =
-    "00000000000000000001000000000000000a000000000000000900000000000000020000000000000002\n"
-    "000100000000000000010000000000000008000000000000000700000000000000010000000000000000\n"
-    "000200000000000000010000000000000007000000000000000700000000000000070000000000000007\n";
+    "00000000000000000001000000000000000a00000000000000090000000000000002000000000000000200000000000000000000000000000000\n"
+    "00010000000000000001000000000000000800000000000000070000000000000001000000000000000000000000000000000000000000000000\n"
+    "00020000000000000001000000000000000700000000000000070000000000000007000000000000000700000000000000000000000000000000\n";
 
 /* Case K: row 2 was not called. */
 static const char case_k_report[] =
-    "000000000000000000010000000000000003000000000000000300000000000000000000000000000000\n"
-    "000100000000000000020000000000000003000000000000000300000000000000030000000000000003\n"
-    "000200000000000000000000000000000000000000000000000000000000000000000000000000000000\n";
+    "00000000000000000001000000000000000300000000000000030000000000000000000000000000000000000000000000000000000000000000\n"
+    "00010000000000000002000000000000000300000000000000030000000000000003000000000000000300000000000000000000000000000000\n"
+    "00020000000000000000000000000000000000000000000000000000000000000000000000000000000000000000000000000000000000000000\n";
 
 /* Row 0 without calls, an idle row whose other numbers are not zero, and a row with calls alone. */
-static const uint64_t idle_rows[] = {0, 1, 2, 3, 4, 0, 5, 6, 7, 8, UINT64_C(1) << 63, 0, 0, 0, 0};
+static const uint64_t idle_rows[] = {0, 1, 2, 3, 4, 9, 10, 0, 5, 6, 7, 8, 11, 12, UINT64_C(1) << 63, 0, 0, 0, 0, 0, 0};
 
 static const char idle_report[] =
-    "000000000000000000000000000000000001000000000000000200000000000000030000000000000004\n"
-    "000280000000000000000000000000000000000000000000000000000000000000000000000000000000\n";
+    "0000000000000000000000000000000000010000000000000002000000000000000300000000000000040000000000000009000000000000000a\n"
+    "00028000000000000000000000000000000000000000000000000000000000000000000000000000000000000000000000000000000000000000\n";
 
 typedef uint64_t report_writer(const uint64_t *, size_t, uint64_t, uint8_t *, size_t, uint64_t *, size_t);
 
@@ -195,30 +203,30 @@ static int wrote(const char *text, uint64_t n) { return chars_are(&out, text, n)
 
 /* Where every row was called both writers write the same. */
 static void reports_are_written_by(report_writer *writer) {
-    CHECK(report(writer, case_i_rows, 15, 2, 255, 1) == 0 && wrote(case_i_report, 255));
-    CHECK(report(writer, case_i_rows, 15, 0, 300, 3) == 0 && wrote(case_i_report, 85));
-    CHECK(report(writer, case_i_rows, 15, 256, 0, 0) == 1 && nothing_written());
-    CHECK(report(writer, case_i_rows, 15, UINT64_MAX, 255, 1) == 1 && nothing_written());
-    CHECK(report(writer, case_i_rows, 14, 2, 255, 1) == 4 && nothing_written());
-    CHECK(report(writer, case_i_rows, 15, 2, 254, 1) == 4 && nothing_written());
-    CHECK(report(writer, case_i_rows, 15, 2, 255, 0) == 4 && nothing_written());
-    CHECK(report(writer, case_i_rows, 14, 2, 0, 0) == 4 && nothing_written());
+    CHECK(report(writer, case_i_rows, 21, 2, 351, 1) == 0 && wrote(case_i_report, 351));
+    CHECK(report(writer, case_i_rows, 21, 0, 400, 3) == 0 && wrote(case_i_report, 117));
+    CHECK(report(writer, case_i_rows, 21, 256, 0, 0) == 1 && nothing_written());
+    CHECK(report(writer, case_i_rows, 21, UINT64_MAX, 351, 1) == 1 && nothing_written());
+    CHECK(report(writer, case_i_rows, 20, 2, 351, 1) == 4 && nothing_written());
+    CHECK(report(writer, case_i_rows, 21, 2, 350, 1) == 4 && nothing_written());
+    CHECK(report(writer, case_i_rows, 21, 2, 351, 0) == 4 && nothing_written());
+    CHECK(report(writer, case_i_rows, 20, 2, 0, 0) == 4 && nothing_written());
 }
 
 static void reports_are_written(void) {
     reports_are_written_by(nyo_report);
     reports_are_written_by(nyo_full_report);
-    CHECK(NYO_REPORT_CHARS(2) == 255);
-    CHECK(report(nyo_full_report, case_k_rows, 15, 2, 255, 1) == 0 && wrote(case_k_report, 255));
-    CHECK(report(nyo_full_report, case_k_rows, 15, 2, 254, 1) == 4 && nothing_written());
-    CHECK(report(nyo_report, case_k_rows, 15, 2, 170, 1) == 0 && wrote(case_k_report, 170));
-    CHECK(report(nyo_report, case_k_rows, 15, 2, 255, 1) == 0 && wrote(case_k_report, 170));
-    CHECK(report(nyo_report, case_k_rows, 15, 2, 169, 1) == 4 && nothing_written());
-    CHECK(report(nyo_report, case_k_rows, 14, 2, 170, 1) == 4 && nothing_written());
-    CHECK(report(nyo_report, case_k_rows, 15, 2, 170, 0) == 4 && nothing_written());
-    CHECK(report(nyo_report, idle_rows, 15, 2, 200, 1) == 0 && wrote(idle_report, 170));
-    CHECK(report(nyo_report, idle_rows, 10, 1, 85, 1) == 0 && wrote(idle_report, 85));
-    CHECK(report(nyo_report, idle_rows, 10, 1, 84, 1) == 4 && nothing_written());
+    CHECK(NYO_ROW_CHARS == 117 && NYO_REPORT_CHARS(2) == 351);
+    CHECK(report(nyo_full_report, case_k_rows, 21, 2, 351, 1) == 0 && wrote(case_k_report, 351));
+    CHECK(report(nyo_full_report, case_k_rows, 21, 2, 350, 1) == 4 && nothing_written());
+    CHECK(report(nyo_report, case_k_rows, 21, 2, 234, 1) == 0 && wrote(case_k_report, 234));
+    CHECK(report(nyo_report, case_k_rows, 21, 2, 351, 1) == 0 && wrote(case_k_report, 234));
+    CHECK(report(nyo_report, case_k_rows, 21, 2, 233, 1) == 4 && nothing_written());
+    CHECK(report(nyo_report, case_k_rows, 20, 2, 234, 1) == 4 && nothing_written());
+    CHECK(report(nyo_report, case_k_rows, 21, 2, 234, 0) == 4 && nothing_written());
+    CHECK(report(nyo_report, idle_rows, 21, 2, 300, 1) == 0 && wrote(idle_report, 234));
+    CHECK(report(nyo_report, idle_rows, 14, 1, 117, 1) == 0 && wrote(idle_report, 117));
+    CHECK(report(nyo_report, idle_rows, 14, 1, 116, 1) == 4 && nothing_written());
 }
 
 static uint64_t refusal(uint64_t number, uint64_t line, size_t room, size_t count_room) {
@@ -238,10 +246,10 @@ static void refusals_are_written(void) {
 }
 
 static const char case_i_sheet[] =
-    "row,calls,work,span,local,onspan\r\n"
-    "0,1,10,9,2,2\r\n"
-    "1,1,8,7,1,0\r\n"
-    "2,1,7,7,7,7\r\n";
+    "row,calls,work,span,local,onspan,ilocal,ionspan\r\n"
+    "0,1,10,9,2,2,0,0\r\n"
+    "1,1,8,7,1,0,0,0\r\n"
+    "2,1,7,7,7,7,0,0\r\n";
 
 static uint64_t csv_write(size_t n, uint64_t count, size_t room, size_t count_room) {
     uint8_t *text = lend_chars(&out, room);
@@ -250,15 +258,15 @@ static uint64_t csv_write(size_t n, uint64_t count, size_t room, size_t count_ro
 }
 
 static void sheets_are_written(void) {
-    CHECK(sizeof case_i_sheet - 1 == 74 && NYO_CSV_CHARS(2) == 34 + 3 * 127);
-    CHECK(csv_write(15, 2, 74, 1) == 0);
-    CHECK(chars_are(&out, case_i_sheet, 74) && numbers_are(&written, (const uint64_t[]){74}, 1));
-    CHECK(csv_write(15, 0, NYO_CSV_CHARS(0), 3) == 0);
-    CHECK(chars_are(&out, case_i_sheet, 48) && numbers_are(&written, (const uint64_t[]){48}, 1));
-    CHECK(csv_write(15, 256, 0, 0) == 1 && nothing_written());
-    CHECK(csv_write(14, 2, 0, 1) == 4 && nothing_written());
-    CHECK(csv_write(15, 2, 0, 0) == 4 && nothing_written());
-    CHECK(csv_write(15, 2, 73, 1) == 16 && nothing_written());
+    CHECK(sizeof case_i_sheet - 1 == 101 && NYO_CSV_CHARS(2) == 49 + 3 * 169);
+    CHECK(csv_write(21, 2, 101, 1) == 0);
+    CHECK(chars_are(&out, case_i_sheet, 101) && numbers_are(&written, (const uint64_t[]){101}, 1));
+    CHECK(csv_write(21, 0, NYO_CSV_CHARS(0), 3) == 0);
+    CHECK(chars_are(&out, case_i_sheet, 67) && numbers_are(&written, (const uint64_t[]){67}, 1));
+    CHECK(csv_write(21, 256, 0, 0) == 1 && nothing_written());
+    CHECK(csv_write(20, 2, 0, 1) == 4 && nothing_written());
+    CHECK(csv_write(21, 2, 0, 0) == 4 && nothing_written());
+    CHECK(csv_write(21, 2, 100, 1) == 16 && nothing_written());
 }
 
 static uint64_t csv_read(const char *text, size_t len, size_t room, size_t count_room) {
@@ -269,18 +277,20 @@ static uint64_t csv_read(const char *text, size_t len, size_t room, size_t count
 static int nothing_read(void) { return numbers_unchanged(&rows) && numbers_unchanged(&written); }
 
 static void sheets_are_read(void) {
-    CHECK(csv_read(case_i_sheet, 74, 15, 1) == 0);
-    CHECK(numbers_are(&rows, case_i_rows, 15) && numbers_are(&written, (const uint64_t[]){2}, 1));
-    CHECK(csv_read(case_i_sheet, 72, 20, 2) == 0);
-    CHECK(numbers_are(&rows, case_i_rows, 15) && numbers_are(&written, (const uint64_t[]){2}, 1));
-    const char quoted[] = "row,\"calls\",work,span,local,onspan\r\n\"0\",1,10,9,2,\"2\"";
-    CHECK(csv_read(quoted, sizeof quoted - 1, 5, 1) == 0);
-    CHECK(numbers_are(&rows, case_i_rows, 5) && numbers_are(&written, (const uint64_t[]){0}, 1));
-    CHECK(csv_read(case_i_sheet, 0, 15, 0) == 4 && nothing_read());
-    CHECK(csv_read(case_i_sheet, 0, 15, 1) == 15 && nothing_read());
-    CHECK(csv_read(case_i_sheet, 34, 15, 1) == 15 + 256 * 1 && nothing_read());
-    CHECK(csv_read(case_i_sheet, 73, 15, 1) == 15 + 256 * 3 && nothing_read());
-    CHECK(csv_read(case_i_sheet, 74, 14, 1) == 16 && nothing_read());
+    CHECK(csv_read(case_i_sheet, 101, 21, 1) == 0);
+    CHECK(numbers_are(&rows, case_i_rows, 21) && numbers_are(&written, (const uint64_t[]){2}, 1));
+    CHECK(csv_read(case_i_sheet, 99, 28, 2) == 0);
+    CHECK(numbers_are(&rows, case_i_rows, 21) && numbers_are(&written, (const uint64_t[]){2}, 1));
+    const char quoted[] = "row,\"calls\",work,span,local,onspan,ilocal,ionspan\r\n\"0\",1,10,9,2,\"2\",0,\"0\"";
+    CHECK(csv_read(quoted, sizeof quoted - 1, 7, 1) == 0);
+    CHECK(numbers_are(&rows, case_i_rows, 7) && numbers_are(&written, (const uint64_t[]){0}, 1));
+    const char without[] = "row,calls,work,span,local,onspan\r\n0,1,10,9,2,2\r\n";
+    CHECK(csv_read(without, sizeof without - 1, 21, 1) == 15 && nothing_read());
+    CHECK(csv_read(case_i_sheet, 0, 21, 0) == 4 && nothing_read());
+    CHECK(csv_read(case_i_sheet, 0, 21, 1) == 15 && nothing_read());
+    CHECK(csv_read(case_i_sheet, 49, 21, 1) == 15 + 256 * 1 && nothing_read());
+    CHECK(csv_read(case_i_sheet, 100, 21, 1) == 15 + 256 * 3 && nothing_read());
+    CHECK(csv_read(case_i_sheet, 101, 20, 1) == 16 && nothing_read());
 }
 
 /* Both engines on a trace, with so many numbers less lent than needed for scratch, rows, answer and marks. */
@@ -319,19 +329,19 @@ static void traces_are_profiled(void) {
     const Short enough = {0, 0, 0, 0};
     const uint64_t totals[] = {10, 9, 2, 10};
     size_t len = sizeof case_i - 1;
-    CHECK(tables(case_i, len, 4, 3, enough) == 0 && profile_is(case_i_rows, 15, totals));
-    CHECK(marked(case_i, len, 4, 3, enough) == 0 && profile_is(case_i_rows, 15, totals));
+    CHECK(tables(case_i, len, 4, 3, enough) == 0 && profile_is(case_i_rows, 21, totals));
+    CHECK(marked(case_i, len, 4, 3, enough) == 0 && profile_is(case_i_rows, 21, totals));
     CHECK(chars_are(&marks, "\0\0\0\0\1\0\0\0\1\0", 10));
-    CHECK(tables(case_k, sizeof case_k - 1, 4, 2, enough) == 0 && profile_is(case_k_rows, 15, (const uint64_t[]){3, 3, 2, 9}));
-    CHECK(marked(case_k, sizeof case_k - 1, 4, 2, enough) == 0 && profile_is(case_k_rows, 15, (const uint64_t[]){3, 3, 2, 9}));
+    CHECK(tables(case_k, sizeof case_k - 1, 4, 2, enough) == 0 && profile_is(case_k_rows, 21, (const uint64_t[]){3, 3, 2, 9}));
+    CHECK(marked(case_k, sizeof case_k - 1, 4, 2, enough) == 0 && profile_is(case_k_rows, 21, (const uint64_t[]){3, 3, 2, 9}));
     const uint64_t way[] = {8, 6, 3, 12};
     size_t n = sizeof on_the_way - 1;
-    CHECK(tables(on_the_way, n, 3, 4, enough) == 0 && profile_is(on_the_way_rows, 20, way));
-    CHECK(marked(on_the_way, n, 3, 4, enough) == 0 && profile_is(on_the_way_rows, 20, way));
+    CHECK(tables(on_the_way, n, 3, 4, enough) == 0 && profile_is(on_the_way_rows, 28, way));
+    CHECK(marked(on_the_way, n, 3, 4, enough) == 0 && profile_is(on_the_way_rows, 28, way));
     CHECK(chars_are(&marks, "\1\0\0\0\0\1\0\0\0\0\0\0", 12));
     const char lone[] = "0500000000000000000000\n";
-    CHECK(tables(lone, 23, 1, 0, enough) == 0 && profile_is((const uint64_t[]){1, 0, 0, 0, 0}, 5, (const uint64_t[]){0, 0, 0, 1}));
-    CHECK(marked(lone, 23, 1, 0, enough) == 0 && profile_is((const uint64_t[]){1, 0, 0, 0, 0}, 5, (const uint64_t[]){0, 0, 0, 1}));
+    CHECK(tables(lone, 23, 1, 0, enough) == 0 && profile_is((const uint64_t[]){1, 0, 0, 0, 0, 0, 0}, 7, (const uint64_t[]){0, 0, 0, 1}));
+    CHECK(marked(lone, 23, 1, 0, enough) == 0 && profile_is((const uint64_t[]){1, 0, 0, 0, 0, 0, 0}, 7, (const uint64_t[]){0, 0, 0, 1}));
 }
 
 static void traces_are_refused(void) {
@@ -362,6 +372,8 @@ static void traces_are_refused(void) {
 #define RETURN "0500000000000000000000\n"
 #define COST(digits) "060000" digits "00000000\n"
 #define MOST_COST COST("ffffffff")
+#define CARRY(digits) "070000" digits "00000000\n"
+#define MOST_CARRY CARRY("ffffffff")
 
 /* Both engines refuse a trace with depth 4, three sites and room enough. */
 static int is_refused(const char *trace, uint64_t expected) {
@@ -376,6 +388,39 @@ static void sites_on_the_way_are_refused(void) {
     CHECK(is_refused(CALL_1 SITE_1 RETURN RETURN, 11));
     CHECK(is_refused(COST("00000005") RETURN SITE_1, 7 + 256 * 2));
     CHECK(is_refused(COST("00000005") SITE_1, 14 + 256 * 2));
+}
+
+/* Two chains of 4 beside each other, the later one with more instructions: spawn 1 {4 with 1}, 4 with 1,000. The first is
+ * chosen. */
+static const char carried[] = SITE_1 SITE_2 SPAWN_1 COST("00000004") CARRY("00000001") RETURN COST("00000004") CARRY("000003E8") RETURN;
+
+static const uint64_t carried_rows[] = {1, 8, 4, 4, 0, 1000, 0, 1, 4, 4, 4, 4, 1, 1, 0, 0, 0, 0, 0, 0, 0};
+
+static void instructions_are_profiled(void) {
+    const Short enough = {0, 0, 0, 0};
+    const uint64_t totals[] = {8, 4, 2, 9};
+    size_t len = sizeof carried - 1;
+    CHECK(NYO_COLUMNS == 7 && NYO_ILOCAL == 5 && NYO_ION_SPAN == 6 && NYO_TABLES_SCRATCH(4, 3) == 168);
+    CHECK(tables(carried, len, 2, 2, enough) == 0 && profile_is(carried_rows, 21, totals));
+    CHECK(marked(carried, len, 2, 2, enough) == 0 && profile_is(carried_rows, 21, totals));
+    CHECK(chars_are(&marks, "\0\0\0\1\0\0\0\0\0", 9));
+    CHECK(both_refuse(carried, len, 2, 2, (Short){1, 0, 0, 0}, 4));
+    CHECK(both_refuse(carried, len, 2, 2, (Short){0, 1, 0, 0}, 4));
+}
+
+static void stray_instructions_are_refused(void) {
+    CHECK(NYO_STRAY == 22);
+    CHECK(is_refused(CARRY("00000009") RETURN, 22));
+    CHECK(is_refused(SITE_1 CARRY("00000009") RETURN, 22 + 256 * 1));
+    CHECK(is_refused(SYNC CARRY("00000009") RETURN, 22 + 256 * 1));
+    CHECK(is_refused(SITE_1 CALL_1 CARRY("00000009") RETURN RETURN, 22 + 256 * 2));
+    CHECK(is_refused(SITE_1 CALL_1 COST("00000001") RETURN CARRY("00000009") RETURN, 22 + 256 * 4));
+    CHECK(is_refused(COST("00000001") CARRY("00000009") CARRY("00000009") RETURN, 22 + 256 * 2));
+    CHECK(is_refused(COST("00000001") RETURN CARRY("00000009"), 7 + 256 * 2));
+    CHECK(is_refused(COST("00000001") CARRY("00000000") RETURN, 6 + 256 * 1));
+    CHECK(is_refused(COST("00000001") "0700010000000900000000\n" RETURN, 6 + 256 * 1));
+    CHECK(is_refused(COST("00000001") CARRY("0000000g") RETURN, 5 + 256 * 1));
+    CHECK(is_refused(COST("00000001") CARRY("00000009"), 14 + 256 * 2));
 }
 
 /* Both engines on a trace with limits 4 and 3 and so many of these entries. */
@@ -399,8 +444,8 @@ static int forecast_is(const char *trace, const nyo_entry *entries, size_t n, co
     const Short enough = {0, 0, 0, 0};
     const uint64_t totals[] = {work, span, 2, 10};
     size_t len = 10 * NYO_LINE_CHARS;
-    int is = forecast_tables(trace, len, entries, n, enough) == 0 && profile_is(expected_rows, 15, totals);
-    is = is && forecast_marks(trace, len, entries, n, enough) == 0 && profile_is(expected_rows, 15, totals);
+    int is = forecast_tables(trace, len, entries, n, enough) == 0 && profile_is(expected_rows, 21, totals);
+    is = is && forecast_marks(trace, len, entries, n, enough) == 0 && profile_is(expected_rows, 21, totals);
     return is && chars_are(&marks, expected_marks, 10);
 }
 
@@ -417,11 +462,21 @@ static void traces_are_forecast(void) {
     const nyo_entry one[] = {{2, 2}}, most[] = {{2, 1000}}, off[] = {{1, 1000}}, root[] = {{0, 2}}, all[] = {{0, 2}, {1, 3}, {2, 4}};
     CHECK(sizeof(nyo_entry) == 16 && NYO_MOST_ENTRIES == 16 && NYO_LEAST_FACTOR == 2 && NYO_MOST_FACTOR == 1000);
     CHECK(forecast_is(case_i, one, 0, case_i_rows, 10, 9, on_chain));
-    CHECK(forecast_is(case_i, one, 1, (const uint64_t[]){1, 7, 6, 2, 2, 1, 5, 4, 1, 0, 1, 4, 4, 4, 4}, 7, 6, on_chain));
-    CHECK(forecast_is(case_i, most, 1, (const uint64_t[]){1, 4, 3, 2, 2, 1, 2, 1, 1, 0, 1, 1, 1, 1, 1}, 4, 3, on_chain));
+    CHECK(forecast_is(case_i, one, 1, (const uint64_t[]){1, 7, 6, 2, 2, 0, 0, 1, 5, 4, 1, 0, 0, 0, 1, 4, 4, 4, 4, 0, 0}, 7, 6, on_chain));
+    CHECK(forecast_is(case_i, most, 1, (const uint64_t[]){1, 4, 3, 2, 2, 0, 0, 1, 2, 1, 1, 0, 0, 0, 1, 1, 1, 1, 1, 0, 0}, 4, 3, on_chain));
     CHECK(forecast_is(case_i, off, 1, case_i_rows, 10, 9, on_chain));
-    CHECK(forecast_is(case_i, root, 1, (const uint64_t[]){1, 9, 8, 1, 1, 1, 8, 7, 1, 0, 1, 7, 7, 7, 7}, 9, 8, on_chain));
-    CHECK(forecast_is(case_i, all, 3, (const uint64_t[]){1, 4, 3, 1, 1, 1, 3, 2, 1, 0, 1, 2, 2, 2, 2}, 4, 3, on_chain));
+    CHECK(forecast_is(case_i, root, 1, (const uint64_t[]){1, 9, 8, 1, 1, 0, 0, 1, 8, 7, 1, 0, 0, 0, 1, 7, 7, 7, 7, 0, 0}, 9, 8, on_chain));
+    CHECK(forecast_is(case_i, all, 3, (const uint64_t[]){1, 4, 3, 1, 1, 0, 0, 1, 3, 2, 1, 0, 0, 0, 1, 2, 2, 2, 2, 0, 0}, 4, 3, on_chain));
+}
+
+/* 4 by 2 is 2, beside 4: the chain goes over to the root's, and the instructions stay as they are. */
+static void instructions_stay_in_a_forecast(void) {
+    const Short enough = {0, 0, 0, 0};
+    const nyo_entry halved[] = {{1, 2}};
+    const uint64_t expected[] = {1, 6, 4, 4, 4, 1000, 1000, 1, 2, 2, 2, 0, 1, 0, 0, 0, 0, 0, 0, 0, 0}, totals[] = {6, 4, 2, 9};
+    CHECK(forecast_tables(carried, sizeof carried - 1, halved, 1, enough) == 0 && profile_is(expected, 21, totals));
+    CHECK(forecast_marks(carried, sizeof carried - 1, halved, 1, enough) == 0 && profile_is(expected, 21, totals));
+    CHECK(chars_are(&marks, "\0\0\0\0\0\0\1\0\0", 9));
 }
 
 static void forecasts_are_refused(void) {
@@ -479,6 +534,7 @@ static void stacks_are_folded(void) {
     CHECK(folded(case_i, len, "", stock_names, 4, 35, 1) == 0 && text_is("root;one;two 7\nroot;one 1\nroot 2\n"));
     CHECK(folded(case_k, sizeof case_k - 1, names, stock_names, 4, 34, 1) == 0 && text_is("main;load 1\nmain;load;load 2\n"));
     CHECK(folded("0500000000000000000000\n", 23, names, stock_names, 4, 0, 1) == 0 && text_is(""));
+    CHECK(folded(carried, sizeof carried - 1, names, stock_names, 4, 19, 1) == 0 && text_is("main;load 4\nmain 4\n"));
     CHECK(folded(case_i, len - 1, "", "", 3, 0, 0) == 2 && nothing_folded());
     CHECK(folded(case_i, len, "", "", 3, 0, 1) == 4 && nothing_folded());
     CHECK(folded(case_i, len, "", "", 4, 0, 0) == 4 && nothing_folded());
@@ -537,6 +593,24 @@ static void traces_are_compacted(void) {
     CHECK(LEAVES(SPAWNED SITE_3 SYNC, SPAWNED SITE_3));
 }
 
+static void instructions_are_compacted(void) {
+    CHECK(leaves(SITE_1 SITE_2 SPAWN_1 COST("0000000a") CARRY("000000AB") RETURN RETURN,
+                 SITE_1 SITE_2 SPAWN_1 COST("0000000a") CARRY("000000ab") RETURN RETURN));
+    CHECK(LEAVES(COST("00000001") CARRY("00000002") COST("00000003") CARRY("00000004"), COST("00000004") CARRY("00000006")));
+    CHECK(LEAVES(COST("00000001") CARRY("00000002") COST("00000003"), COST("00000004") CARRY("00000002")));
+    CHECK(LEAVES(COST("00000001") COST("00000003") CARRY("00000004"), COST("00000004") CARRY("00000004")));
+    CHECK(LEAVES(COST("00000001") CARRY("fffffffe") COST("00000002") CARRY("00000001"), COST("00000003") MOST_CARRY));
+    CHECK(LEAVES(COST("00000001") MOST_CARRY COST("00000002") CARRY("00000001"),
+                 COST("00000001") MOST_CARRY COST("00000002") CARRY("00000001")));
+    CHECK(LEAVES(MOST_COST CARRY("00000001") COST("00000002") CARRY("00000001"),
+                 MOST_COST CARRY("00000001") COST("00000002") CARRY("00000001")));
+    CHECK(LEAVES(COST("00000001") MOST_CARRY COST("00000002") CARRY("00000001") COST("00000003"),
+                 COST("00000001") MOST_CARRY COST("00000005") CARRY("00000001")));
+    CHECK(LEAVES(COST("00000001") CARRY("00000002") SYNC COST("00000003") CARRY("00000004"), COST("00000004") CARRY("00000006")));
+    CHECK(LEAVES(COST("00000001") CARRY("00000002") SITE_3 COST("00000003") CARRY("00000004"),
+                 COST("00000001") CARRY("00000002") SITE_3 COST("00000003") CARRY("00000004")));
+}
+
 static void compactions_are_refused(void) {
     size_t len = sizeof case_i - 1;
     CHECK(NYO_COMPACT_CHARS(len) == 230 && NYO_COMPACT_ROOM == 21);
@@ -561,10 +635,14 @@ int main(void) {
     traces_are_profiled();
     traces_are_refused();
     sites_on_the_way_are_refused();
+    instructions_are_profiled();
+    stray_instructions_are_refused();
     traces_are_forecast();
+    instructions_stay_in_a_forecast();
     forecasts_are_refused();
     stacks_are_folded();
     traces_are_compacted();
+    instructions_are_compacted();
     compactions_are_refused();
     printf("%u passed, %u failed\n", passed, failed);
     return failed != 0;

@@ -117,22 +117,32 @@ static void put_raw(Trace *t, Input *in, unsigned n) {
     for (; n > 0 && t->len < MOST_CHARS; n--) t->chars[t->len++] = (uint8_t)next(in);
 }
 
-/* One byte of the input, and sometimes some more, as a line. */
+/* Four bytes of the input as a number. */
+static uint64_t next_wide(Input *in) {
+    uint64_t wide = 0;
+    for (unsigned i = 0; i < 4; i++) wide = wide << 8 | next(in);
+    return wide;
+}
+
+/* One byte of the input, and sometimes some more, as a line; as two, where a cost has its instructions behind it. */
 static void put_item(Trace *t, Input *in) {
     unsigned item = next(in), what = item % 8, more = item / 8;
     uint64_t wide = 0;
     switch (what) {
-    case 0: put_line(t, (const uint64_t[]){6, 0, more, 0, 0}); break;
+    case 0:
+        put_line(t, (const uint64_t[]){6, 0, more ? 1 + more % 16 : 0, 0, 0});
+        if (more >= 16) put_line(t, (const uint64_t[]){7, 0, next(in), 0, 0});
+        break;
     case 1:
-        for (unsigned i = 0; i < 4; i++) wide = wide << 8 | next(in);
-        put_line(t, (const uint64_t[]){6, 0, wide, 0, 0});
+        put_line(t, (const uint64_t[]){6, 0, next_wide(in), 0, 0});
+        if (more % 2) put_line(t, (const uint64_t[]){7, 0, next_wide(in), 0, 0});
         break;
     case 2:
     case 3:
         put_line(t, (const uint64_t[]){what, more < 28 ? more % 8 : next(in), 0, 0, 0});
         t->open++;
         break;
-    case 4: put_line(t, (const uint64_t[]){4, 0, 0, 0, 0}); break;
+    case 4: put_line(t, more < 28 ? (const uint64_t[]){4, 0, 0, 0, 0} : (const uint64_t[]){7, 0, more, 0, 0}); break;
     case 5:
         put_line(t, (const uint64_t[]){5, 0, 0, 0, 0});
         t->open -= t->open > 0;
@@ -310,7 +320,7 @@ static void print_report(const uint64_t *rows, uint64_t sites, int full, Input *
 
 /* The rows as comma-separated text, by the C library. */
 static size_t expected_sheet(char *text, const uint64_t *rows, uint64_t sites) {
-    size_t n = (size_t)sprintf(text, "row,calls,work,span,local,onspan\r\n");
+    size_t n = (size_t)sprintf(text, "row,calls,work,span,local,onspan,ilocal,ionspan\r\n");
     for (size_t row = 0; row <= sites; row++) {
         n += (size_t)sprintf(text + n, "%zu", row);
         for (size_t k = 0; k < NYO_COLUMNS; k++) n += (size_t)sprintf(text + n, ",%llu", (unsigned long long)rows[NYO_COLUMNS * row + k]);
@@ -379,13 +389,14 @@ static int all_zero(const Room *r) {
 }
 
 /* Columns 4 and 5 add up to the total work and the total span. No row's work is above the total work, and beside it no
- * span and no local is above the work, no on-span number above the local; a row without calls is zero. */
+ * span and no local is above the work, no on-span number above the local, of instructions too; a row without calls is zero. */
 static void columns_add_up(const uint64_t *rows, const uint64_t *answer) {
     uint64_t local = 0, on_span = 0;
     for (size_t row = 0; row <= answer[2]; row++, rows += NYO_COLUMNS) {
         MUST(rows[NYO_WORK] <= answer[0] && rows[NYO_SPAN] <= rows[NYO_WORK]);
         MUST(rows[NYO_LOCAL] <= rows[NYO_WORK] && rows[NYO_ON_SPAN] <= rows[NYO_LOCAL]);
-        MUST(rows[NYO_CALLS] > 0 || rows[NYO_WORK] == 0);
+        MUST(rows[NYO_ION_SPAN] <= rows[NYO_ILOCAL]);
+        MUST(rows[NYO_CALLS] > 0 || (rows[NYO_WORK] == 0 && rows[NYO_ILOCAL] == 0));
         local += rows[NYO_LOCAL], on_span += rows[NYO_ON_SPAN];
     }
     MUST(local == answer[0] && on_span == answer[1] && answer[1] <= answer[0]);
@@ -422,6 +433,20 @@ static unsigned long field(const uint8_t *line, size_t from, size_t digits) {
     char text[9] = {0};
     memcpy(text, line + from, digits);
     return strtoul(text, NULL, 16);
+}
+
+/* The instructions that a line of an accepted trace carries, where it is a cost line; otherwise 0. */
+static unsigned long carried(const Room *trace, const uint8_t *line) {
+    const uint8_t *behind = line + NYO_LINE_CHARS;
+    if (field(line, 0, 2) != 6 || behind >= trace->at + trace->bytes || field(behind, 0, 2) != 7) return 0;
+    return field(behind, 6, 8);
+}
+
+/* Refusal 22 is that of a 07 line whose line before is no cost. */
+static void refused_as_stray(const Room *trace, uint64_t given) {
+    const uint8_t *at = trace->at + NYO_LINE(given) * NYO_LINE_CHARS;
+    if (NYO_NUMBER(given) != NYO_STRAY) return;
+    MUST(field(at, 0, 2) == 7 && (at == trace->at || field(at - NYO_LINE_CHARS, 0, 2) != 6));
 }
 
 /* Refusals 8 to 11 are those of the site lines before the refused line, wherever they stand. */
@@ -565,12 +590,14 @@ static int same_profile(const Given *one, const Given *other, size_t marks) {
            !memcmp(one->rows, other->rows, 8 * NYO_ROWS(one->answer[2]));
 }
 
-/* No calls changed and no work, span or local grew; a list that names no row on the span leaves the span as it is. */
+/* No calls and no instructions changed, and no work, span or local grew; a list that names no row on the span leaves the span
+ * as it is. */
 static void gains(const Given *plain, const Given *forecast, const Entries *list) {
     uint64_t named = 0;
     for (size_t k = 0; k < NYO_ROWS(plain->answer[2]); k++) {
-        if (k % NYO_COLUMNS == NYO_CALLS) MUST(forecast->rows[k] == plain->rows[k]);
-        else if (k % NYO_COLUMNS != NYO_ON_SPAN) MUST(forecast->rows[k] <= plain->rows[k]);
+        size_t column = k % NYO_COLUMNS;
+        if (column == NYO_CALLS || column == NYO_ILOCAL) MUST(forecast->rows[k] == plain->rows[k]);
+        else if (column != NYO_ON_SPAN && column != NYO_ION_SPAN) MUST(forecast->rows[k] <= plain->rows[k]);
     }
     for (size_t n = 0; n < list->len; n++) named += plain->rows[NYO_COLUMNS * list->at[n].row + NYO_ON_SPAN];
     MUST(forecast->answer[0] <= plain->answer[0] && forecast->answer[1] <= plain->answer[1]);
@@ -601,13 +628,19 @@ static void forecast(const Room *trace, int marked, uint64_t depth, uint64_t sit
     count(37, plain.answer[1] - asked.answer[1]);
 }
 
+/* A cost, and where it has instructions a 07 line behind it. */
+static void put_cost(Trace *t, const unsigned long *held) {
+    put_line(t, (const uint64_t[]){6, 0, held[0], 0, 0});
+    if (held[1]) put_line(t, (const uint64_t[]){7, 0, held[1], 0, 0});
+}
+
 /* What is left of an accepted trace, line by line, and its length. A sync waits until a line that is no sync stands
- * behind it; of a run of them only the first can be left. */
+ * behind it; of a run of them only the first can be left. The sums that are held are of costs and of their instructions. */
 static size_t expected_left(uint8_t *left, const Room *trace) {
     static const uint64_t sync[NYO_FRAME] = {4, 0, 0, 0, 0};
     static Trace t;
     int spawned[NYO_MOST_DEPTH] = {0}, waits = 0;
-    unsigned long held = 0;
+    unsigned long held[2] = {0, 0};
     size_t depth = 1;
     t.len = 0;
     for (const uint8_t *line = trace->at; line < trace->at + trace->bytes; line += NYO_LINE_CHARS) {
@@ -617,12 +650,12 @@ static size_t expected_left(uint8_t *left, const Room *trace) {
             waits |= spawned[depth - 1], spawned[depth - 1] = 0;
             continue;
         }
-        int leave = waits && f[0] != 5;
-        if (held && (leave || f[0] != 6 || held + f[2] > 4294967295))
-            put_line(&t, (const uint64_t[]){6, 0, held, 0, 0}), held = 0;
+        if (f[0] == 7) continue;
+        int leave = waits && f[0] != 5, fits = held[0] + f[2] <= UINT32_MAX && held[1] + carried(trace, line) <= UINT32_MAX;
+        if (held[0] && (leave || f[0] != 6 || !fits)) put_cost(&t, held), held[0] = held[1] = 0;
         if (leave) put_line(&t, sync);
         waits = 0;
-        if (f[0] == 6) held += f[2];
+        if (f[0] == 6) held[0] += f[2], held[1] += carried(trace, line);
         else put_line(&t, f);
         if (f[0] == 3) spawned[depth - 1] = 1;
         if (f[0] == 2 || f[0] == 3) spawned[depth++] = 0;
@@ -645,6 +678,37 @@ static void says_as_much(const uint8_t *left, size_t len, uint64_t depth, uint64
     MUST(!memcmp(own_rows, rows, 8 * NYO_ROWS(answer[2])));
     MUST(!nyo_compact(left, len, depth, sites, again, sizeof again, &count, 1));
     MUST(count == len && !memcmp(again, left, len));
+}
+
+/* Of a trace with this answer and these rows, but without its 07 lines, the table engine says the same, but for the lines and
+ * the instructions, which are zero. */
+static void cycles_alone(const Room *trace, uint64_t depth, uint64_t sites, const uint64_t *answer, const uint64_t *rows) {
+    static uint64_t scratch[NYO_TABLES_SCRATCH(NYO_MOST_DEPTH, NYO_MOST_SITES)], own_rows[NYO_ROWS(NYO_MOST_SITES)];
+    static uint8_t bare[MOST_CHARS + NYO_LINE_CHARS];
+    uint64_t own[NYO_ANSWER];
+    size_t len = 0;
+    for (const uint8_t *line = trace->at; line < trace->at + trace->bytes; line += NYO_LINE_CHARS)
+        if (field(line, 0, 2) != 7) memcpy(bare + len, line, NYO_LINE_CHARS), len += NYO_LINE_CHARS;
+    MUST(!nyo_tables(bare, len, depth, sites, scratch, sizeof scratch / 8, own_rows, sizeof own_rows / 8, own, NYO_ANSWER));
+    MUST(!memcmp(own, answer, 3 * sizeof *own) && own[3] == len / NYO_LINE_CHARS);
+    for (size_t k = 0; k < NYO_ROWS(answer[2]); k++) MUST(own_rows[k] == (k % NYO_COLUMNS < NYO_ILOCAL ? rows[k] : 0));
+    count(5, answer[3] - own[3]);
+}
+
+/* Columns 4 to 7 are, row by row, the costs and the instructions of all lines and of the marked ones. */
+static void marks_add_up(const Room *trace, const uint8_t *marks, const uint64_t *rows, uint64_t sites) {
+    static uint64_t sums[NYO_ROWS(NYO_MOST_SITES)];
+    size_t open[NYO_MOST_DEPTH] = {0}, depth = 1;
+    memset(sums, 0, sizeof sums);
+    for (const uint8_t *line = trace->at; line < trace->at + trace->bytes; line += NYO_LINE_CHARS, marks++) {
+        unsigned long kind = field(line, 0, 2), cost = kind == 6 ? field(line, 6, 8) : 0;
+        uint64_t *own = sums + NYO_COLUMNS * open[depth - 1];
+        own[NYO_LOCAL] += cost, own[NYO_ON_SPAN] += *marks * cost;
+        own[NYO_ILOCAL] += carried(trace, line), own[NYO_ION_SPAN] += *marks * carried(trace, line);
+        if (kind == 2 || kind == 3) open[depth++] = field(line, 2, 4);
+        if (kind == 5) depth--;
+    }
+    for (size_t k = 0; k < NYO_ROWS(sites); k++) MUST(k % NYO_COLUMNS < NYO_LOCAL || sums[k] == rows[k]);
 }
 
 /* The trace, which the table engine has answered so, without the lines that say nothing. */
@@ -682,9 +746,10 @@ static void profile(const Room *trace, Input *lists, Input *in) {
                                 rows.bytes / 8, numbers(&answer), answer.bytes / 8);
     count(8 + NYO_NUMBER(first), NYO_LINE(first));
     if (first) {
-        MUST(NYO_NUMBER(first) <= 14 && NYO_LINE(first) <= lines);
+        MUST((NYO_NUMBER(first) <= 14 || NYO_NUMBER(first) == NYO_STRAY) && NYO_LINE(first) <= lines);
         MUST(kept_from(&scratch, 0) && kept_from(&rows, 0) && kept_from(&answer, 0));
         refused_by_sites(trace, first, sites);
+        refused_as_stray(trace, first);
         print_refusal(NYO_NUMBER(first), NYO_LINE(first), in);
     } else {
         memcpy(first_answer, answer.at, sizeof first_answer);
@@ -693,6 +758,7 @@ static void profile(const Room *trace, Input *lists, Input *in) {
         MUST(all_zero(&scratch) && kept_from(&scratch, scratch.bytes) && kept_from(&answer, 8 * NYO_ANSWER));
         MUST(kept_from(&rows, 8 * NYO_ROWS(first_answer[2])));
         columns_add_up(first_rows, first_answer);
+        cycles_alone(trace, depth, sites, first_answer, first_rows);
         count(32, first_answer[0] - first_answer[1]);
         count(33, first_answer[2]);
         for (int full = 0; full < 2; full++) print_report(first_rows, first_answer[2], full, in);
@@ -718,6 +784,7 @@ static void profile(const Room *trace, Input *lists, Input *in) {
     MUST(kept_from(&rows, 8 * NYO_ROWS(totals[2])));
     columns_add_up(numbers(&rows), totals);
     if (!first) MUST(!memcmp(totals, first_answer, sizeof first_answer) && !memcmp(rows.at, first_rows, 8 * NYO_ROWS(totals[2])));
+    marks_add_up(trace, marks.at, numbers(&rows), totals[2]);
     uint64_t marked = 0, all = 0;
     for (size_t line = 0; line < lines; line++) {
         Input none = {NULL, NULL};

@@ -48,8 +48,10 @@ static void put_good(unsigned lines) {
         if (kind == 5 && open == 1) continue;
         if ((kind == 2 || kind == 3) && !sites) continue;
         sites += kind == 6;
-        put_item(kind, kind == 2 || kind == 3 ? 1 + below(sites) : 1 + below(27));
-        for (unsigned more = 0; kind == 1 && more < 4; more++) put(below(256));
+        unsigned more = kind == 2 || kind == 3 ? 1 + below(sites) : 1 + below(27);
+        put_item(kind, more);
+        if (kind == 0 && more >= 16) put(1 + below(255));
+        for (unsigned n = kind == 1 ? 4 + more % 2 * 4 : 0; n > 0; n--) put(below(256));
         open += kind == 2 || kind == 3, open -= kind == 5;
     }
 }

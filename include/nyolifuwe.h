@@ -3,21 +3,23 @@
  * A trace is text: lines of 23 characters, each 22 digits (0-9, a-f, A-F) and a line feed. The digits are five fields, most
  * significant digit first: kind (2), site (4), value (8), file (4), column (4). Unused fields are zero.
  *
- *     kind  meaning  used fields
- *     01    site     site; value = source line; file; column, the last three each at least 1
- *     02    call     site
- *     03    spawn    site
- *     04    sync     none
- *     05    return   none
- *     06    cost     value, at least 1
+ *     kind  meaning       used fields
+ *     01    site          site; value = source line; file; column, the last three each at least 1
+ *     02    call          site
+ *     03    spawn         site
+ *     04    sync          none
+ *     05    return        none
+ *     06    cost          value, at least 1
+ *     07    instructions  value, at least 1
  *
  * The root is open from the start, and its return is the last line. A site line may stand anywhere before that; site lines
  * are numbered 1, 2, 3 and on, no two with the same file, line and column, and a call or spawn names a site that an earlier
- * line declares.
+ * line declares. A kind 07 line stands directly behind a cost line and carries its instructions; a cost without one has none.
+ * Costs are cycles, which alone decide work, span and chains; instructions are a measure of their own, never added to them.
  *
  * Every function answers 0 where it accepts, and otherwise a refusal: its number + 256 times its line, lines numbered
  * from 0. A refusal changes nothing that was lent. Where several refusals apply, the one with the smallest number is
- * given, except that refusals 5 to 14 of a trace are those of its first faulty line.
+ * given, except that refusals 5 to 14 and 22 of a trace are those of its first faulty line, in which 22 comes behind 7.
  *
  * All memory is the caller's: no function allocates, keeps a pointer, prints, or has state. Calls on memory that
  * does not overlap may run at the same time. Every slice passes as a pointer and the number of its elements. A pointer
@@ -57,14 +59,14 @@ extern "C" {
 
 /* Numbers of a frame, of a row and of an answer. */
 #define NYO_FRAME 5
-#define NYO_COLUMNS 5
+#define NYO_COLUMNS 7
 #define NYO_ANSWER 4
 
 /* Which number of its row a column is. */
-enum { NYO_CALLS, NYO_WORK, NYO_SPAN, NYO_LOCAL, NYO_ON_SPAN };
+enum { NYO_CALLS, NYO_WORK, NYO_SPAN, NYO_LOCAL, NYO_ON_SPAN, NYO_ILOCAL, NYO_ION_SPAN };
 
 /* The room that each function needs, in elements. */
-#define NYO_TABLES_SCRATCH(depth, sites) (4 * (size_t)(depth) * ((size_t)(sites) + 3))
+#define NYO_TABLES_SCRATCH(depth, sites) (7 * (size_t)(depth) * ((size_t)(sites) + 3))
 #define NYO_MARKS_SCRATCH(depth) (8 * (size_t)(depth))
 #define NYO_ROWS(sites) (NYO_COLUMNS * ((size_t)(sites) + 1))
 #define NYO_FOLDED_SCRATCH(depth) ((size_t)(depth))
@@ -75,7 +77,7 @@ enum { NYO_CALLS, NYO_WORK, NYO_SPAN, NYO_LOCAL, NYO_ON_SPAN };
 
 /* Characters of comma-separated text: of its header, of a record at most (numbers of 20 digits, each with a comma or CR
  * behind it, and a LF), and of the text of count sites at most. */
-#define NYO_CSV_HEADER_CHARS 34
+#define NYO_CSV_HEADER_CHARS 49
 #define NYO_CSV_ROW_CHARS (21 * (1 + NYO_COLUMNS) + 1)
 #define NYO_CSV_CHARS(count) (NYO_CSV_HEADER_CHARS + NYO_CSV_ROW_CHARS * ((size_t)(count) + 1))
 
@@ -107,28 +109,32 @@ enum {
     NYO_FOLDED_ROOM = 18,  /* output shorter than the folded stacks */
     NYO_ENTRIES = 19,      /* a list of forecast entries too long, its rows not strictly ascending, or one not declared */
     NYO_FACTOR = 20,       /* a forecast entry's factor outside 2 to 1,000 */
-    NYO_COMPACT_ROOM = 21  /* output shorter than the compacted trace */
+    NYO_COMPACT_ROOM = 21, /* output shorter than the compacted trace */
+    NYO_STRAY = 22         /* a kind 07 line not directly behind a cost line; in a line it comes behind 7 and before 8 */
 };
 
 /* Profiles a trace with the table engine.
  *
  * depth and sites are the limits that the caller sets, and decide the room:
  *   scratch  NYO_TABLES_SCRATCH(depth, sites)   all zero afterwards
- *   rows     NYO_ROWS(sites)                    row 0 is the root, row s site s; five numbers each:
- *                                               calls, work, span, local, on span; see below
+ *   rows     NYO_ROWS(sites)                    row 0 is the root, row s site s; seven numbers each:
+ *                                               calls, work, span, local, on span, and the instructions
+ *                                               local and on span; see below
  *   answer   NYO_ANSWER                         total work, total span, number of sites, number of lines
  * Of rows the numbers of the root and of the declared sites are written. Calls counts the invocations made from the site;
- * local is the costs directly in them, and on span the part of it on the chosen chain. Work and span add up, over those of
- * them that no other invocation from the same site encloses, all costs inside each and the span of each: so a site that
- * calls itself has no more work, and no more span, than the total work.
- * Refusals: 1 to 4 in that order with line 0, then 5 to 12 of the first faulty line, then 14. */
+ * local is the costs directly in them, and on span the part of it on the chosen chain; the last two are the instructions of
+ * the same costs. Work and span add up, over those of them that no other invocation from the same site encloses, all costs
+ * inside each and the span of each: so a site that calls itself has no more work, and no more span, than the total work.
+ * Refusals: 1 to 4 in that order with line 0, then 5, 6, 7, 22 and 8 to 12, in that order, of the first faulty line, then
+ * 14. */
 uint64_t nyo_tables(const uint8_t *trace, size_t trace_len, uint64_t depth, uint64_t sites, uint64_t *scratch,
                     size_t scratch_len, uint64_t *rows, size_t rows_len, uint64_t *answer, size_t answer_len);
 
 /* Profiles a trace with the marks engine: the same answer, rows and refusals as nyo_tables, and
  *   scratch  NYO_MARKS_SCRATCH(depth)           all zero afterwards
- *   marks    one byte a line                    1 for a line on the chosen chain, 0 for any other
- * The chosen chain is, among the heaviest chains of cost lines that are in series, the one that comes first. */
+ *   marks    one byte a line                    1 for a line on the chosen chain, 0 for any other, each 07 line too
+ * The chosen chain is, among the heaviest chains of cost lines that are in series, the one that comes first; instructions do
+ * not choose. */
 uint64_t nyo_marks(const uint8_t *trace, size_t trace_len, uint64_t depth, uint64_t sites, uint64_t *scratch,
                    size_t scratch_len, uint8_t *marks, size_t marks_len, uint64_t *rows, size_t rows_len,
                    uint64_t *answer, size_t answer_len);
@@ -140,7 +146,7 @@ typedef struct {
 
 /* Profile a trace as nyo_tables and nyo_marks do, as it would be if the rows that the entries name were faster: the answer,
  * rows and marks are those of the trace in which each cost directly in an invocation of a named row is divided by its factor
- * and rounded up. An empty list gives the plain profile.
+ * and rounded up. Instructions stay as they are. An empty list gives the plain profile.
  *   entries  at most NYO_MOST_ENTRIES           rows strictly ascending, 0 for the root; factors 2 to 1,000;
  *                                               entries_len is the number of entries
  * Refusals: those of nyo_tables and nyo_marks, then, with line 0, 19 for a list that is too long, unordered or names a row
@@ -167,7 +173,7 @@ uint64_t nyo_write_line(const uint64_t *frame, size_t frame_len, uint8_t *out, s
                         size_t written_len);
 
 /* Writes the report of the root and count sites without idle rows: of row 0 and of each row with calls above zero, in order, a
- * line, and into written[0] how many characters they are. A line is its row in 4 digits, its five numbers in 16 digits each
+ * line, and into written[0] how many characters they are. A line is its row in 4 digits, its seven numbers in 16 digits each
  * and a line feed, in hexadecimal with small letters.
  *   rows     NYO_ROWS(count)
  *   out      NYO_ROW_CHARS for each row printed; NYO_REPORT_CHARS(count) is always enough
@@ -194,8 +200,8 @@ uint64_t nyo_refusal(uint64_t number, uint64_t line, uint8_t *out, size_t out_le
                      size_t written_len);
 
 /* Writes the rows of the root and count sites as comma-separated text (RFC 4180): the header
- * row,calls,work,span,local,onspan, then a record for each row, in decimal, without quotes, each record ended by CR LF;
- * and into written[0] how many characters they are.
+ * row,calls,work,span,local,onspan,ilocal,ionspan, then a record for each row, in decimal, without quotes, each record ended
+ * by CR LF; and into written[0] how many characters they are.
  *   rows     NYO_ROWS(count)
  *   out      the text's own length; NYO_CSV_CHARS(count) is always enough
  *   written  1
@@ -204,7 +210,7 @@ uint64_t nyo_csv_write(const uint64_t *rows, size_t rows_len, uint64_t count, ui
                        uint64_t *written, size_t written_len);
 
 /* Reads such text back: the rows, and into count[0] how many sites they are besides the root. Any field may be in double
- * quotes, and the last record may lack its line end. Good text is the header, then 1 to 256 records of six decimal
+ * quotes, and the last record may lack its line end. Good text is the header, then 1 to 256 records of eight decimal
  * numbers of 64 bits without a leading zero, the first of them 0, 1, 2 and on.
  *   rows     NYO_COLUMNS for each record; NYO_ROWS(NYO_MOST_SITES) is always enough
  *   count    1
@@ -215,7 +221,7 @@ uint64_t nyo_csv_read(const uint8_t *text, size_t text_len, uint64_t *rows, size
 
 /* Writes a trace as folded stacks: for each cost line, in order, the names from the root to the innermost open invocation
  * joined by semicolons, a space, the cost in decimal, a line feed; and into written[0] how many characters they are. Equal
- * stacks are not merged, and the costs add up to the total work.
+ * stacks are not merged, and the costs add up to the total work; instructions are not told.
  *
  * project and stock are lists of names, one a line: line 0 names the root, line s site s; a line ends at a line feed or at
  * the end of the list. The name shown is the project's, or the stock list's where the project's line is empty or missing. It
@@ -231,10 +237,11 @@ uint64_t nyo_folded(const uint8_t *trace, size_t trace_len, uint64_t depth, uint
 
 /* Writes a trace without the lines that say nothing, and into written[0] how many characters are left. Dropped is each
  * sync with no spawn directly in its invocation since that invocation's start or last sync, and each with only syncs
- * between it and its return; then adjacent cost lines merge from the left while the sum is at most 4,294,967,295. Two
- * costs with a site line between them are not adjacent. What is left is a trace that is accepted with the same limits;
- * its work, span, sites and rows are those of the trace, its lines and marks its own. Its digits have small letters, and
- * compacting it again leaves it as it is.
+ * between it and its return; then adjacent cost lines, each with its 07 line, merge from the left while both sums, of costs
+ * and of instructions, are at most 4,294,967,295; what is merged is written as a cost line and, where there are
+ * instructions, a 07 line. Two costs with a site line between them are not adjacent. What is left is a trace that is accepted
+ * with the same limits; its work, span, sites and rows are those of the trace, its lines and marks its own. Its digits have
+ * small letters, and compacting it again leaves it as it is.
  *   out      the result's own length; NYO_COMPACT_CHARS(trace_len) is always enough
  *   written  1
  * Refusals: those of nyo_tables, with 4 for written too short, then 21 with line 0 for output too short. */

@@ -90,6 +90,10 @@ def cost(value):
     return f"060000{value:08x}00000000\n"
 
 
+def carry(instructions):
+    return f"070000{instructions:08x}00000000\n"
+
+
 def sites(count):
     """So many site lines, no two with one place."""
     return "".join(site(number, number, 1, 1) for number in range(1, count + 1))
@@ -114,10 +118,12 @@ def events(words):
 
 
 # a row's numbers, in this order
-CALLS, WORK, SPAN, LOCAL, ON_SPAN = range(COLUMNS := 5)
+CALLS, WORK, SPAN, LOCAL, ON_SPAN, ILOCAL, ION_SPAN = range(COLUMNS := 7)
 
 
-def row(number, *numbers):
+def row(number, calls, work, span, local, on_span, ilocal=0, ion_span=0):
+    """A report line; without 07 lines the instructions are zero."""
+    numbers = (calls, work, span, local, on_span, ilocal, ion_span)
     return f"{number:04x}" + "".join(f"{n:016x}" for n in numbers) + "\n"
 
 
@@ -139,10 +145,11 @@ CASE_I = """\
 0600000000000200000000
 0500000000000000000000
 """
+# as the rules print it, and behind it in each line the two numbers of instructions, which are zero
 CASE_I_REPORT = """\
-00000000000000000001000000000000000a000000000000000900000000000000020000000000000002
-000100000000000000010000000000000008000000000000000700000000000000010000000000000000
-000200000000000000010000000000000007000000000000000700000000000000070000000000000007
+00000000000000000001000000000000000a00000000000000090000000000000002000000000000000200000000000000000000000000000000
+00010000000000000001000000000000000800000000000000070000000000000001000000000000000000000000000000000000000000000000
+00020000000000000001000000000000000700000000000000070000000000000007000000000000000700000000000000000000000000000000
 """
 PLACES = site(1, 10, 1, 5) + site(2, 20, 1, 9)
 
@@ -164,7 +171,7 @@ TWELVE = {
 
 
 def columns(report):
-    """The five numbers of each row; nothing where the text is no report."""
+    """The seven numbers of each row; nothing where the text is no report."""
     rows = []
     for line in str(report).splitlines():
         if not re.fullmatch(f"[0-9a-f]{{{4 + 16 * COLUMNS}}}", line):
@@ -180,6 +187,7 @@ def the_rules_traces():
         rows = columns(printed(trace.encode()))
         totals, column_5 = [[numbers[WORK], numbers[SPAN]] for numbers in rows[:1]], [numbers[ON_SPAN] for numbers in rows]
         expect(letter, (totals, column_5), ([[work, span]], on_span))
+        expect(f"{letter} has no instructions", [numbers[ILOCAL:] for numbers in rows], 3 * [[0, 0]])
         if letter == "I":
             expect("I's lines", trace, CASE_I)
         if letter == "K":
@@ -253,6 +261,34 @@ def the_sites_on_the_way():
     }
     for name, (trace, number, line) in refused.items():
         expect(name, printed(trace.encode()), refusal(number, line))
+
+
+def the_instructions():
+    """Kind 07 directly behind a cost, with D = 32 and M = 31."""
+    expect("behind a cost", printed((cost(5) + carry(9) + RETURN).encode()), row(0, 1, 5, 5, 5, 5, 9, 9))
+    # 4 beside 4, and the first is chosen, whatever the second carries; its digits are 3E8 and 3e8
+    tie = sites(1) + spawn(1) + cost(4) + carry(1) + RETURN + cost(4) + carry(1000) + RETURN
+    tied = row(0, 1, 8, 4, 4, 0, 1000, 0) + row(1, 1, 4, 4, 4, 4, 1, 1)
+    expect("the chain is chosen by cycles", printed(tie.encode()), tied)
+    expect("capital digits", printed(tie.upper().encode()), tied)
+    # 1,424 costs of 1 that carry the most there may be: 1,424 times 4,294,967,295
+    most = (1424 * (cost(1) + carry(0xFFFFFFFF)) + RETURN).encode()
+    whole = row(0, 1, 1424, 1424, 1424, 1424, 6116033428080, 6116033428080)
+    expect("65,527 bytes with instructions", (len(most), printed(most)), (65527, whole))
+    refused = {
+        "the first line": (carry(9) + RETURN, 22, 0),
+        "behind a site line": (sites(1) + carry(9) + RETURN, 22, 1),
+        "behind a sync": (cost(5) + SYNC + carry(9) + RETURN, 22, 2),
+        "behind a call": (sites(1) + call(1) + carry(9) + 2 * RETURN, 22, 2),
+        "behind a return": (sites(1) + call(1) + cost(5) + RETURN + carry(9) + RETURN, 22, 4),
+        "a second one": (cost(5) + carry(9) + carry(9) + RETURN, 22, 2),
+        "behind the root's return": (cost(5) + RETURN + carry(9), 7, 2),
+        "of 0": (cost(5) + carry(0) + RETURN, 6, 1),
+        "with a site": (cost(5) + "0700010000000900000000\n" + RETURN, 6, 1),
+        "no return behind it": (cost(5) + carry(9), 14, 2),
+    }
+    for name, (trace, number, line) in refused.items():
+        expect(f"07 {name}", printed(trace.encode()), refusal(number, line))
 
 
 # ---- the command
@@ -472,6 +508,7 @@ def main():
     the_examples()
     the_limits()
     the_sites_on_the_way()
+    the_instructions()
     the_command()
     the_card()
     the_terminal()

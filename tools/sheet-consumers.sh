@@ -22,10 +22,10 @@ have() {
 }
 
 # The largest numbers, which a program that keeps numbers as floats does not give back.
-printf 'row,calls,work,span,local,onspan\r\n0,18446744073709551615,18446744073709551614,9007199254740993,10,0\r\n' >"$out/largest.csv"
-for trace in case-i proxy; do "$out/sheet" write "examples/$trace.trace" >"$out/$trace.csv"; done
+printf 'row,calls,work,span,local,onspan,ilocal,ionspan\r\n0,18446744073709551615,18446744073709551614,9007199254740993,10,0,1,18446744073709551613\r\n' >"$out/largest.csv"
+for trace in case-i proxy instructions; do "$out/sheet" write "examples/$trace.trace" >"$out/$trace.csv"; done
 
-for name in case-i proxy largest; do
+for name in case-i proxy instructions largest; do
     csv=$out/$name.csv
     "$out/sheet" read 31 "$csv" >"$out/$name.report"
     tr -d '\r' <"$csv" >"$out/$name.plain"
@@ -62,7 +62,7 @@ PYTHON
     fi
 
     if have soffice "$name"; then
-        as_text=44,34,76,1,1/2/2/2/3/2/4/2/5/2/6/2 filter='Text - txt - csv (StarCalc)'
+        as_text=44,34,76,1,1/2/2/2/3/2/4/2/5/2/6/2/7/2/8/2 filter='Text - txt - csv (StarCalc)'
         HOME=$PWD/$out soffice --headless --infilter="$filter:$as_text" --convert-to "csv:$filter:44,34,76,1" \
             --outdir "$out/libreoffice" "$csv" >"$out/log" 2>&1
         "$out/sheet" read 31 "$out/libreoffice/$name.csv" >"$out/$name.again" || :

@@ -9,9 +9,8 @@ from typing import Any, Iterator, List, Optional, Sequence, Tuple
 from . import library
 from .errors import Refused
 from .library import COLUMNS, LINE_CHARS, MOST_DEPTH, MOST_SITES, ask, numbers, written
-from .model import Frame, Place, Profile, Row
+from .model import INSTRUCTIONS, SITE, Frame, Place, Profile, Row
 
-SITE_KIND = 1
 FOLDED_ROOM_REFUSAL = 18
 
 
@@ -69,7 +68,7 @@ def _rows(room: ctypes.Array[ctypes.c_uint64], count: int, where: Sequence[Optio
 
 def places(trace: bytes) -> List[Place]:
     """The places that the site lines of an accepted trace declare, site 1 first."""
-    frames = (line_at(trace, line) for line in lines_of_kind(trace, SITE_KIND))
+    frames = (line_at(trace, line) for line in lines_of_kind(trace, SITE))
     return [Place(frame.file, frame.value, frame.column) for frame in frames]
 
 
@@ -92,6 +91,11 @@ def kind_at(trace: bytes, line: int) -> int:
 def line_at(trace: bytes, line: int) -> Frame:
     """A line of an accepted trace, taken apart."""
     return read_line(trace[LINE_CHARS * line : LINE_CHARS * (line + 1)])
+
+
+def carried(trace: bytes, line: int) -> int:
+    """The instructions of a cost line of an accepted trace: what a 07 line directly behind it carries, otherwise 0."""
+    return line_at(trace, line + 1).value if kind_at(trace, line + 1) == INSTRUCTIONS else 0
 
 
 def compact(trace: bytes, *, depth: int = MOST_DEPTH, sites: int = MOST_SITES) -> bytes:

@@ -2,7 +2,7 @@
 
 from typing import Dict
 
-# What docs/CARD.md says of each refusal, without what it says of the report program's own limits.
+# What docs/CARD.md says of each refusal, without what it says of the report program's own limits and of the order of refusals.
 SENTENCES: Dict[int, str] = {
     1: "the depth limit is not 1 to 64, or the site limit not 0 to 255",
     2: "the length is not a multiple of 23",
@@ -18,12 +18,13 @@ SENTENCES: Dict[int, str] = {
     12: "more invocations open than the depth limit",
     14: "the lines end before the root's return",
     15: "of comma-separated text: the first record (the header is 0) that is not good or is missing",
-    16: "of comma-separated text: the output is shorter than the text, or the room below five numbers a row",
+    16: "of comma-separated text: the output is shorter than the text, or the room below seven numbers a row",
     17: "of folded stacks: the first row (the root is 0) whose shown name is bad or missing from both lists",
     18: "of folded stacks: the output is shorter than the text",
     19: "of a forecast: more than 16 entries, rows that are not strictly ascending, or a row that is not declared",
     20: "of a forecast: a factor that is not 2 to 1,000",
     21: "of a compacted trace: the output is shorter than the result",
+    22: "a line of kind 07, instructions, that is not directly behind a cost line",
 }
 
 # What to do about each: what the card says, but for limits, lists and sheets, which nyo and Python have their own way with.
@@ -34,7 +35,7 @@ REMEDIES: Dict[int, str] = {
     4: "lend what the limits ask for",
     5: "the line is damaged: look for spaces and other letters, and in line 0 for CR LF"
     " (it gives 5, and not 2, where the number of lines is a multiple of 23)",
-    6: "the collector is newer or broken; a cost is at least 1",
+    6: "the collector is newer or broken; a cost is at least 1, and so are its instructions",
     7: "two traces in one file?",
     8: "number the site lines 1, 2, 3 and on in the order in which they stand",
     9: "declare fewer sites, or set no limit: 255 is the largest",
@@ -49,6 +50,7 @@ REMEDIES: Dict[int, str] = {
     19: "name at most 16 rows, each once: 0 for the root, otherwise a declared site",
     20: "leave out the entry of a row that is to stay as it is",
     21: "lend more: as many characters as the trace has are always enough (`NYO_COMPACT_CHARS`)",
+    22: "the collector writes each 07 line directly behind its cost, one for a cost at most",
 }
 
 # What the second number of a refusal counts, where that is not lines of the trace.

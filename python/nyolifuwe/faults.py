@@ -11,8 +11,8 @@ from .library import LINE_CHARS
 from .model import Frame
 from .names import printable
 
-ACCEPTED, LENGTH, CHARACTER, TABLE, PLACE = 0, 2, 5, 6, 10
-OF_A_LINE = range(5, 13)
+ACCEPTED, LENGTH, CHARACTER, TABLE, PLACE, STRAY = 0, 2, 5, 6, 10, 22
+OF_A_LINE = (*range(5, 13), STRAY)
 OF_THE_SITE = (8, 9, 11)
 
 # Characters of a line that are shown: a line that is much too long is cut.
@@ -101,6 +101,8 @@ def wrong_part(chars: bytes, number: int) -> Optional[Part]:
         return field("site")
     if number == PLACE:
         return Part(ENDS["site"], ENDS["column"] - ENDS["site"], "place")
+    if number == STRAY:
+        return field("kind")._replace(note="no cost on the line before")
     return None
 
 

@@ -5,8 +5,7 @@ from __future__ import annotations
 from typing import Dict, Iterable, Iterator, List, NamedTuple, Tuple
 
 from . import api
-
-COST_KIND = 6
+from .model import COST
 
 
 class Box(NamedTuple):
@@ -35,9 +34,9 @@ class Node:
 
 
 def stacks(trace: bytes, marks: bytes, folded: bytes) -> Dict[str, Tuple[int, int]]:
-    """The cost of each stack of names and the part of it on the chosen chain; the folded text has a line a cost line."""
+    """The cycles of each stack of names and the part of it on the chosen chain; the folded text has a line a cost line."""
     added: Dict[str, Tuple[int, int]] = {}
-    for line, text in zip(api.lines_of_kind(trace, COST_KIND), folded.decode("ascii").splitlines()):
+    for line, text in zip(api.lines_of_kind(trace, COST), folded.decode("ascii").splitlines()):
         names, _, figures = text.rpartition(" ")
         cost, (all_of_it, chain) = int(figures), added.get(names, (0, 0))
         added[names] = all_of_it + cost, chain + cost * marks[line]

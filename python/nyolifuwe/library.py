@@ -83,7 +83,17 @@ def loaded() -> ctypes.CDLL:
             function.argtypes, function.restype = parameters, c_uint64
     except (OSError, AttributeError) as error:
         raise LibraryMissing(f"the library cannot be loaded: {error}") from error
+    if not has_columns(library):
+        raise LibraryMissing(f"the library cannot be used: {path()} is of another version, with other columns")
     return library
+
+
+def has_columns(library: ctypes.CDLL) -> bool:
+    """Whether a library's rows have the columns of this version, by the header of the comma-separated text that it writes."""
+    header = f"row,{','.join(column.replace('_', '') for column in COLUMNS)}\r\n".encode()
+    rows, out, count = numbers(rows_room(0)), ctypes.create_string_buffer(csv_room(0)), numbers(1)
+    given = library.nyo_csv_write(rows, len(rows), 0, out, len(out), count, 1)
+    return not given and out.raw.startswith(header)
 
 
 def within(number: int) -> int:
@@ -126,7 +136,7 @@ def in_range(limit: int, most: int) -> int:
 def scratch_room(engine: str, depth: int, sites: int) -> int:
     """Scratch numbers that an engine needs."""
     depth, sites = in_range(depth, MOST_DEPTH), in_range(sites, MOST_SITES)
-    return 8 * depth if engine == "marks" else 4 * depth * (sites + 3)
+    return 8 * depth if engine == "marks" else 7 * depth * (sites + 3)
 
 
 def rows_room(sites: int) -> int:

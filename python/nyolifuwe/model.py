@@ -9,6 +9,10 @@ if TYPE_CHECKING:
     import pandas
 
 
+# The kinds of trace lines.
+SITE, CALL, SPAWN, SYNC, RETURN, COST, INSTRUCTIONS = range(1, 8)
+
+
 class Place(NamedTuple):
     """Where a site stands in the source."""
 
@@ -28,7 +32,7 @@ class Frame(NamedTuple):
 
 
 class Row(NamedTuple):
-    """The numbers of the root (row 0, which has no place) or of a site, in the library's order."""
+    """The numbers of the root (row 0, which has no place) or of a site, in the library's order; the last two are instructions."""
 
     row: int
     place: Optional[Place]
@@ -37,6 +41,8 @@ class Row(NamedTuple):
     span: int
     local: int
     on_span: int
+    ilocal: int
+    ion_span: int
 
 
 @dataclass(frozen=True)
@@ -49,6 +55,11 @@ class Profile:
     lines: int
     rows: List[Row]
     marks: Optional[bytes]
+
+    @property
+    def has_instructions(self) -> bool:
+        """Whether the trace carries instructions beside cycles."""
+        return any(row.ilocal for row in self.rows)
 
     @property
     def parallelism(self) -> Optional[float]:

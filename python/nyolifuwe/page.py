@@ -4,14 +4,13 @@ from __future__ import annotations
 
 from html import escape
 from pathlib import Path
-from typing import Any, Iterator, List, NamedTuple, Sequence
+from typing import Any, Dict, Iterator, List, NamedTuple, Sequence
 
 from .flame import Box, widest
 from .gains import Gain, advice
-from .library import COLUMNS
-from .model import Profile
+from .model import Profile, Row
 from .names import Names, place_text
-from .show import counted, number, parallelism, percent, totals
+from .show import CYCLES, INSTRUCTIONS, PER_CYCLE, counted, number, parallelism, percent, ratio, totals
 
 MOST_BARS = 12
 MOST_BOXES = 3000
@@ -21,8 +20,8 @@ BOX_HEIGHT = 1.5  # rem, as page.css has it
 POLICY = "default-src 'none'; style-src 'unsafe-inline'; script-src 'unsafe-inline'"
 
 SAYS = (
-    "Every number on this page comes from the proved library; parallelism (work over span), percents and gains are"
-    " reckoned from its numbers, and the flame view adds up the costs of equal stacks."
+    "Every number on this page comes from the proved library; ratios (parallelism is work over span), percents and"
+    " gains are reckoned from its numbers, and the flame view adds up the costs of equal stacks."
 )
 
 FLAME_SAYS = (
@@ -82,14 +81,25 @@ def cells(profile: Profile, gain: Gain, names: Names) -> List[Cell]:
     """The cells of a row."""
     name, place = names.of(gain.row), place_text(gain.row.place)
     beside = f' <span class="place">{place}</span>' if place not in ("", name) else ""
-    numbers = [(column.replace("_", " "), getattr(gain.row, column)) for column in COLUMNS]
     return [
         Cell("site", name, escape(name) + beside),
-        *(Cell(heading, value, number(value)) for heading, value in numbers),
+        *number_cells(gain.row, CYCLES),
         Cell("of span", gain.row.on_span, percent(gain.row.on_span, profile.span)),
         Cell("if halved", gain.halved, number(gain.halved)),
         Cell("gain", gain.gain, percent(gain.gain, profile.span)),
+        *(instruction_cells(gain.row) if profile.has_instructions else []),
     ]
+
+
+def number_cells(row: Row, columns: Dict[str, str]) -> List[Cell]:
+    """The cells of some columns of a row, given with their headings."""
+    return [Cell(heading, getattr(row, column), number(getattr(row, column))) for column, heading in columns.items()]
+
+
+def instruction_cells(row: Row) -> List[Cell]:
+    """The cells of a row's instructions, and of how many there are a cycle of its own cost."""
+    per_cycle = row.ilocal / row.local if row.local else 0
+    return [*number_cells(row, INSTRUCTIONS), Cell(PER_CYCLE, per_cycle, ratio(row.ilocal, row.local))]
 
 
 def choices(headings: Sequence[str], idle: int) -> Iterator[str]:
@@ -105,7 +115,7 @@ def table(profile: Profile, ranked: Sequence[Gain], names: Names) -> Iterator[st
     """The rows as a table that can be sorted, largest gain first."""
     records = [(gain.row, cells(profile, gain, names)) for gain in ranked]
     headings = [cell.heading for cell in records[0][1]]
-    yield '<section id="rows"><h2>Every site</h2>'
+    yield f'<section id="rows"{" class=carrying" if profile.has_instructions else ""}><h2>Every site</h2>'
     yield from choices(headings, sum(not row.calls for row, _ in records))
     yield "<table><thead><tr>"
     for heading in headings:

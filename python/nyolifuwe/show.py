@@ -9,6 +9,7 @@ import os
 import sys
 from typing import Any, Dict, List, Optional, Sequence
 
+from .library import COLUMNS
 from .model import Profile, Row
 from .names import Names, place_text
 from .streams import emit
@@ -18,6 +19,11 @@ FORMATS = ("text", "json", "csv")
 # The columns that say which row or trace a record is of, and notes: these stand to the left, numbers to the right.
 SITE, PLACE, NOTE, TRACE = "site", "place", "note", "trace"
 LEFT = (SITE, PLACE, NOTE, TRACE)
+
+# The columns that count instructions and those that do not, each with its heading.
+INSTRUCTIONS = {"ilocal": "instructions", "ion_span": "instr on span"}
+CYCLES = {column: column.replace("_", " ") for column in COLUMNS if column not in INSTRUCTIONS}
+PER_CYCLE = "per cycle"
 
 PLAIN, BOLD, GREEN, YELLOW = "", "1", "32", "33"
 
@@ -37,9 +43,9 @@ def percent(part: int, whole: int) -> str:
     return f"{100 * part / whole:.1f}%" if whole else "-"
 
 
-def ratio(work: int, span: int) -> str:
-    """Work over span for people."""
-    return f"{work / span:,.2f}" if span else "-"
+def ratio(over: int, under: int) -> str:
+    """A number over another for people."""
+    return f"{over / under:,.2f}" if under else "-"
 
 
 def parallelism(profile: Profile) -> str:
@@ -79,6 +85,17 @@ def row_fields(row: Row, names: Names) -> Dict[str, Any]:
     """Which row it is, for a program."""
     file, line, column = row.place or (None, None, None)
     return {"row": row.row, "name": names.of(row), "file": file, "line": line, "column": column}
+
+
+def cycle_cells(numbers: Dict[str, int]) -> Dict[str, str]:
+    """The columns of a row or place that count calls and cycles, for people."""
+    return {heading: number(numbers[column]) for column, heading in CYCLES.items()}
+
+
+def instruction_cells(numbers: Dict[str, int], some: bool) -> Dict[str, str]:
+    """The columns that count instructions, and how many there are a cycle of the own cost, for people; none without some."""
+    cells = {heading: number(numbers[column]) for column, heading in INSTRUCTIONS.items()}
+    return {**cells, PER_CYCLE: ratio(numbers["ilocal"], numbers["local"])} if some else {}
 
 
 def coloured() -> bool:

@@ -1,8 +1,9 @@
 #!/usr/bin/env python3
-"""make_night.py FOLDER COUNT [--seed N] [--most LINES] [--damaged PERCENT]: writes generated traces, some of them damaged.
+"""make_night.py FOLDER COUNT [--seed N] [--most LINES] [--damaged PERCENT] [--carrying PERCENT]: writes generated traces.
 
-Sizes are mixed, from a few lines up to the most; every trace declares other sites of one pool of places, in another order,
-so the same place has other numbers in other traces. The same words give the same files.
+Some are damaged, and some carry instructions where that is asked for. Sizes are mixed, from a few lines up to the most; every
+trace declares other sites of one pool of places, in another order, so the same place has other numbers in other traces. The
+same words give the same files.
 """
 
 from __future__ import annotations
@@ -29,6 +30,11 @@ def site(number: int, place: Place) -> bytes:
 def cost(value: int) -> bytes:
     """A cost line."""
     return b"060000%08x00000000\n" % value
+
+
+def instructions(value: int) -> bytes:
+    """The line behind a cost that carries its instructions."""
+    return b"070000%08x00000000\n" % value
 
 
 def made(kind: int, number: int) -> bytes:
@@ -67,6 +73,16 @@ def trace(random: Random, most: int) -> Tuple[List[bytes], List[bytes]]:
     weights = [20] + [5 + 17 * kind * kind % 901 for kind, _ in places]
     sites = [site(number, place) for number, (_, place) in enumerate(places, 1)]
     return sites, body(random, weights, lines - len(sites))
+
+
+def with_instructions(random: Random, rest: List[bytes]) -> List[bytes]:
+    """Lines with instructions behind four costs in five, from none to four a cycle."""
+    text: List[bytes] = []
+    for line in rest:
+        text.append(line)
+        if line.startswith(b"06") and random.random() < 0.8:
+            text.append(instructions(1 + int(random.random() * 4 * int(line[6:14], 16))))
+    return text
 
 
 def cut_in_a_line(random: Random, sites: List[bytes], rest: List[bytes]) -> bytes:
@@ -129,6 +145,11 @@ def cut_at_a_line(random: Random, sites: List[bytes], rest: List[bytes]) -> byte
     return b"".join((sites + rest)[: -random.randint(1, len(rest))])
 
 
+def astray(random: Random, sites: List[bytes], rest: List[bytes]) -> bytes:
+    """Instructions that no cost stands before."""
+    return b"".join(sites + [SYNC, instructions(1)] + rest)
+
+
 # By number the damage that is refused with it.
 DAMAGES: Dict[int, Callable[[Random, List[bytes], List[bytes]], bytes]] = {
     2: cut_in_a_line,
@@ -142,19 +163,32 @@ DAMAGES: Dict[int, Callable[[Random, List[bytes], List[bytes]], bytes]] = {
     11: undeclared,
     12: too_deep,
     14: cut_at_a_line,
+    22: astray,
 }
+OF_INSTRUCTIONS = 22  # a damage that only a trace with instructions has
 
 
-def make(folder: Path, count: int, *, seed: int = 1, most: int = 20000, damaged: int = 2) -> Dict[Path, int]:
+def falls(at: int, percent: int) -> bool:
+    """Whether one of so many in a hundred falls on this one."""
+    return at * percent // 100 != (at + 1) * percent // 100
+
+
+def make(
+    folder: Path, count: int, *, seed: int = 1, most: int = 20000, damaged: int = 2, carrying: int = 0
+) -> Dict[Path, int]:
     """Writes the traces, and answers each file's verdict: 0, or the number that its damage is refused with."""
     random, verdicts = Random(seed), {}
     for at in range(count):
-        lines = trace(random, most)
-        hurt = at * damaged // 100 != (at + 1) * damaged // 100
-        number = random.choice(list(DAMAGES)) if hurt else 0
+        sites, rest = trace(random, most)
+        numbers = list(DAMAGES)
+        if falls(at, carrying):
+            rest = with_instructions(random, rest)
+        else:
+            numbers.remove(OF_INSTRUCTIONS)
+        number = random.choice(numbers) if falls(at, damaged) else 0
         file = folder / f"{at // FILES_A_FOLDER:03}" / f"{at:05}.trace"
         file.parent.mkdir(parents=True, exist_ok=True)
-        file.write_bytes(DAMAGES[number](random, *lines) if number else b"".join(lines[0] + lines[1]))
+        file.write_bytes(DAMAGES[number](random, sites, rest) if number else b"".join(sites + rest))
         verdicts[file] = number
     return verdicts
 
@@ -167,8 +201,16 @@ def main() -> None:
     parser.add_argument("--seed", type=int, default=1)
     parser.add_argument("--most", type=int, default=20000, metavar="LINES", help="largest size (default: 20000)")
     parser.add_argument("--damaged", type=int, default=2, metavar="PERCENT", help="how many are damaged (default: 2)")
+    parser.add_argument("--carrying", type=int, default=0, metavar="PERCENT", help="how many carry instructions (default: 0)")
     words = parser.parse_args()
-    verdicts = make(words.folder, words.count, seed=words.seed, most=words.most, damaged=words.damaged)
+    verdicts = make(
+        words.folder,
+        words.count,
+        seed=words.seed,
+        most=words.most,
+        damaged=words.damaged,
+        carrying=words.carrying,
+    )
     print(f"{len(verdicts)} traces, {sum(map(bool, verdicts.values()))} of them damaged")
 
 

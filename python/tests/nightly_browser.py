@@ -72,6 +72,20 @@ class Page(unittest.TestCase):
             self.assertGreaterEqual(self.shown.run(smallest), 13)
             self.shown.picture(PICTURES / f"{screen}.png")
 
+    def test_instructions(self) -> None:
+        """With three more columns and large numbers the page still does not go sideways; its pictures are taken."""
+        lines = example("proxy.trace").splitlines(True)
+        carrying = [line + make_night.instructions(1000 * int(line[6:14], 16)) if line[:2] == b"06" else line for line in lines]
+        file = Path(self.folder.name) / "carrying.trace"
+        file.write_bytes(b"".join(carrying))
+        for screen in SCREENS:
+            self.open(screen, file, *NAMED)
+            self.assertLessEqual(self.shown.run("document.scrollingElement.scrollWidth - innerWidth"), 0, screen)
+            if screen != "tablet":  # there the table is moved sideways by itself
+                self.assertEqual(self.shown.run(BEYOND), [], screen)
+            self.assertIn("15,000,000", self.shown.run("document.querySelector('#rows tr[data-row=\"6\"]').textContent"))
+            self.shown.picture(PICTURES / f"carrying-{screen}.png")
+
     def test_numbers(self) -> None:
         """The numbers that are shown are the library's."""
         profile = nyolifuwe.profile(example("proxy.trace"))
@@ -81,7 +95,7 @@ class Page(unittest.TestCase):
                 cells = self.shown.run(
                     f"[...document.querySelector('#rows tr[data-row=\"{row.row}\"]').cells].map(one => one.textContent)"
                 )
-                self.assertEqual(cells[1:6], [f"{number:,}" for number in row[2:]])
+                self.assertEqual(cells[1:6], [f"{number:,}" for number in row[2:7]])
 
     def test_sorts(self) -> None:
         """A heading sorts, largest first, and the other way when it is pressed again; names begin with the first."""

@@ -107,17 +107,24 @@ def event(word: str) -> str:
     kind, _, number = word.rpartition(" ")
     if number in ("}", "sync"):
         return RETURN if number == "}" else SYNC
-    return line({"call": 2, "spawn": 3}[kind], int(number)) if kind else line(6, 0, int(number))
+    if kind in ("call", "spawn"):
+        return line({"call": 2, "spawn": 3}[kind], int(number))
+    return line(7 if kind else 6, 0, int(number))
 
 
 def events(words: str) -> str:
-    """'call 1 {spawn 2 {7}, 1}, 2' as lines: braces hold a body, a bare number is a cost."""
-    return "".join(event(word) for word in re.findall(r"call \d+|spawn \d+|sync|\d+|\}", words))
+    """'call 1 {spawn 2 {7}, 1}, 2, carry 9' as lines: braces hold a body, a bare number is a cost, carry is a 07 line."""
+    return "".join(event(word) for word in re.findall(r"(?:call |spawn |carry )?\d+|sync|\}", words))
 
 
 def trace(words: str, count: int = 2) -> bytes:
     """A whole trace of so many sites."""
     return (sites(count) + events(words) + RETURN).encode()
+
+
+# Case H of the rules with instructions behind three of its costs. On the chosen chain are 1, 2 and 9: lines 2, 8 and 10.
+# Instructions of rows 0, 1 and 2: local 4, 3 and 20, on span 4, 0 and 20.
+CARRYING = "1, carry 4, spawn 1 {10, carry 3}, 2, spawn 2 {9, carry 20}, 1"
 
 
 def accepted_examples() -> Sequence[str]:

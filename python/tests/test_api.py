@@ -13,8 +13,9 @@ from unittest import mock
 import nyolifuwe
 from nyolifuwe import Frame, LibraryMissing, Place, Refused, Row, api, library
 from nyolifuwe.errors import REMEDIES, SENTENCES
+from nyolifuwe.model import COST
 
-from .support import EXAMPLES, RETURN, TOP, accepted_examples, event, example, line, sites, trace
+from .support import CARRYING, EXAMPLES, RETURN, TOP, accepted_examples, event, events, example, line, sites, trace
 
 HEADER = (TOP / "include" / "nyolifuwe.h").read_text()
 CARD = (TOP / "docs" / "CARD.md").read_text()
@@ -37,9 +38,9 @@ TWELVE: Dict[str, Tuple[str, int, int, List[int]]] = {
 }
 
 CASE_I_ROWS = [
-    Row(0, None, 1, 10, 9, 2, 2),
-    Row(1, Place(1, 10, 5), 1, 8, 7, 1, 0),
-    Row(2, Place(1, 20, 9), 1, 7, 7, 7, 7),
+    Row(0, None, 1, 10, 9, 2, 2, 0, 0),
+    Row(1, Place(1, 10, 5), 1, 8, 7, 1, 0, 0, 0),
+    Row(2, Place(1, 20, 9), 1, 7, 7, 7, 7, 0, 0),
 ]
 
 
@@ -59,7 +60,22 @@ class TheProfile(unittest.TestCase):
                 with self.subTest(letter, engine=engine):
                     found = nyolifuwe.profile(trace(words), depth=4, sites=2, engine=engine)
                     self.assertEqual((found.work, found.span, [row.on_span for row in found.rows]), (work, span, on_span))
-        self.assertEqual(nyolifuwe.profile(trace(TWELVE["K"][0])).rows[1][2:], (2, 3, 3, 3, 3))
+        self.assertEqual(nyolifuwe.profile(trace(TWELVE["K"][0])).rows[1][2:], (2, 3, 3, 3, 3, 0, 0))
+
+    def test_instructions_beside_cycles(self) -> None:
+        for engine in library.ENGINES:
+            found = nyolifuwe.profile(trace(CARRYING), engine=engine)
+            self.assertEqual((found.work, found.span, found.sites, found.lines), (23, 12, 2, 15))
+            rows = [(1, 23, 12, 4, 3, 4, 4), (1, 10, 10, 10, 0, 3, 0), (1, 9, 9, 9, 9, 20, 20)]
+            self.assertEqual([row[2:] for row in found.rows], rows)
+            self.assertTrue(found.has_instructions)
+        self.assertEqual(nyolifuwe.profile(trace(CARRYING)).marks, bytes([0, 0, 1, 0, 0, 0, 0, 0, 1, 0, 1, 0, 0, 0, 0]))
+
+    def test_without_instructions_the_rest_is_as_it_was(self) -> None:
+        plain, carrying = (nyolifuwe.profile(trace(words)) for words in (re.sub(", carry \\d+", "", CARRYING), CARRYING))
+        self.assertEqual([row[2:7] for row in plain.rows], [row[2:7] for row in carrying.rows])
+        self.assertEqual([row[7:] for row in plain.rows], 3 * [(0, 0)])
+        self.assertFalse(plain.has_instructions)
 
     def test_no_cost_has_no_parallelism(self) -> None:
         self.assertIsNone(nyolifuwe.profile(RETURN.encode()).parallelism)
@@ -71,6 +87,11 @@ class TheProfile(unittest.TestCase):
                 self.assertEqual((tables.rows, tables.marks), (marks.rows, None))
                 self.assertEqual(sum(row.local for row in marks.rows), marks.work)
                 self.assertEqual(sum(row.on_span for row in marks.rows), marks.span)
+                costs = list(api.lines_of_kind(example(name), COST))
+                carried = {line: api.carried(example(name), line) for line in costs}
+                self.assertEqual(sum(row.ilocal for row in marks.rows), sum(carried.values()))
+                on_chain = sum(carried[line] for line in costs if (marks.marks or b"")[line])
+                self.assertEqual(sum(row.ion_span for row in marks.rows), on_chain)
 
     def test_places_wherever_the_site_lines_stand(self) -> None:
         on_the_way = event("4") + line(1, 1, 10, 1, 5) + event("call 1") + line(1, 2, 20, 2, 9) + 2 * RETURN
@@ -82,9 +103,9 @@ class TheProfile(unittest.TestCase):
     @unittest.skipUnless(importlib.util.find_spec("pandas"), "no pandas here")
     def test_the_frame(self) -> None:
         frame = nyolifuwe.profile(example("case-i.trace")).frame()
-        self.assertEqual(list(frame.columns), ["file", "line", "column", "calls", "work", "span", "local", "on_span"])
+        self.assertEqual(list(frame.columns), ["file", "line", "column", *library.COLUMNS])
         self.assertEqual(list(frame.on_span), [2, 0, 7])
-        self.assertEqual(list(frame.loc[2]), [1, 20, 9, 1, 7, 7, 7, 7])
+        self.assertEqual(list(frame.loc[2]), [1, 20, 9, 1, 7, 7, 7, 7, 0, 0])
 
 
 class TheForecast(unittest.TestCase):
@@ -93,7 +114,12 @@ class TheForecast(unittest.TestCase):
     def test_case_i_with_site_2_halved(self) -> None:
         found = nyolifuwe.forecast(example("case-i.trace"), [(2, 2)])  # 7 becomes 4: docs/FORECAST.md
         self.assertEqual((found.work, found.span), (7, 6))
-        self.assertEqual([row[2:] for row in found.rows], [(1, 7, 6, 2, 2), (1, 5, 4, 1, 0), (1, 4, 4, 4, 4)])
+        self.assertEqual([row[2:7] for row in found.rows], [(1, 7, 6, 2, 2), (1, 5, 4, 1, 0), (1, 4, 4, 4, 4)])
+
+    def test_instructions_stay_as_they_are(self) -> None:
+        found = nyolifuwe.forecast(trace(CARRYING), [(2, 2)])  # 9 becomes 5, and 1, 10 the chain
+        self.assertEqual((found.work, found.span), (19, 11))
+        self.assertEqual([(row.ilocal, row.ion_span) for row in found.rows], [(4, 4), (3, 3), (20, 0)])
 
     def test_an_empty_list_is_the_plain_profile(self) -> None:
         for engine in library.ENGINES:
@@ -136,7 +162,7 @@ class TheTexts(unittest.TestCase):
         self.assertEqual(nyolifuwe.read_csv(nyolifuwe.write_csv(widest)), widest)
 
     def test_rows_that_cannot_be_written(self) -> None:
-        for rows in ([], CASE_I_ROWS[1:], [CASE_I_ROWS[0], CASE_I_ROWS[2]], [Row(0, None, 2**64, 0, 0, 0, 0)]):
+        for rows in ([], CASE_I_ROWS[1:], [CASE_I_ROWS[0], CASE_I_ROWS[2]], [Row(0, None, 2**64, *6 * [0])]):
             self.assertRaises(ValueError, nyolifuwe.report, rows)
             self.assertRaises(ValueError, nyolifuwe.write_csv, rows)
 
@@ -154,10 +180,22 @@ class TheTexts(unittest.TestCase):
         self.assertEqual(nyolifuwe.compact(example("wordy-compact.trace")), example("wordy-compact.trace"))
         self.assertEqual(nyolifuwe.compact(example("proxy.trace")), example("proxy.trace"))
 
+    def test_compacted_instructions(self) -> None:
+        most = 2**32 - 1
+        for words, wanted in (
+            ("5, carry 3, 4, carry 6", "9, carry 9"),
+            ("5, carry 3, sync, 4", "9, carry 3"),
+            ("5, 4, carry 6", "9, carry 6"),
+            (f"5, carry {most}, 4, carry 1, 1", f"5, carry {most}, 5, carry 1"),
+            (f"{most}, carry 2, 1, carry 2", f"{most}, carry 2, 1, carry 2"),
+        ):
+            self.assertEqual(nyolifuwe.compact(trace(words)), trace(wanted), words)
+
     def test_a_line_both_ways(self) -> None:
         frame = Frame(kind=1, site=1, value=10, file=1, column=5)
         self.assertEqual(nyolifuwe.read_line(b"0100010000000a00010005\n"), frame)
         self.assertEqual(nyolifuwe.write_line(frame), b"0100010000000a00010005\n")
+        self.assertEqual(nyolifuwe.read_line(b"0700000000001400000000\n"), Frame(7, 0, 20, 0, 0))
 
 
 def lent(name: str, *slices: Any) -> Callable[[], None]:
@@ -177,14 +215,15 @@ NUMBERS = library.numbers
 REFUSALS: List[Tuple[int, int, Callable[[], Any]]] = [
     *[(1, 0, of_profile(RETURN, depth=depth)) for depth in (0, 65, -1, 2**64 + 1)],
     *[(1, 0, of_profile(RETURN, sites=most)) for most in (256, -1, 2**64)],
-    (1, 0, lambda: nyolifuwe.report([Row(row, None, 0, 0, 0, 0, 0) for row in range(257)])),
+    (1, 0, lambda: nyolifuwe.report([Row(row, None, *7 * [0]) for row in range(257)])),
     (1, 0, lambda: nyolifuwe.refusal_line(256, 0)),
     (1, 0, lambda: nyolifuwe.refusal_line(0, 2**32)),
     (2, 0, lambda: nyolifuwe.profile(example("refusal-02.trace"))),
     (2, 0, lambda: nyolifuwe.read_line(b"")),
     (3, 0, of_profile(65536 * line(6, 0, 1) + RETURN)),
-    (4, 0, lent("nyo_marks", CASE_I, 4, 2, NUMBERS(31), create_string_buffer(10), NUMBERS(15), NUMBERS(4))),
-    (4, 0, lent("nyo_tables", CASE_I, 4, 2, NUMBERS(79), NUMBERS(15), NUMBERS(4))),
+    (4, 0, lent("nyo_marks", CASE_I, 4, 2, NUMBERS(31), create_string_buffer(10), NUMBERS(21), NUMBERS(4))),
+    (4, 0, lent("nyo_tables", CASE_I, 4, 2, NUMBERS(139), NUMBERS(21), NUMBERS(4))),
+    (4, 0, lent("nyo_tables", CASE_I, 4, 2, NUMBERS(140), NUMBERS(20), NUMBERS(4))),
     (5, 2, lambda: nyolifuwe.profile(example("refusal-05.trace"))),
     (6, 4, lambda: nyolifuwe.profile(example("refusal-06.trace"))),
     (6, 0, lambda: nyolifuwe.write_line(Frame(6, 0, 2**64 + 1, 0, 0))),
@@ -200,7 +239,7 @@ REFUSALS: List[Tuple[int, int, Callable[[], Any]]] = [
     (14, 0, of_profile("")),
     (15, 0, lambda: nyolifuwe.read_csv(example("refusal-15-line-ends.csv"))),
     (15, 1, lambda: nyolifuwe.read_csv(example("refusal-15-number.csv"))),
-    (16, 0, lent("nyo_csv_read", example("case-i.csv"), NUMBERS(14), NUMBERS(1))),
+    (16, 0, lent("nyo_csv_read", example("case-i.csv"), NUMBERS(20), NUMBERS(1))),
     (17, 0, lambda: nyolifuwe.folded(PROXY, example("refusal-17-line-ends.names"), example("stock.names"))),
     (17, 4, lambda: nyolifuwe.folded(PROXY, example("refusal-17-space.names"), example("stock.names"))),
     (18, 0, lent("nyo_folded", CASE_I, 4, 2, b"r\na\nb", b"", NUMBERS(4), create_string_buffer(14), NUMBERS(1))),
@@ -210,6 +249,12 @@ REFUSALS: List[Tuple[int, int, Callable[[], Any]]] = [
     (20, 0, lambda: nyolifuwe.forecast(PROXY, [(6, 1)])),
     (20, 0, lambda: nyolifuwe.forecast(PROXY, [(6, 2**64 + 2)])),
     (21, 0, lent("nyo_compact", example("wordy.trace"), 4, 2, create_string_buffer(413), NUMBERS(1))),
+    (22, 0, of_profile(event("carry 5") + RETURN)),
+    (22, 2, of_profile(events("5, carry 3, carry 4") + RETURN)),
+    (22, 2, of_profile(events("5, sync, carry 3") + RETURN)),
+    (22, 3, of_profile(events("5, carry 3") + line(1, 1, 1, 1, 1) + event("carry 4") + RETURN)),
+    (7, 2, of_profile(event("5") + RETURN + event("carry 3"))),
+    (6, 1, of_profile(event("5") + event("carry 0") + RETURN)),
 ]
 
 
@@ -228,8 +273,8 @@ class TheRefusals(unittest.TestCase):
 
     def test_the_sentences_are_the_cards(self) -> None:
         card = dict(re.findall(r"^\| (\d+) \| [^|]*\| ([^|]+) \|", CARD, re.M))
-        own_limits = r"[,;] (which is \d+ )?for the report program.*"
-        self.assertEqual({int(number): re.sub(own_limits, "", says) for number, says in card.items()}, SENTENCES)
+        left_out = r"[,;] (which is \d+ )?for the report program.*|; in a line it is asked for.*"
+        self.assertEqual({int(number): re.sub(left_out, "", says) for number, says in card.items()}, SENTENCES)
 
     def test_what_to_do_is_the_cards(self) -> None:
         card = dict(re.findall(r"^\| (\d+) \| [^|]*\| [^|]+ \| ([^|]+) \|", CARD, re.M))
@@ -272,6 +317,12 @@ class TheHeader(unittest.TestCase):
             "ANSWER": library.ANSWER_NUMBERS,
         }
         self.assertEqual(own, {name: defined[name] for name in own})
+
+    def test_a_library_of_other_columns(self) -> None:
+        library.loaded.cache_clear()
+        self.addCleanup(library.loaded.cache_clear)
+        with mock.patch.object(library, "COLUMNS", library.COLUMNS[:5]):
+            self.assertRaisesRegex(LibraryMissing, "another version", nyolifuwe.profile, CASE_I)
 
     def test_a_library_that_is_not_there(self) -> None:
         library.loaded.cache_clear()

@@ -25,6 +25,7 @@ from .support import (
     program,
     read_back,
     sites,
+    trace,
     what_to_do,
 )
 
@@ -74,6 +75,8 @@ FIELDS = {
     line(2, 1, 0, 1): "file",
     line(1, 1, 1, 0, 1): "file",
     line(6, 0, 1, 0, 1): "column",
+    line(7): "value",
+    line(7, 1, 1): "site",
     line(1, 1, 1, 1, 0): "column",
 }
 
@@ -97,6 +100,12 @@ class Text(unittest.TestCase):
     def test_depth(self) -> None:
         said = f"examples/refusal-12.trace: refusal 12, line 32: {SENTENCES[12]}\n  line 32: {line(2, 1)}{what_to_do(12)}"
         self.assertEqual(nyo("check", "--depth", "32", "examples/refusal-12.trace"), Outcome(REFUSED, said, ""))
+
+    def test_instructions_without_a_cost(self) -> None:
+        for words, at, text in (("carry 5", 0, line(7, 0, 5)), ("1, carry 5, carry 7", 2, line(7, 0, 7))):
+            shown = f"  line {at}: {text}          ^^ no cost on the line before\n"
+            said = f"-: refusal 22, line {at}: {SENTENCES[22]}\n{shown}{what_to_do(22)}"
+            self.assertEqual(nyo("check", "-", stdin=trace(words, 0)), Outcome(REFUSED, said, ""))
 
     def test_refusals_without_a_line(self) -> None:
         for words, stdin, number in (

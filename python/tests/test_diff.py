@@ -15,7 +15,7 @@ from nyolifuwe import judge, store
 from nyolifuwe.errors import SENTENCES
 
 from . import make_night
-from .support import FAILED, GOOD, REFUSED, USAGE, Outcome, event, nyo, trace, what_to_do
+from .support import CARRYING, FAILED, GOOD, REFUSED, USAGE, Outcome, event, nyo, trace, what_to_do
 
 OVER = 4
 
@@ -36,6 +36,14 @@ site   old  new  grown  of old span
 1:1:1    4    4      0        +0.0%
 1:2:1    0    0      0        +0.0%
 root     4    0     -4       -50.0%
+"""
+
+# Site 2's 9 is now 11, with as many instructions.
+WITH_INSTRUCTIONS = """\
+span 12 -> 14 (+16.7%), work 23 -> 25, parallelism 1.92 -> 1.79
+
+site   old  new  grown  of old span  instr old  instr new
+1:2:1    9   11     +2       +16.7%         20         20
 """
 
 # Cases E, E against C, C, E: spans 8, 8 and 4, 4, 8; on the span 4 and 4 each, and 0, 0, 4 and 4, 4, 4.
@@ -95,6 +103,13 @@ class Traces(InAFolder):
         self.assertEqual(self.diff(E, E), (GOOD, same, ""))
         self.assertIn("not shown: 2 places beyond -n\n", self.diff(E, C, "--all", "-n", "1").out)
 
+    def test_instructions(self) -> None:
+        """Where there are instructions, those on the span before and after stand beside the cycles."""
+        slower = trace(CARRYING.replace("9", "11"))
+        self.assertEqual(self.diff(trace(CARRYING), slower), (GOOD, WITH_INSTRUCTIONS, ""))
+        place = json.loads(self.diff(trace(CARRYING), slower, "--format", "json").out)["places"][0]
+        self.assertEqual((place["instructions_old"], place["instructions_new"]), (20, 20))
+
     def test_limit(self) -> None:
         """More than is allowed is status 4; as much as is allowed is not; what shrank never is."""
         said = "nyo: over the limit: the span grew by more than 99.99%\n"
@@ -129,10 +144,11 @@ class Traces(InAFolder):
     def test_formats(self) -> None:
         """JSON and comma-separated text, also where there is nothing to tell."""
         place = {"file": None, "line": None, "column": None, "old": 0, "new": 4, "grown": 4, "grown_percent": 100.0}
+        place.update(instructions_old=0, instructions_new=0)
         whole = {"old": {"work": 8, "span": 4}, "new": {"work": 8, "span": 8}, "places": [place]}
         self.assertEqual(json.loads(self.diff(C, E, "--format", "json").out), whole)
         records: List[List[str]] = list(csv.reader(io.StringIO(self.diff(C, E, "--format", "csv").out)))
-        self.assertEqual(records, [list(place), ["", "", "", "0", "4", "4", "100.0"]])
+        self.assertEqual(records, [list(place), ["", "", "", "0", "4", "4", "100.0", "0", "0"]])
         self.assertEqual(self.diff(C, C, "--format", "csv").out, ",".join(place) + "\r\n")
         self.assertEqual(json.loads(self.diff(C, C, "--format", "json").out)["places"], [])
 
@@ -166,6 +182,12 @@ class Nights(InAFolder):
         whole = json.loads(nyo("diff", old, new, "--format", "json").out)
         self.assertEqual(whole["new"], {"traces": 3, "work": 8.0, "span": 5.333})
         self.assertEqual(whole["places"][0]["grown"], -2.667)
+
+    def test_instructions(self) -> None:
+        """The means of instructions stand beside those of cycles: 20 of one trace in two."""
+        old, new = self.night("old.db", [E, E]), self.night("new.db", [trace(CARRYING), E])
+        lines = [line.split() for line in nyo("diff", old, new).out.splitlines()[2:]]
+        self.assertEqual(lines[1], ["1:2:1", "0.0", "4.5", "+4.5", "+56.2%", "0.0", "10.0"])
 
     def test_ends(self) -> None:
         """A night and a trace cannot be compared; a database of something else is none; an empty night is one."""

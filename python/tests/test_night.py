@@ -24,7 +24,7 @@ from nyolifuwe import judge, library, progress, store
 from nyolifuwe.model import Place
 
 from . import make_night
-from .support import EXAMPLES, FAILED, GOOD, REFUSED, USAGE, Outcome, example, nyo, program
+from .support import CARRYING, EXAMPLES, FAILED, GOOD, REFUSED, USAGE, Outcome, example, nyo, program, trace
 
 # The places of proxy.trace and case-i.trace with their numbers in examples/README.md, on span falling, then local.
 SMALL_NIGHT = """\
@@ -141,7 +141,7 @@ class Answers(InAFolder):
             [whole[key] for key in ("traces", "accepted", "refused", "lines", "work", "span")], [3, 2, 1, 95, 36150, 11444]
         )
         first = {"file": 2, "line": 44, "column": 13, "traces": 1, "calls": 4, "work": 15000, "span": 15000, "local": 15000}
-        self.assertEqual(whole["places"][0], {**first, "on_span": 5100, "on_span_percent": 44.565})
+        self.assertEqual(whole["places"][0], {**first, "on_span": 5100, "ilocal": 0, "ion_span": 0, "on_span_percent": 44.565})
         self.assertEqual([(one["number"], one["line"], one["traces"]) for one in whole["refusals"]], [(5, 2, 1)])
         self.assertEqual(
             [(one["span"], Path(one["path"]).name) for one in whole["worst"]], [(11435, "proxy.trace"), (9, "case-i.trace")]
@@ -150,9 +150,20 @@ class Answers(InAFolder):
         self.assertEqual(len(records), 11)
         self.assertEqual([records[5][name] for name in ("file", "traces", "local", "on_span")], ["", "2", "242", "227"])
 
+    def test_instructions(self) -> None:
+        """Where a trace of the night carries instructions, their sums stand behind the other columns."""
+        self.put("a.trace", trace(CARRYING))
+        self.put("b.trace", trace("spawn 1 {4}, 4"))
+        table = self.night().out.splitlines()[3:7]
+        self.assertEqual(table[0].split()[-6:], ["instructions", "instr", "on", "span", "per", "cycle"])
+        numbers = {line.split()[0]: line.split()[-3:] for line in table[1:]}
+        self.assertEqual(numbers, {"1:2:1": ["20", "20", "2.22"], "1:1:1": ["3", "0", "0.21"], "root": ["4", "4", "0.50"]})
+        sums = query(self.db, "SELECT row, sum(ilocal), sum(ion_span) FROM rows GROUP BY row")
+        self.assertEqual(sums, [(0, 4, 4), (1, 3, 0), (2, 20, 20)])
+
     def test_generated(self) -> None:
         """Of generated traces the database has what the library says, and each damage its number."""
-        verdicts = make_night.make(self.folder, 120, seed=7, most=400, damaged=30)
+        verdicts = make_night.make(self.folder, 120, seed=7, most=400, damaged=30, carrying=50)
         self.assertEqual(self.night("--workers", "2").status, REFUSED)
         self.assertEqual(read_back(self.db), stored(self.folder))
         numbers = dict(query(self.db, "SELECT path, verdict FROM traces"))

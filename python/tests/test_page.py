@@ -13,7 +13,7 @@ from unittest import mock
 import nyolifuwe
 from nyolifuwe import flame, page
 
-from .support import EXAMPLES, FAILED, GOOD, NAMED, REFUSED, USAGE, accepted_examples, example, nyo, program, trace
+from .support import CARRYING, EXAMPLES, FAILED, GOOD, NAMED, REFUSED, USAGE, accepted_examples, example, nyo, program, trace
 
 Attributes = Dict[str, Optional[str]]
 
@@ -126,12 +126,21 @@ class Page(unittest.TestCase):
             read, profile = made(f"examples/{name}"), nyolifuwe.profile(example(name))
             for key in ("work", "span", "lines", "sites"):
                 self.assertEqual(read.value_of(key), str(getattr(profile, key)), name)
-            numbers = {row.row: [str(number) for number in row[2:]] for row in profile.rows}
-            self.assertEqual({row: [cell[0] for cell in cells[1:6]] for row, cells in read.table().items()}, numbers, name)
+            last = 9 if profile.has_instructions else 7
+            numbers = {row.row: [str(number) for number in row[2:9]][: last - 2] for row in profile.rows}
+            found = {row: [cell[0] for cell in (*cells[1:6], *cells[9:11])] for row, cells in read.table().items()}
+            self.assertEqual(found, numbers, name)
             top = [box for box in read.boxes() if not box.depth]
             self.assertEqual(
                 [(box.cost, box.chain) for box in top], [(profile.work, profile.span)] if profile.work else [], name
             )
+
+    def test_instructions(self) -> None:
+        """Where a trace carries instructions, they and how many a cycle stand behind the other columns."""
+        read = Read(nyo("page", "-", "-o", "-", stdin=trace(CARRYING)).out)
+        texts = {row: [text for _, text in cells[9:]] for row, cells in read.table().items()}
+        self.assertEqual(texts, {0: ["4", "4", "1.00"], 1: ["3", "0", "0.30"], 2: ["20", "20", "2.22"]})
+        self.assertEqual({len(cells) for cells in made("examples/proxy.trace").table().values()}, {9})
 
     def test_no_cost(self) -> None:
         """A trace without costs has a page: nothing is divided by its span of 0."""

@@ -9,12 +9,14 @@ import unittest
 from nyolifuwe import read_csv
 from nyolifuwe.errors import SENTENCES
 
-from .support import GOOD, NAMED, REFUSED, Outcome, example, nyo, what_to_do
+from .support import CARRYING, GOOD, NAMED, REFUSED, Outcome, example, nyo, trace, what_to_do
 
-CASE_I_REPORT = """\
-00000000000000000001000000000000000a000000000000000900000000000000020000000000000002
-000100000000000000010000000000000008000000000000000700000000000000010000000000000000
-000200000000000000010000000000000007000000000000000700000000000000070000000000000007
+# The rules' own report, with two columns of zeros behind.
+ZEROS = 32 * "0"
+CASE_I_REPORT = f"""\
+00000000000000000001000000000000000a000000000000000900000000000000020000000000000002{ZEROS}
+000100000000000000010000000000000008000000000000000700000000000000010000000000000000{ZEROS}
+000200000000000000010000000000000007000000000000000700000000000000070000000000000007{ZEROS}
 """
 
 
@@ -47,6 +49,19 @@ class Texts(unittest.TestCase):
 
     def test_report(self) -> None:
         self.assertEqual(nyo("report", "examples/case-i.trace"), Outcome(GOOD, CASE_I_REPORT, ""))
+
+    def test_instructions(self) -> None:
+        carrying = trace(CARRYING)
+        lines = nyo("report", "-", stdin=carrying).out.splitlines()
+        last_two = [(int(line[-32:-16], 16), int(line[-16:], 16)) for line in lines]
+        self.assertEqual((last_two, {len(line) for line in lines}), ([(4, 4), (3, 0), (20, 20)], {116}))
+        records = ["row,calls,work,span,local,onspan,ilocal,ionspan", "0,1,23,12,4,3,4,4", "1,1,10,10,10,0,3,0", "2,1,9,9,9,9,20,20"]
+        text = "".join(f"{record}\r\n" for record in records)
+        self.assertEqual(nyo("csv", "-", stdin=carrying).out, text)
+        self.assertEqual([row.ion_span for row in read_csv(text.encode())], [4, 0, 20])
+        stacks = "root 1\nroot;1:1:1 10\nroot 2\nroot;1:2:1 9\nroot 1\n"  # of cycles alone
+        self.assertEqual(nyo("folded", "-", stdin=carrying).out, stacks)
+        self.assertEqual(nyo("compact", "-", stdin=carrying).out, carrying.decode())
 
     def test_report_without_idle_rows(self) -> None:
         whole, called = nyo("report", "examples/proxy.trace").out, nyo("report", "--called", "examples/proxy.trace").out

@@ -9,6 +9,7 @@ import nyolifuwe
 from nyolifuwe import api
 
 from .support import (
+    CARRYING,
     GOOD,
     NAMED,
     RETURN,
@@ -57,6 +58,20 @@ PROXY_ADVICE = (
 )
 
 
+# Halved, site 2's 9 is 5 and the root's 2 is 1: both leave 11, by the costs 1 and 10. Sites stand at 1:1:1 and 1:2:1.
+WITH_INSTRUCTIONS = """\
+work 23, span 12, parallelism 1.92, 15 lines, 2 sites
+
+row  site   calls  work  span  local  on span  of span  if halved  gain  instructions  instr on span  per cycle
+  2  1:2:1      1     9     9      9        9    75.0%         11  8.3%            20             20       2.22
+  0  root       1    23    12      4        3    25.0%         11  8.3%             4              4       1.00
+  1  1:1:1      1    10    10     10        0     0.0%         12  0.0%             3              0       0.30
+
+Split or speed up 1:2:1 first: its own cost halved takes 1 (8.3%) off the span; \
+1:1:1 has 43.5% of the work and gains nothing.
+"""
+
+
 class Text(unittest.TestCase):
     """What people see."""
 
@@ -79,6 +94,9 @@ class Text(unittest.TestCase):
         left_off = "not shown: 6 rows beyond -n, 1 idle row without --all\n"
         first_two = "".join(PROXY_ROWS.splitlines(True)[:2])
         self.assertEqual(found, Outcome(GOOD, PROXY_HEAD + first_two + left_off + PROXY_ADVICE, ""))
+
+    def test_instructions_beside_cycles(self) -> None:
+        self.assertEqual(nyo("-", stdin=trace(CARRYING)), Outcome(GOOD, WITH_INSTRUCTIONS, ""))
 
     def test_a_trace_without_cost(self) -> None:
         text = (
@@ -111,11 +129,15 @@ class Order(unittest.TestCase):
 
     def test_by_each_column(self) -> None:
         for name in accepted_examples():
-            for by in ("gain", "calls", "work", "span", "local", "on-span"):
+            for by in ("gain", "calls", "work", "span", "local", "on-span", "ilocal", "ion-span"):
                 with self.subTest(name, by=by):
                     rows = json.loads(nyo("--by", by, "--all", "--format", "json", f"examples/{name}").out)["rows"]
                     keys = [(row[by.replace("-", "_")], row["gain"]) for row in rows]
                     self.assertEqual(keys, sorted(keys, reverse=True))
+
+    def test_by_instructions(self) -> None:
+        found = json.loads(nyo("-", "--by", "ion-span", "--format", "json", stdin=trace(CARRYING)).out)["rows"]
+        self.assertEqual([(row["row"], row["ilocal"], row["ion_span"]) for row in found], [(2, 20, 20), (0, 4, 4), (1, 3, 0)])
 
     def test_by_row(self) -> None:
         rows = json.loads(nyo("--by", "row", "--all", "--format", "json", "examples/proxy.trace").out)["rows"]
@@ -140,6 +162,8 @@ class ForPrograms(unittest.TestCase):
                 "span": 7,
                 "local": 7,
                 "on_span": 7,
+                "ilocal": 0,
+                "ion_span": 0,
                 "on_span_percent": 77.778,
                 "span_if_halved": 6,
                 "gain": 3,

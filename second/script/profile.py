@@ -10,10 +10,10 @@ import argparse
 import re
 import sys
 
-SITE, CALL, SPAWN, SYNC, RETURN, COST = 1, 2, 3, 4, 5, 6
+SITE, CALL, SPAWN, SYNC, RETURN, COST, INSTRUCTIONS = 1, 2, 3, 4, 5, 6, 7
 CHARS = 23
 MOST_LINES = 65_536
-NOTHING = {"calls": 0, "work": 0, "span": 0, "local": 0, "on span": 0}
+NOTHING = {"calls": 0, "work": 0, "span": 0, "local": 0, "on span": 0, "ilocal": 0, "ion span": 0}
 LINE = re.compile(rb"([\da-fA-F]{2})([\da-fA-F]{4})([\da-fA-F]{8})([\da-fA-F]{4})([\da-fA-F]{4})\n")
 
 
@@ -27,20 +27,26 @@ class Refusal(Exception):
 
 
 class Path:
-    """A way through part of a trace: its weight, and by row the costs that it is made of."""
+    """A way through part of a trace: its weight, and by row the costs that it is made of and their instructions."""
 
     def __init__(self):
         self.weight = 0
         self.costs = {}
+        self.instructions = {}
 
     def add(self, row, cost):
         self.weight += cost
         self.costs[row] = self.costs.get(row, 0) + cost
 
+    def carry(self, row, instructions):
+        self.instructions[row] = self.instructions.get(row, 0) + instructions
+
     def extend(self, other):
         self.weight += other.weight
         for row, cost in other.costs.items():
             self.costs[row] = self.costs.get(row, 0) + cost
+        for row, instructions in other.instructions.items():
+            self.carry(row, instructions)
 
     def then(self, other):
         path = Path()
@@ -81,6 +87,7 @@ class Profile:
         self.depth = depth
         self.most_sites = sites
         self.lines = 0
+        self.kind = None
         self.work = 0
         self.places = {}
         self.rows = {0: {**NOTHING, "calls": 1}}
@@ -100,9 +107,12 @@ class Profile:
             self.open[-1].end_block()
         elif kind == RETURN:
             self.leave()
+        elif kind == INSTRUCTIONS:
+            self.carry(value)
         else:
             self.cost(value)
         self.lines += 1
+        self.kind = kind
 
     def fields(self, chars):
         match = LINE.fullmatch(chars)
@@ -116,6 +126,7 @@ class Profile:
             SYNC: not (site or value or file or column),
             RETURN: not (site or value or file or column),
             COST: value and not (site or file or column),
+            INSTRUCTIONS: value and not (site or file or column),
         }
         if not good.get(kind):
             self.refuse(6)
@@ -152,12 +163,21 @@ class Profile:
         else:
             for row, cost in own.done.costs.items():
                 self.rows[row]["on span"] = cost
+            for row, instructions in own.done.instructions.items():
+                self.rows[row]["ion span"] = instructions
 
     def cost(self, value):
         own = self.open[-1]
         self.work += value
         self.rows[own.row]["local"] += value
         own.along.add(own.row, value)
+
+    def carry(self, instructions):
+        if self.kind != COST:
+            self.refuse(22)
+        own = self.open[-1]
+        self.rows[own.row]["ilocal"] += instructions
+        own.along.carry(own.row, instructions)
 
     def refuse(self, number):
         raise Refusal(number, self.lines)

@@ -1,7 +1,8 @@
 //! Timings: the proved engines, the plain one, the script and a pass that only sums the bytes, on the same traces in one run;
-//! the proved writer of folded stacks, the proved forecasts and the proved compactor beside plain ones; and sites declared on
-//! the way beside sites at the start.
+//! the proved writer of folded stacks, the proved forecasts and the proved compactor beside plain ones; sites declared on the
+//! way beside sites at the start; and traces with instructions behind every cost.
 
+pub mod carrying;
 pub mod clock;
 pub mod compacting;
 pub mod declaring;

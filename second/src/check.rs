@@ -30,9 +30,9 @@ impl Limits {
         (1..=64).contains(&self.depth) && self.sites <= 255
     }
 
-    /// "The table engine needs 4·D·(M+3) scratch numbers of 64 bits."
+    /// "the table engine's scratch becomes 7·D·(M+3)"
     pub fn table_scratch(self) -> usize {
-        (4 * self.depth * (self.sites + 3)) as usize
+        (7 * self.depth * (self.sites + 3)) as usize
     }
 
     /// "The marks engine needs 8·D."
@@ -40,7 +40,7 @@ impl Limits {
         (8 * self.depth) as usize
     }
 
-    /// "Both need 5·(M+1) row numbers."
+    /// "Both need" seven for each of M+1 rows: "every row room with five reads seven".
     pub fn rows(self) -> usize {
         COLUMNS * (self.sites as usize + 1)
     }
@@ -127,6 +127,7 @@ impl Walk {
         let line = line::read(chars)?;
         let inside = *self.open.last().ok_or(Ground::AfterEnd)?;
         match line.kind {
+            Kind::Instructions => self.instructions()?,
             Kind::Site => self.site(&line)?,
             Kind::Call => self.enter(&line, Start::Called(inside))?,
             Kind::Spawn => self.enter(&line, Start::Spawned(inside))?,
@@ -136,6 +137,12 @@ impl Walk {
         self.shape.directly_in.push(inside);
         self.shape.lines.push(line);
         Ok(())
+    }
+
+    /// "22 a 07 line not directly after a cost, checked after 7"
+    fn instructions(&self) -> Result<(), Ground> {
+        let carries = self.shape.lines.last().is_some_and(|before| before.kind == Kind::Cost);
+        carries.then_some(()).ok_or(Ground::Stray)
     }
 
     /// "A site line may stand anywhere before the root's return"; "Its number still follows the last declared"; "No two

@@ -1,5 +1,6 @@
 //! The comparison: cases, what each program makes of them, and the smallest case in which two programs differ.
 
+pub mod carried;
 pub mod case;
 pub mod compacts;
 pub mod damage;
@@ -7,6 +8,7 @@ pub mod fixed;
 pub mod forecasts;
 pub mod gain;
 pub mod generate;
+pub mod instructions;
 pub mod moves;
 pub mod on_the_way;
 pub mod reports;
@@ -49,5 +51,6 @@ pub fn compare(
 
 /// The laws of what a case asks that a program does not keep.
 pub fn broken(case: &Case, library: &dyn Library) -> Vec<&'static str> {
-    [gain::broken(case, library), moves::broken(case, library), reports::broken(case, library)].concat()
+    let of = [gain::broken, moves::broken, reports::broken, instructions::broken];
+    of.map(|broken| broken(case, library)).concat()
 }

@@ -13,7 +13,7 @@ use crate::graph;
 use crate::line::{self, CHARS, WIDTHS};
 use crate::refusal::{Ground, Refusal};
 use crate::report;
-use crate::rows::{profile, Profile};
+use crate::rows::{profile, Profile, COLUMNS};
 use crate::shape::Shape;
 use crate::sheet;
 
@@ -214,7 +214,7 @@ impl Library for Second {
             return code(Err(Ground::Room.at(0)));
         };
         code(sheet::read(text, rows.len()).map(|numbers| {
-            *sites = numbers.len() as u64 / 5 - 1;
+            *sites = (numbers.len() / COLUMNS) as u64 - 1;
             put(rows, &numbers);
         }))
     }
@@ -245,7 +245,7 @@ impl Library for Second {
     }
 }
 
-/// "Row numbers 0 to 5·(sites+1)-1 hold the rows and the rest are unchanged. The whole scratch is zero."
+/// The first seven numbers for each of sites+1 rows "hold the rows and the rest are unchanged. The whole scratch is zero."
 fn fill(profile: &Profile, scratch: &mut [u64], rows: &mut [u64], answer: &mut [u64]) {
     scratch.fill(0);
     put(rows, profile.rows.as_flattened());

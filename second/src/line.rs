@@ -21,6 +21,7 @@ pub enum Kind {
     Sync,
     Return,
     Cost,
+    Instructions,
 }
 
 /// "file, line and column"
@@ -46,6 +47,7 @@ impl Kind {
             4 => Some(Kind::Sync),
             5 => Some(Kind::Return),
             6 => Some(Kind::Cost),
+            7 => Some(Kind::Instructions),
             _ => None,
         }
     }
@@ -59,6 +61,7 @@ impl Kind {
             Kind::Sync => 4,
             Kind::Return => 5,
             Kind::Cost => 6,
+            Kind::Instructions => 7,
         }
     }
 
@@ -70,7 +73,7 @@ impl Kind {
             Kind::Site => [ANY_SITE, 1..=0xffff_ffff, 1..=0xffff, 1..=0xffff],
             Kind::Call | Kind::Spawn => [ANY_SITE, UNUSED, UNUSED, UNUSED],
             Kind::Sync | Kind::Return => [UNUSED, UNUSED, UNUSED, UNUSED],
-            Kind::Cost => [UNUSED, 1..=0xffff_ffff, UNUSED, UNUSED],
+            Kind::Cost | Kind::Instructions => [UNUSED, 1..=0xffff_ffff, UNUSED, UNUSED],
         }
     }
 }
@@ -160,6 +163,7 @@ mod tests {
     fn what_is_written_is_what_was_read() {
         assert_eq!(write(&[1, 2, 20, 1, 9]).as_deref(), Ok(SITE));
         assert_eq!(write(&[6, 0, 0xffff_ffff, 0, 0]).as_deref(), Ok(&b"060000ffffffff00000000\n"[..]));
+        assert_eq!(write(&[7, 0, 0xffff_ffff, 0, 0]).as_deref(), Ok(&b"070000ffffffff00000000\n"[..]));
     }
 
     #[test]
@@ -194,7 +198,7 @@ mod tests {
         }
         for bad in [
             [0, 0, 0, 0, 0],
-            [7, 0, 1, 0, 0],
+            [8, 0, 1, 0, 0],
             [0x106, 0, 1, 0, 0],
             [1, 1, 0, 1, 1],
             [1, 1, 1, 0, 1],
@@ -207,6 +211,11 @@ mod tests {
             [6, 0, 0, 0, 0],
             [6, 1, 1, 0, 0],
             [6, 0, 0x1_0000_0000, 0, 0],
+            [7, 0, 0, 0, 0],
+            [7, 1, 1, 0, 0],
+            [7, 0, 1, 1, 0],
+            [7, 0, 1, 0, 1],
+            [7, 0, 0x1_0000_0000, 0, 0],
         ] {
             assert_eq!(write(&bad), Err(Ground::Table), "{bad:?}");
         }

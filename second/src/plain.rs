@@ -14,7 +14,7 @@ use crate::check::{before_lines, Lent, Limits};
 use crate::forecast::{Entry, LEAST_FACTOR, MOST_ENTRIES, MOST_FACTOR};
 use crate::line::CHARS;
 use crate::refusal::{Ground, Refusal};
-use crate::rows::{Profile, Row, CALLS, COLUMNS, LOCAL, ON_SPAN, SPAN, WORK};
+use crate::rows::{Profile, Row, CALLS, COLUMNS, ILOCAL, ION_SPAN, LOCAL, ON_SPAN, SPAN, WORK};
 
 /// The profile of a trace, or its refusal.
 pub fn profile(trace: &[u8], limits: Limits, lent: &Lent) -> Result<Profile, Refusal> {
@@ -65,6 +65,7 @@ const SPAWN: u8 = 3;
 const SYNC: u8 = 4;
 const RETURN: u8 = 5;
 const COST: u8 = 6;
+const INSTRUCTIONS: u8 = 7;
 
 /// What a character is worth as a digit; above 15 if it is none.
 const WORTH: [u8; 256] = {
@@ -120,7 +121,7 @@ impl Fields {
             SITE => value > 0 && file > 0 && column > 0,
             CALL | SPAWN => value == 0 && file == 0 && column == 0,
             SYNC | RETURN => site == 0 && value == 0 && file == 0 && column == 0,
-            COST => site == 0 && value > 0 && file == 0 && column == 0,
+            COST | INSTRUCTIONS => site == 0 && value > 0 && file == 0 && column == 0,
             _ => false,
         }
     }
@@ -169,6 +170,7 @@ struct Step {
     /// The line that comes next on the chain's way.
     next: u32,
     cost: u32,
+    instructions: u32,
     row: u8,
 }
 
@@ -210,7 +212,7 @@ impl Engine {
     fn line(&mut self, line: u32, chars: &[u8; CHARS], weigh: impl Fn(u8, u32) -> u32) -> Result<(), Ground> {
         let fields = Fields::read(chars)?;
         let own = self.open.last_mut().ok_or(Ground::AfterEnd)?;
-        let mut step = Step { next: line + 1, cost: 0, row: own.row };
+        let mut step = Step { next: line + 1, cost: 0, instructions: 0, row: own.row };
         match fields.kind {
             COST => {
                 step.cost = weigh(own.row, fields.value);
@@ -218,6 +220,7 @@ impl Engine {
                 self.work += u64::from(step.cost);
                 self.rows[usize::from(own.row)][LOCAL] += u64::from(step.cost);
             }
+            INSTRUCTIONS => self.carry(step.row, fields.value)?,
             SYNC => own.end_block(line, &mut self.steps),
             CALL => self.enter(fields.site, 0)?,
             SPAWN => self.enter(fields.site, line)?,
@@ -225,6 +228,14 @@ impl Engine {
             _ => self.site(&fields)?,
         }
         self.steps.push(step);
+        Ok(())
+    }
+
+    /// Refusal 22: only a cost line's step has a cost.
+    fn carry(&mut self, row: u8, instructions: u32) -> Result<(), Ground> {
+        let cost = self.steps.last_mut().filter(|step| step.cost > 0).ok_or(Ground::Stray)?;
+        cost.instructions = instructions;
+        self.rows[usize::from(row)][ILOCAL] += u64::from(instructions);
         Ok(())
     }
 
@@ -292,7 +303,9 @@ impl Engine {
         while let Some(step) = self.steps.get(line) {
             if step.cost > 0 {
                 marks[line] = 1;
-                self.rows[usize::from(step.row)][ON_SPAN] += u64::from(step.cost);
+                let row = &mut self.rows[usize::from(step.row)];
+                row[ON_SPAN] += u64::from(step.cost);
+                row[ION_SPAN] += u64::from(step.instructions);
             }
             line = step.next as usize;
         }

@@ -32,7 +32,7 @@ pub enum Ground {
     Unfinished = 14,
     /// "the first record (the header is 0) that isn't good or is missing"
     Record = 15,
-    /// "output shorter than the text", "room below five numbers a row"
+    /// "output shorter than the text", "room below" seven "numbers a row"
     SheetRoom = 16,
     /// "the first row, among root and declared sites, whose shown name is bad or missing from both lists"
     Name = 17,
@@ -44,6 +44,8 @@ pub enum Ground {
     Factor = 20,
     /// "output shorter than the result"
     CompactRoom = 21,
+    /// "a 07 line not directly after a cost"
+    Stray = 22,
 }
 
 /// "Refused: a number and a line."

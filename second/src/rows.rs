@@ -3,11 +3,12 @@
 use crate::chain::Chains;
 use crate::shape::Shape;
 
-/// "Five numbers a row, in this order": calls, work, span, local, on span.
+/// "Five numbers a row, in this order": calls, work, span, local, on span; and "two numbers at the end, instructions local and
+/// on span, so rows are seven long".
 pub type Row = [u64; COLUMNS];
 
 /// How many they are.
-pub const COLUMNS: usize = 5;
+pub const COLUMNS: usize = 7;
 
 /// Which number of its row each is.
 pub const CALLS: usize = 0;
@@ -15,6 +16,21 @@ pub const WORK: usize = 1;
 pub const SPAN: usize = 2;
 pub const LOCAL: usize = 3;
 pub const ON_SPAN: usize = 4;
+pub const ILOCAL: usize = 5;
+pub const ION_SPAN: usize = 6;
+
+/// The numbers of a row that speak of calls and cycles.
+pub type Cycles = [u64; ILOCAL];
+
+/// The row of a trace in which no 07 line stands: its instructions are zero.
+pub const fn cycles_alone([calls, work, span, local, on_span]: Cycles) -> Row {
+    [calls, work, span, local, on_span, 0, 0]
+}
+
+/// The same of all rows.
+pub fn all_cycles_alone(rows: &[Cycles]) -> Vec<Row> {
+    rows.iter().copied().map(cycles_alone).collect()
+}
 
 /// All that is said of an accepted trace.
 #[derive(Clone, Debug, PartialEq, Eq)]
@@ -42,7 +58,8 @@ fn marks(shape: &Shape, chosen: &[usize]) -> Vec<u8> {
 }
 
 /// "Columns 2 and 3 from now on count only invocations with no enclosing invocation from the same site. Calls, local and on
-/// span still count all."
+/// span still count all." "Cycles and instructions are separate measures": each has its own local and its own on span, over the
+/// same cost lines, "The chain is still chosen by cycles."
 fn rows(shape: &Shape, spans: &[u64], marks: &[u8]) -> Vec<Row> {
     let mut rows = vec![[0; COLUMNS]; shape.sites + 1];
     for (invocation, span) in shape.invocations.iter().zip(spans) {
@@ -57,6 +74,8 @@ fn rows(shape: &Shape, spans: &[u64], marks: &[u8]) -> Vec<Row> {
         let row = &mut rows[shape.invocation_of(line).row];
         row[LOCAL] += shape.lines[line].cost();
         row[ON_SPAN] += u64::from(marks[line]) * shape.lines[line].cost();
+        row[ILOCAL] += shape.instructions(line);
+        row[ION_SPAN] += u64::from(marks[line]) * shape.instructions(line);
     }
     rows
 }

@@ -60,6 +60,15 @@ impl Shape {
         self.lines[lines].iter().map(Line::cost).sum()
     }
 
+    /// The instructions of a cost line: "A kind 07 line directly after a cost line carries its instructions in the value";
+    /// "without one they are zero." Nothing for a line that is no cost.
+    pub fn instructions(&self, line: usize) -> u64 {
+        match (self.lines[line].kind, self.lines.get(line + 1)) {
+            (Kind::Cost, Some(behind)) if behind.kind == Kind::Instructions => behind.value,
+            _ => 0,
+        }
+    }
+
     /// The invocation that a line is directly in.
     pub fn invocation_of(&self, line: usize) -> &Invocation {
         &self.invocations[self.directly_in[line]]

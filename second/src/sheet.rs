@@ -1,9 +1,10 @@
 //! Rows as comma-separated text, and back: request a's sentences one by one, over whole records.
 
 use crate::refusal::{Ground, Refusal};
+use crate::rows::COLUMNS;
 
-/// "a header record `row,calls,work,span,local,onspan`"
-const HEADER: [&str; 6] = ["row", "calls", "work", "span", "local", "onspan"];
+/// "a header record `row,calls,work,span,local,onspan`"; "Spreadsheets gain `ilocal,ionspan`."
+const HEADER: [&str; 1 + COLUMNS] = ["row", "calls", "work", "span", "local", "onspan", "ilocal", "ionspan"];
 
 /// "1 to 256 records"
 const MOST_RECORDS: usize = 256;
@@ -15,11 +16,11 @@ pub fn write(numbers: &[u64], count: u64, room: usize, written: usize) -> Result
         return Err(Ground::Limits);
     }
     let rows = count as usize + 1;
-    if numbers.len() < 5 * rows || written < 1 {
+    if numbers.len() < COLUMNS * rows || written < 1 {
         return Err(Ground::Room);
     }
     let mut text = HEADER.join(",") + "\r\n";
-    for (row, numbers) in numbers.chunks(5).take(rows).enumerate() {
+    for (row, numbers) in numbers.chunks(COLUMNS).take(rows).enumerate() {
         let numbers: String = numbers.iter().map(|number| format!(",{number}")).collect();
         text += &format!("{row}{numbers}\r\n");
     }
@@ -30,7 +31,7 @@ pub fn write(numbers: &[u64], count: u64, room: usize, written: usize) -> Result
 }
 
 /// The numbers of the rows that a text holds: "15 with the number of the first record (the header is 0) that isn't good or is
-/// missing, then 16 room below five numbers a row, line 0".
+/// missing, then 16 room below" seven "numbers a row, line 0".
 pub fn read(text: &[u8], room: usize) -> Result<Vec<u64>, Refusal> {
     let mut rest = text;
     let header = record(&mut rest).filter(|fields| fields.iter().eq(HEADER.map(str::as_bytes).iter()));
@@ -49,7 +50,7 @@ pub fn read(text: &[u8], room: usize) -> Result<Vec<u64>, Refusal> {
     Ok(rows)
 }
 
-/// "records of six decimal fields, rows 0, 1, 2 and on": the five numbers of a row.
+/// Records of eight "decimal fields, rows 0, 1, 2 and on": the seven numbers of a row.
 fn row(fields: &[&[u8]], row: usize) -> Option<Vec<u64>> {
     let numbers: Vec<u64> = fields.iter().map(|field| number(field)).collect::<Option<_>>()?;
     (numbers.len() == HEADER.len() && numbers[0] == row as u64).then(|| numbers[1..].to_vec())
@@ -98,7 +99,7 @@ fn field<'a>(text: &mut &'a [u8]) -> Option<&'a [u8]> {
 mod tests {
     use super::*;
 
-    const TOP: &str = "row,calls,work,span,local,onspan\r\n";
+    const TOP: &str = "row,calls,work,span,local,onspan,ilocal,ionspan\r\n";
 
     fn read_below(records: &str, room: usize) -> Result<Vec<u64>, Refusal> {
         read((TOP.to_owned() + records).as_bytes(), room)
@@ -106,26 +107,26 @@ mod tests {
 
     #[test]
     fn case_i_is_written_and_read() {
-        let rows = [1, 10, 9, 2, 2, 1, 8, 7, 1, 0, 1, 7, 7, 7, 7];
-        let text = TOP.to_owned() + "0,1,10,9,2,2\r\n1,1,8,7,1,0\r\n2,1,7,7,7,7\r\n";
-        assert_eq!(write(&rows, 2, 74, 1), Ok(text.clone()));
-        assert_eq!(read(text.as_bytes(), 15), Ok(rows.to_vec()));
+        let rows = [1, 10, 9, 2, 2, 0, 0, 1, 8, 7, 1, 0, 0, 0, 1, 7, 7, 7, 7, 0, 0];
+        let text = TOP.to_owned() + "0,1,10,9,2,2,0,0\r\n1,1,8,7,1,0,0,0\r\n2,1,7,7,7,7,0,0\r\n";
+        assert_eq!(write(&rows, 2, 101, 1), Ok(text.clone()));
+        assert_eq!(read(text.as_bytes(), 21), Ok(rows.to_vec()));
     }
 
     #[test]
     fn the_refusals_of_writing_come_in_their_order() {
         assert_eq!(write(&[], 256, 0, 0), Err(Ground::Limits));
-        assert_eq!(write(&[0; 4], 0, 0, 1), Err(Ground::Room));
-        assert_eq!(write(&[0; 5], 0, 0, 0), Err(Ground::Room));
-        assert_eq!(write(&[0; 5], 0, 46, 1), Err(Ground::SheetRoom));
-        assert_eq!(write(&[0; 5], 0, 47, 1).map(|text| text.len()), Ok(47));
+        assert_eq!(write(&[0; 6], 0, 0, 1), Err(Ground::Room));
+        assert_eq!(write(&[0; 7], 0, 0, 0), Err(Ground::Room));
+        assert_eq!(write(&[0; 7], 0, 65, 1), Err(Ground::SheetRoom));
+        assert_eq!(write(&[0; 7], 0, 66, 1).map(|text| text.len()), Ok(66));
     }
 
     #[test]
     fn quotes_and_the_last_line_end_are_free() {
-        let good = Ok(vec![1, 2, 3, 4, 5]);
-        for record in ["0,1,2,3,4,5\r\n", "0,1,2,3,4,5", "\"0\",1,2,3,4,\"5\"\r\n", "0,1,2,3,4,\"5\""] {
-            assert_eq!(read_below(record, 5), good);
+        let good = Ok(vec![1, 2, 3, 4, 5, 6, 7]);
+        for record in ["0,1,2,3,4,5,6,7\r\n", "0,1,2,3,4,5,6,7", "\"0\",1,2,3,4,5,6,\"7\"\r\n", "0,1,2,3,4,5,6,\"7\""] {
+            assert_eq!(read_below(record, 7), good);
         }
     }
 
@@ -133,38 +134,39 @@ mod tests {
     fn anything_else_is_a_record_that_is_not_good() {
         let wrong = [
             "",
-            "0,1,2,3,4,5\n",
-            "0,1,2,3,4,5\r",
-            "0,1,2,3,4, 5\r\n",
-            "0,1,2,3,4,+5\r\n",
-            "0,1,2,3,4,05\r\n",
-            "0,1,2,3,4,00\r\n",
-            "0,1,2,3,4,\r\n",
-            "0,1,2,3,4,18446744073709551616\r\n",
-            "0,1,2,3,4,1\"5\r\n",
-            "0,1,2,3,4,\"1\"\"5\"\r\n",
-            "0,1,2,3,4,\"5\r\n",
-            "1,1,2,3,4,5\r\n",
+            "0,1,2,3,4,5,6,7\n",
+            "0,1,2,3,4,5,6,7\r",
+            "0,1,2,3,4,5,6, 7\r\n",
+            "0,1,2,3,4,5,6,+7\r\n",
+            "0,1,2,3,4,5,6,07\r\n",
+            "0,1,2,3,4,5,6,00\r\n",
+            "0,1,2,3,4,5,6,\r\n",
+            "0,1,2,3,4,5,6,18446744073709551616\r\n",
+            "0,1,2,3,4,5,6,1\"5\r\n",
+            "0,1,2,3,4,5,6,\"1\"\"5\"\r\n",
+            "0,1,2,3,4,5,6,\"7\r\n",
+            "1,1,2,3,4,5,6,7\r\n",
+            "0,1,2,3,4,5,6,7,8\r\n",
+            "0,1,2,3,4,5\r\n",
             "0,1,2,3,4,5,6\r\n",
-            "0,1,2,3,4\r\n",
-            "0,1,2,3,4,5\0\r\n",
+            "0,1,2,3,4,5,6,7\0\r\n",
         ];
         for record in wrong {
-            assert_eq!(read_below(record, 5), Err(Ground::Record.at(1)), "{record:?}");
+            assert_eq!(read_below(record, 7), Err(Ground::Record.at(1)), "{record:?}");
         }
-        for text in ["", "\r\n", "\u{feff}row,calls,work,span,local,onspan\r\n0,1,2,3,4,5\r\n"] {
-            assert_eq!(read(text.as_bytes(), 5), Err(Ground::Record.at(0)), "{text:?}");
+        for text in ["", "\r\n", "\u{feff}row,calls,work,span,local,onspan,ilocal,ionspan\r\n0,1,2,3,4,5,6,7\r\n"] {
+            assert_eq!(read(text.as_bytes(), 7), Err(Ground::Record.at(0)), "{text:?}");
         }
-        assert_eq!(read_below("0,1,2,3,4,5\r\n\r\n", 5), Err(Ground::Record.at(2)));
-        assert_eq!(read_below("0,1,2,3,4,5\r\n2,1,2,3,4,5\r\n", 10), Err(Ground::Record.at(2)));
+        assert_eq!(read_below("0,1,2,3,4,5,6,7\r\n\r\n", 7), Err(Ground::Record.at(2)));
+        assert_eq!(read_below("0,1,2,3,4,5,6,7\r\n2,1,2,3,4,5,6,7\r\n", 14), Err(Ground::Record.at(2)));
     }
 
     #[test]
     fn there_are_1_to_256_records() {
         let records =
-            |count| (0..count).map(|row| format!("{row},0,0,0,0,18446744073709551615\r\n")).collect::<String>();
-        assert_eq!(read_below(&records(256), 1280).map(|rows| rows.len()), Ok(1280));
-        assert_eq!(read_below(&records(256), 1279), Err(Ground::SheetRoom.at(0)));
+            |count| (0..count).map(|row| format!("{row},0,0,0,0,0,0,18446744073709551615\r\n")).collect::<String>();
+        assert_eq!(read_below(&records(256), 1792).map(|rows| rows.len()), Ok(1792));
+        assert_eq!(read_below(&records(256), 1791), Err(Ground::SheetRoom.at(0)));
         assert_eq!(read_below(&records(257), 0), Err(Ground::Record.at(257)));
     }
 }

@@ -3,7 +3,8 @@
 use crate::line::{chars, read, Fields, Kind, Place, CHARS};
 
 /// The events of a trace in the notation of the twelve, if its lines are good and every brace has its other. The sites
-/// before the first event and the root's return are left out; a site line on the way is told as `site 3`.
+/// before the first event and the root's return are left out; a site line on the way is told as `site 3`, a cost of 5 with a 07
+/// line of 9 behind it as `5 with 9`.
 pub fn events(chars: &[u8]) -> Option<String> {
     let mut text = String::new();
     let mut open = 1_usize;
@@ -16,6 +17,7 @@ pub fn events(chars: &[u8]) -> Option<String> {
             Kind::Spawn => add(&mut text, &format!("spawn {} {{", line.site)),
             Kind::Sync => add(&mut text, "sync"),
             Kind::Cost => add(&mut text, &line.value.to_string()),
+            Kind::Instructions => carry(&mut text, line.value),
             Kind::Return => text += "}",
         }
         open += usize::from(matches!(line.kind, Kind::Call | Kind::Spawn));
@@ -30,6 +32,14 @@ fn add(text: &mut String, item: &str) {
         *text += ", ";
     }
     *text += item;
+}
+
+/// Adds what a 07 line carries, directly behind what stands before it in its body.
+fn carry(text: &mut String, instructions: u64) {
+    if !text.is_empty() && !text.ends_with('{') {
+        *text += " ";
+    }
+    *text += &format!("with {instructions}");
 }
 
 /// The characters of a trace in the making.
@@ -47,7 +57,7 @@ impl Trace {
     }
 
     /// A trace from the notation of the twelve: "Braces hold a body; the closing brace is its return. A bare number is a
-    /// cost." `site 3` declares site 3 on the way. The root's return is added.
+    /// cost." `site 3` declares site 3 on the way, and `with 9` is a 07 line of 9. The root's return is added.
     ///
     /// # Panics
     /// On a word that the notation does not have.
@@ -61,6 +71,7 @@ impl Trace {
                 "call" => trace.call(number(words.next())),
                 "spawn" => trace.spawn(number(words.next())),
                 "sync" => trace.sync(),
+                "with" => trace.carry(number(words.next())),
                 "}" => trace.leave(),
                 "none" | "cost" | "{" => &mut trace,
                 cost => trace.cost(number(Some(cost))),
@@ -104,6 +115,11 @@ impl Trace {
         self.push(&[Kind::Cost.number(), 0, value, 0, 0])
     }
 
+    /// A 07 line.
+    pub fn carry(&mut self, instructions: u64) -> &mut Trace {
+        self.push(&[Kind::Instructions.number(), 0, instructions, 0, 0])
+    }
+
     fn push(&mut self, fields: &Fields) -> &mut Trace {
         self.chars.extend(chars(fields));
         self
@@ -145,9 +161,11 @@ mod tests {
             "call 1 {spawn 2 {7}, 1}, 2",
             "spawn 1 {}, sync, call 2 {1, sync, 1}",
             "1, site 3, spawn 3 {site 4, 1, site 5}, site 6",
+            "1 with 5, call 1 {with 2, 3 with 4 with 4}, sync with 6",
         ] {
             assert_eq!(events(&Trace::from_events(2, text).chars).as_deref(), Some(text));
         }
+        assert_eq!(events(&Trace::from_events(0, "with 7").chars).as_deref(), Some("with 7"));
         assert_eq!(events(&Trace::from_events(0, "}").chars), None);
         assert_eq!(events(&Trace::from_events(1, "call 1").chars), None);
         assert_eq!(events(b"05"), None);

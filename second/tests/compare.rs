@@ -5,6 +5,7 @@ use second::check::{self, Limits};
 use second::compact;
 use second::compare::case::{Case, Question};
 use second::compare::fixed::{self, TWELVE, TWELVE_LIMITS};
+use second::compare::instructions::left_out;
 use second::compare::{broken, compare, generate, Difference};
 use second::forecast::Entry;
 use second::graph;
@@ -12,7 +13,7 @@ use second::library::{Library, Second};
 use second::line::{chars, read, Kind, Line, CHARS};
 use second::refusal::{Ground, Refusal};
 use second::report;
-use second::rows::{CALLS, COLUMNS, WORK};
+use second::rows::{CALLS, COLUMNS, ILOCAL, LOCAL, WORK};
 use second::shape::{Invocation, Shape, Start};
 use second::trace::events;
 use std::cmp::Ordering;
@@ -99,9 +100,10 @@ fn is_site(shape: &Shape, line: usize) -> bool {
 fn the_stand_in_with_the_right_rules_is_right() {
     let right = Second { search: |shape| chains(shape, Shape::parallel, first) };
     let short = |case: &Case| match &case.question {
-        Question::Engines { trace, .. } | Question::Moved { trace, .. } | Question::Compact { trace, .. } => {
-            trace.len() <= 300 * CHARS
-        }
+        Question::Engines { trace, .. }
+        | Question::Forecast { trace, .. }
+        | Question::Moved { trace, .. }
+        | Question::Compact { trace, .. } => trace.len() <= 300 * CHARS,
         _ => true,
     };
     let cases = (0..2_000).map(|number| generate::case(1, number)).filter(short);
@@ -160,6 +162,21 @@ fn taking_the_later_of_two_equal_chains() {
     let told = first_difference(&wrong).to_string();
     assert!(told.contains("marks engine's marks, number 2: second 1, the stand-in 0"), "{told}");
     assert_eq!(smallest_events(&wrong), "spawn 1 {1}, 1");
+}
+
+/// The chosen chain is the one with more instructions among those that weigh the same.
+fn more_instructions(shape: &Shape) -> Chains {
+    let mut heavier = shape.clone();
+    for line in shape.cost_lines() {
+        heavier.lines[line].value = (shape.lines[line].value << 24) + shape.instructions(line).min(9);
+    }
+    Chains { chosen: graph::search(&heavier).chosen, ..graph::search(shape) }
+}
+
+#[test]
+fn taking_the_one_with_more_instructions_of_two_equal_chains() {
+    // The law says it of a trace without 07 lines, which it puts in.
+    assert_eq!(smallest_events(&Second { search: more_instructions }), "spawn 1 {1}, 1");
 }
 
 #[test]
@@ -377,7 +394,7 @@ fn a_scratch_number_left_over() {
         }
     };
     let told = engines_difference(&Wrong { after, ..Wrong::default() });
-    assert!(told.contains("table engine's scratch, number 11: second 0, the stand-in 1"), "{told}");
+    assert!(told.contains("table engine's scratch, number 20: second 0, the stand-in 1"), "{told}");
 }
 
 #[test]
@@ -388,7 +405,7 @@ fn a_row_cleared_that_no_site_has() {
         }
     };
     let told = engines_difference(&Wrong { after, ..Wrong::default() });
-    assert!(told.contains("table engine's rows, number 5: second "), "{told}");
+    assert!(told.contains("table engine's rows, number 7: second "), "{told}");
 }
 
 /// Adds to column 2 of an accepted trace's rows the work of the enclosed invocations that a rule counts nonetheless.
@@ -419,6 +436,61 @@ fn counting_those_enclosed_through_another_site() {
     let through = |a: u64, b: u64| format!("call {a} {{call {b} {{call {a} {{1}}}}}}");
     let mut pairs = (1..=4).flat_map(|a| (1..=4).filter(move |&b| b != a).map(move |b| through(a, b)));
     assert!(pairs.any(|right| right == smallest.replace("spawn", "call")), "{smallest}");
+}
+
+#[test]
+fn refusing_07_lines() {
+    let before = |trace: &mut Vec<u8>| {
+        trace.chunks_exact_mut(CHARS).filter(|line| line.starts_with(b"07")).for_each(|line| line[1] = b'8');
+    };
+    let told = engines_difference(&Wrong { before, ..Wrong::default() });
+    assert!(told.contains("table engine: second ") && told.contains("the stand-in refused 6 at line"), "{told}");
+}
+
+#[test]
+fn taking_a_07_line_wherever_it_stands() {
+    let told = engines_difference(&Wrong { before: |trace| *trace = left_out(trace), ..Wrong::default() });
+    assert!(told.contains("table engine"), "{told}");
+    let before = |trace: &mut Vec<u8>| {
+        let lines: Vec<Vec<u8>> = trace.chunks(CHARS).map(<[u8]>::to_vec).collect();
+        let stays = |n: &usize| !lines[*n].starts_with(b"07") || (*n > 0 && lines[*n - 1].starts_with(b"06"));
+        *trace = (0..lines.len()).filter(stays).flat_map(|n| lines[n].clone()).collect();
+    };
+    let told = engines_difference(&Wrong { before, ..Wrong::default() });
+    assert!(told.contains("table engine: second refused 22 at line 0, the stand-in "), "{told}");
+}
+
+/// Does something with the row and the instructions of each cost line of an accepted trace.
+fn each_carried(trace: &[u8], code: u64, mut of: impl FnMut(usize, u64)) {
+    let limits = Limits { depth: 64, sites: 255 };
+    let Ok(shape) = check::trace(trace, limits, &limits.for_tables()) else { return };
+    for line in shape.cost_lines().into_iter().filter(|_| code == 0) {
+        of(shape.invocation_of(line).row, shape.instructions(line));
+    }
+}
+
+#[test]
+fn adding_instructions_to_cycles() {
+    let after = |trace: &[u8], code: u64, _: &mut [u64], rows: &mut [u64], _: &mut [u64]| {
+        each_carried(trace, code, |row, carried| rows[COLUMNS * row + LOCAL] += carried);
+    };
+    let wrong = Wrong { after, ..Wrong::default() };
+    // The law says it of a trace without 07 lines, which it puts in.
+    assert_eq!(smallest_events(&wrong), "1");
+    let broken = broken_by(&wrong);
+    assert!(broken.contains(&"the costs directly in a row add up to column 4"), "{broken:?}");
+    assert!(broken.iter().any(|law| law.starts_with("07 lines change no cycles")), "{broken:?}");
+}
+
+#[test]
+fn counting_a_07_line_as_one_instruction() {
+    let after = |trace: &[u8], code: u64, _: &mut [u64], rows: &mut [u64], _: &mut [u64]| {
+        each_carried(trace, code, |row, carried| rows[COLUMNS * row + ILOCAL] -= carried.saturating_sub(1));
+    };
+    let wrong = Wrong { after, ..Wrong::default() };
+    assert_eq!(smallest_events(&wrong), "1 with 2");
+    let broken = broken_by(&wrong);
+    assert!(broken.contains(&"the instructions directly in a row add up to column 6"), "{broken:?}");
 }
 
 #[test]
@@ -696,26 +768,38 @@ fn a_forecast_that_halves_every_cost() {
     }
 }
 
+/// A cost's cycles and instructions.
+type Measures = [u64; 2];
+
 /// A compactor by a rule of which syncs are dropped and a rule of which two costs merge.
 fn compactor(
     trace: &[u8],
     limits: Limits,
     lent: compact::Lent,
     dropped: impl Fn(&Shape, usize) -> bool,
-    merge: fn(u64, u64) -> bool,
+    merge: fn(Measures, Measures) -> bool,
 ) -> Result<Vec<u8>, Refusal> {
     let shape = check::read(trace, limits, |_| lent.written < 1)?;
-    let mut left: Vec<Line> = vec![];
-    for (number, line) in shape.lines.iter().enumerate() {
-        let is_cost = |line: &Line| line.kind == Kind::Cost;
+    let mut left: Vec<(Line, u64)> = vec![];
+    for (number, line) in shape.lines.iter().enumerate().filter(|(_, line)| line.kind != Kind::Instructions) {
+        let (is_cost, carried) = (|line: &Line| line.kind == Kind::Cost, shape.instructions(number));
         match left.last_mut() {
             _ if is_sync(&shape, number) && dropped(&shape, number) => (),
-            Some(last) if is_cost(last) && is_cost(line) && merge(last.value, line.value) => last.value += line.value,
-            _ => left.push(*line),
+            Some((last, sum)) if is_cost(last) && is_cost(line) && merge([last.value, *sum], [line.value, carried]) => {
+                last.value += line.value;
+                *sum += carried;
+            }
+            _ => left.push((*line, carried)),
         }
     }
-    let text: Vec<u8> = left.iter().flat_map(|line| chars(&line.fields())).collect();
+    let text: Vec<u8> = left.iter().flat_map(spelled).collect();
     Some(text).filter(|text| text.len() <= lent.out).ok_or(Ground::CompactRoom.at(0))
+}
+
+/// A line and, where it carries instructions that fit, a 07 line behind it.
+fn spelled((line, carried): &(Line, u64)) -> Vec<u8> {
+    let behind = (1..=0xffff_ffff).contains(carried).then(|| chars(&[Kind::Instructions.number(), 0, *carried, 0, 0]));
+    [chars(&line.fields()), behind.unwrap_or_default()].concat()
 }
 
 /// Whether a spawn stands before a sync, since the start of its invocation or the last sync, among the lines that
@@ -740,8 +824,9 @@ fn says_nothing(shape: &Shape, sync: usize) -> bool {
     !spawned_since(shape, sync, directly_beside) || last_in_its_body(shape, sync)
 }
 
-fn fits(a: u64, b: u64) -> bool {
-    a + b <= 0xffff_ffff
+/// "merges only while both sums fit"
+fn fits(a: Measures, b: Measures) -> bool {
+    (0..2).all(|measure| a[measure] + b[measure] <= 0xffff_ffff)
 }
 
 /// The events of the trace that the first difference between compactors shrank to.
@@ -808,7 +893,7 @@ fn merged_over_site_lines(trace: &[u8], limits: Limits, lent: compact::Lent) -> 
     let mut left: Vec<Line> = vec![];
     for line in compact::write(trace, limits, lent)?.chunks(CHARS).map(|line| read(line).expect("a good line")) {
         match left.iter_mut().rfind(|before| before.kind != Kind::Site) {
-            Some(last) if last.kind == Kind::Cost && line.kind == Kind::Cost && fits(last.value, line.value) => {
+            Some(last) if last.kind == Kind::Cost && line.kind == Kind::Cost && last.value + line.value < 1 << 32 => {
                 last.value += line.value;
             }
             _ => left.push(line),
@@ -823,6 +908,34 @@ fn merging_costs_over_a_site_line() {
 }
 
 #[test]
+fn merging_while_the_cycles_alone_fit() {
+    let smallest = compacted_difference(|trace, limits, lent| {
+        compactor(trace, limits, lent, says_nothing, |a, b| a[0] + b[0] <= 0xffff_ffff)
+    });
+    let costs: Vec<Vec<u64>> = smallest
+        .split(", ")
+        .map(|cost| cost.split(" with ").filter_map(|number| number.parse().ok()).collect())
+        .collect();
+    assert!(costs.iter().all(|cost| cost[0] == 1 && cost.len() == 2), "{smallest}");
+    assert_eq!(costs.iter().map(|cost| cost[1]).sum::<u64>(), 1 << 32, "{smallest}");
+}
+
+#[test]
+fn merging_no_cost_with_one_that_carries_instructions() {
+    let smallest = compacted_difference(|trace, limits, lent| {
+        compactor(trace, limits, lent, says_nothing, |a, b| fits(a, b) && a[1] == 0)
+    });
+    assert_eq!(smallest, "1 with 1, 1");
+}
+
+#[test]
+fn leaving_instructions_out() {
+    let smallest =
+        compacted_difference(|trace, limits, lent| compact::write(trace, limits, lent).map(|text| left_out(&text)));
+    assert_eq!(smallest, "1 with 1");
+}
+
+#[test]
 fn merging_no_costs() {
     let smallest =
         compacted_difference(|trace, limits, lent| compactor(trace, limits, lent, says_nothing, |_, _| false));
@@ -832,7 +945,7 @@ fn merging_no_costs() {
 #[test]
 fn a_sum_of_the_greatest_value_taken_for_one_that_does_not_fit() {
     let smallest = compacted_difference(|trace, limits, lent| {
-        compactor(trace, limits, lent, says_nothing, |a, b| a + b < 0xffff_ffff)
+        compactor(trace, limits, lent, says_nothing, |a, b| fits(a, b) && a[0] + b[0] < 0xffff_ffff)
     });
     let costs: Vec<u64> = smallest.split(", ").map(|cost| cost.parse().expect("a cost")).collect();
     assert_eq!(costs.iter().sum::<u64>(), 0xffff_ffff, "{smallest}");

@@ -1,6 +1,7 @@
 //! The generated cases reach what they are meant to reach.
 
 use second::check::{self, Lent, Limits};
+use second::compact;
 use second::compare::case::{Case, Question};
 use second::compare::generate;
 use second::library::Second;
@@ -25,7 +26,7 @@ fn every_verdict_is_reached() {
     let cases = (0..40_000).map(|number| generate::case(1, number));
     let verdicts = verdicts(cases.filter(|case| matches!(case.question, Question::Engines { .. })));
     println!("{verdicts:?}");
-    for verdict in [0, 1, 2, 4, 5, 6, 7, 8, 9, 10, 11, 12, 14] {
+    for verdict in [0, 1, 2, 4, 5, 6, 7, 8, 9, 10, 11, 12, 14, 22] {
         assert!(verdicts.get(&verdict).is_some_and(|&times| times >= 30), "{verdict}: {verdicts:?}");
     }
 }
@@ -61,7 +62,7 @@ fn every_verdict_on_folded_stacks_is_reached() {
     let cases = (0..40_000).map(|number| generate::case(1, number));
     let verdicts = verdicts(cases.filter(|case| matches!(case.question, Question::Folded { .. })));
     println!("{verdicts:?}");
-    for verdict in [0, 1, 2, 4, 5, 6, 7, 8, 9, 10, 11, 12, 14, 17, 18] {
+    for verdict in [0, 1, 2, 4, 5, 6, 7, 8, 9, 10, 11, 12, 14, 17, 18, 22] {
         assert!(verdicts.get(&verdict).is_some_and(|&times| times >= 5), "{verdict}: {verdicts:?}");
     }
     assert!([0, 17, 18].iter().all(|verdict| verdicts[verdict] >= 100), "{verdicts:?}");
@@ -72,7 +73,7 @@ fn every_verdict_on_a_forecast_is_reached() {
     let cases = (0..40_000).map(|number| generate::case(1, number));
     let verdicts = verdicts(cases.filter(|case| matches!(case.question, Question::Forecast { .. })));
     println!("{verdicts:?}");
-    for verdict in [0, 1, 2, 4, 5, 6, 7, 8, 9, 10, 11, 12, 14, 19, 20] {
+    for verdict in [0, 1, 2, 4, 5, 6, 7, 8, 9, 10, 11, 12, 14, 19, 20, 22] {
         assert!(verdicts.get(&verdict).is_some_and(|&times| times >= 10), "{verdict}: {verdicts:?}");
     }
     assert!([0, 19, 20].iter().all(|verdict| verdicts[verdict] >= 100), "{verdicts:?}");
@@ -109,7 +110,7 @@ fn every_verdict_on_a_compaction_is_reached() {
     let cases = (0..40_000).map(|number| generate::case(1, number));
     let verdicts = verdicts(cases.filter(|case| matches!(case.question, Question::Compact { .. })));
     println!("{verdicts:?}");
-    for verdict in [0, 1, 2, 4, 5, 6, 7, 8, 9, 10, 11, 12, 14, 21] {
+    for verdict in [0, 1, 2, 4, 5, 6, 7, 8, 9, 10, 11, 12, 14, 21, 22] {
         assert!(verdicts.get(&verdict).is_some_and(|&times| times >= 5), "{verdict}: {verdicts:?}");
     }
     assert!([0, 21].iter().all(|verdict| verdicts[verdict] >= 100), "{verdicts:?}");
@@ -223,4 +224,66 @@ fn each_refusal_of_a_site_is_given_on_the_way() {
     for number in [7, 8, 9, 10, 11] {
         assert!(times.get(&number).is_some_and(|&times: &u32| times >= 50), "{number}: {times:?}");
     }
+}
+
+/// Where the 07 lines of a good trace stand: directly before a return, a sync, a cost, a call, a spawn, a site line; on the
+/// chosen chain's costs and on others; and whether all costs have one.
+fn carried(shape: &Shape, marks: &[u8]) -> [bool; 9] {
+    let mut forms = [false; 9];
+    let kind = |line: usize| shape.lines[line].kind;
+    for line in (1..shape.lines.len()).filter(|&line| kind(line) == Kind::Instructions) {
+        let behind = [Kind::Return, Kind::Sync, Kind::Cost, Kind::Call, Kind::Spawn, Kind::Site];
+        forms[..6].iter_mut().zip(behind).for_each(|(form, behind)| *form |= kind(line + 1) == behind);
+        forms[6 + usize::from(marks[line - 1] == 0)] = true;
+    }
+    let costs = shape.cost_lines();
+    forms[8] = costs.len() > 1 && costs.iter().all(|&line| shape.instructions(line) > 0);
+    forms
+}
+
+#[test]
+fn instructions_stand_in_every_form() {
+    let wide = Limits { depth: 64, sites: 255 };
+    let (mut times, mut none, mut all) = ([0; 9], 0, 0);
+    for number in 0..40_000 {
+        let (Question::Engines { trace, .. } | Question::Compact { trace, .. }) = generate::case(1, number).question
+        else {
+            continue;
+        };
+        let Ok(shape) = check::trace(&trace, wide, &wide.for_tables()) else { continue };
+        let marks = Second::by_paths().profile(&trace, wide, &wide.for_tables()).expect("accepted").marks;
+        times.iter_mut().zip(carried(&shape, &marks)).for_each(|(times, form)| *times += u32::from(form));
+        none += u32::from(shape.lines.iter().all(|line| line.kind != Kind::Instructions));
+        all += 1;
+    }
+    println!("{times:?}, {none} of {all} without");
+    assert!(times.iter().all(|&times| times >= 50) && 2 * none > all, "{times:?}, {none} of {all} without");
+}
+
+/// What is left of generated traces has to show: costs that merge with instructions, and costs side by side that do not because
+/// the sum of cycles does not fit, and because the sum of instructions does not.
+#[test]
+fn costs_with_instructions_merge_and_do_not_merge() {
+    let mut times = [0; 3];
+    for number in 0..40_000 {
+        let Question::Compact { trace, limits, .. } = generate::case(1, number).question else { continue };
+        let Ok(shape) = check::read(&trace, limits, |_| false) else { continue };
+        let left = compact::write(&trace, limits, compact::Lent::ALL).expect("accepted");
+        let after = check::read(&left, limits, |_| false).expect("accepted");
+        let carried = |shape: &Shape| shape.lines.iter().filter(|line| line.kind == Kind::Instructions).count();
+        let costs = after.cost_lines();
+        let beside =
+            costs.windows(2).filter(|pair| pair[1] - pair[0] == 1 + usize::from(after.instructions(pair[0]) > 0));
+        let sums = |pair: &[usize]| {
+            let value = |line: usize| after.lines[line].value;
+            [value(pair[0]) + value(pair[1]), after.instructions(pair[0]) + after.instructions(pair[1])]
+        };
+        times[0] += u32::from(carried(&after) < carried(&shape));
+        for [cycles, instructions] in beside.map(sums) {
+            times[1] += u32::from(cycles > 0xffff_ffff);
+            times[2] += u32::from(cycles <= 0xffff_ffff && instructions > 0xffff_ffff);
+        }
+    }
+    println!("{times:?}");
+    assert!(times.iter().all(|&times| times >= 50), "{times:?}");
 }

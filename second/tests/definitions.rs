@@ -6,7 +6,8 @@ use second::compare::rng::Rng;
 use second::compare::shapes;
 use second::graph::{self, Graph};
 use second::heaviest::stands_on_some;
-use second::rows::{profile, Row, CALLS, LOCAL, ON_SPAN, SPAN, WORK};
+use second::line::Kind;
+use second::rows::{profile, Row, CALLS, ILOCAL, ION_SPAN, LOCAL, ON_SPAN, SPAN, WORK};
 use second::shape::{Invocation, Shape};
 use std::cmp::Reverse;
 use std::ops::Range;
@@ -129,6 +130,25 @@ fn column_4_adds_up_to_the_total_work_and_column_5_to_the_total_span() {
         assert_eq!([column(LOCAL), column(ON_SPAN)], profile.answer[..2]);
         assert_eq!(profile.rows[0][..3], [1, profile.answer[0], profile.answer[1]]);
     }
+}
+
+#[test]
+fn column_6_adds_up_to_all_07_lines_and_column_7_to_those_behind_the_chosen_chain() {
+    let mut carried = 0;
+    for shape in some(9, 1000, usize::MAX) {
+        let chains = graph::search(&shape);
+        let profile = profile(&shape, &chains);
+        let column = |n: usize| profile.rows.iter().map(|row| row[n]).sum::<u64>();
+        let value = |line: &usize| {
+            Some(shape.lines[*line]).filter(|line| line.kind == Kind::Instructions).map(|line| line.value)
+        };
+        let all: u64 = (0..shape.lines.len()).filter_map(|line| value(&line)).sum();
+        let behind: u64 = chains.chosen.iter().filter_map(|line| value(&(line + 1))).sum();
+        assert_eq!([column(ILOCAL), column(ION_SPAN)], [all, behind]);
+        assert!(profile.rows.iter().all(|row| row[ION_SPAN] <= row[ILOCAL] && row[ILOCAL] < 1 << 54));
+        carried += u32::from(behind > 0 && behind < all);
+    }
+    assert!(carried > 50, "only {carried} traces have instructions on the span and off it");
 }
 
 /// Whether the lines of one invocation stand among those of another.

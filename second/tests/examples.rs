@@ -7,7 +7,8 @@ use second::forecast::Entry;
 use second::library::Second;
 use second::program::{printed, LIMITS, MOST_BYTES};
 use second::report;
-use second::rows::{Row, LOCAL, ON_SPAN, WORK};
+use second::rows::{all_cycles_alone, Row, LOCAL, ON_SPAN, WORK};
+use second::sheet;
 use std::fs;
 use std::path::PathBuf;
 use std::process::Command;
@@ -29,7 +30,7 @@ fn file(name: &str) -> Vec<u8> {
     fs::read(folder().join(name)).expect(name)
 }
 
-/// The five numbers of each row of a report.
+/// The seven numbers of each row of a report.
 fn rows(report: &str) -> Vec<Row> {
     let number = |line: &str, n: usize| u64::from_str_radix(&line[4 + 16 * n..20 + 16 * n], 16).expect("16 digits");
     report.lines().map(|line| std::array::from_fn(|n| number(line, n))).collect()
@@ -38,14 +39,14 @@ fn rows(report: &str) -> Vec<Row> {
 #[test]
 fn case_i_is_on_the_page() {
     let report = example("case-i.trace");
-    assert_eq!(rows(&report), [[1, 10, 9, 2, 2], [1, 8, 7, 1, 0], [1, 7, 7, 7, 7]]);
+    assert_eq!(rows(&report), all_cycles_alone(&[[1, 10, 9, 2, 2], [1, 8, 7, 1, 0], [1, 7, 7, 7, 7]]));
     assert!(page().contains(&report));
 }
 
 #[test]
 fn the_splitter_is_on_the_page_and_as_worked_out_by_hand() {
     let report = example("splitter.trace");
-    assert_eq!(rows(&report), [[1, 16, 10, 0, 0], [3, 16, 10, 5, 4], [2, 11, 11, 11, 6]]);
+    assert_eq!(rows(&report), all_cycles_alone(&[[1, 16, 10, 0, 0], [3, 16, 10, 5, 4], [2, 11, 11, 11, 6]]));
     assert!(page().contains(&report));
 }
 
@@ -63,7 +64,7 @@ fn the_proxy_is_on_the_page_and_as_worked_out_by_hand() {
         [1, 700, 700, 700, 700],
         [0, 0, 0, 0, 0],
     ];
-    assert_eq!(rows(&report), by_hand);
+    assert_eq!(rows(&report), all_cycles_alone(&by_hand));
     assert!(page().contains(&report));
 }
 
@@ -120,15 +121,15 @@ fn the_proxys_rows_halved_in_turn_are_on_the_page_and_as_worked_out_by_hand() {
 #[test]
 fn case_i_with_site_2_halved_is_on_the_page() {
     let (rows, answer) = forecast("case-i.trace", Entry { row: 2, factor: 2 });
-    assert_eq!(rows, [[1, 7, 6, 2, 2], [1, 5, 4, 1, 0], [1, 4, 4, 4, 4]]);
+    assert_eq!(rows, all_cycles_alone(&[[1, 7, 6, 2, 2], [1, 5, 4, 1, 0], [1, 4, 4, 4, 4]]));
     assert_eq!(answer, [7, 6, 2, 10]);
-    assert!(forecasts().contains(&report::full_report(rows.as_flattened(), 2, 255).expect("room enough")));
+    assert!(forecasts().contains(&report::full_report(rows.as_flattened(), 2, 351).expect("room enough")));
 }
 
 #[test]
 fn case_g_is_on_the_page() {
     let report = example("case-g.trace");
-    assert_eq!(rows(&report), [[1, 22, 11, 4, 1], [1, 10, 10, 10, 10], [1, 8, 8, 8, 0]]);
+    assert_eq!(rows(&report), all_cycles_alone(&[[1, 22, 11, 4, 1], [1, 10, 10, 10, 10], [1, 8, 8, 8, 0]]));
     assert!(page().contains(&report));
 }
 
@@ -165,7 +166,7 @@ fn the_wordy_trace_is_on_the_page_and_compacts_as_worked_out_by_hand() {
     // 2^32 = 4294967296 are the last two costs of the root together.
     let most = 1 << 32;
     let root = [1, most + 36, most + 26, most + 10, most + 8];
-    assert_eq!(rows(&report), [root, [1, 11, 11, 11, 11], [2, 15, 15, 15, 7]]);
+    assert_eq!(rows(&report), all_cycles_alone(&[root, [1, 11, 11, 11, 11], [2, 15, 15, 15, 7]]));
     assert_eq!(example("wordy-compact.trace"), report);
     assert_eq!(page().matches(&report).count(), 2);
     let compact = |name: &str, out| {
@@ -182,11 +183,36 @@ fn the_wordy_trace_is_on_the_page_and_compacts_as_worked_out_by_hand() {
 fn the_trace_with_sites_on_the_way_is_on_the_page_and_as_worked_out_by_hand() {
     let report = example("on-the-way.trace");
     let by_hand = [[1, 22, 17, 7, 7], [1, 15, 10, 3, 3], [1, 7, 7, 6, 6], [2, 6, 6, 6, 1], [0; 5]];
-    assert_eq!(rows(&report), by_hand);
+    assert_eq!(rows(&report), all_cycles_alone(&by_hand));
     assert!(page().contains(&report));
     let trace = file("on-the-way.trace");
     let lent = compact::Lent { out: 483, written: 1 };
     assert_eq!(compact::write(&trace, LIMITS, lent), Ok(trace));
+}
+
+#[test]
+fn the_trace_with_instructions_is_on_the_page_and_as_worked_out_by_hand() {
+    let report = example("instructions.trace");
+    let by_hand = [[1, 31, 20, 12, 8, 60, 20], [1, 12, 12, 9, 9, 12, 12], [2, 10, 10, 10, 3, 23, 14]];
+    assert_eq!(rows(&report), by_hand);
+    assert_eq!(example("instructions-compact.trace"), report);
+    assert_eq!(page().matches(&report).count(), 2);
+    let sheet = sheet::write(by_hand.as_flattened(), 2, usize::MAX, 1);
+    assert_eq!(sheet.map(String::into_bytes), Ok(file("instructions.csv")));
+    let lent = compact::Lent { out: 483, written: 1 };
+    for name in ["instructions.trace", "instructions-compact.trace"] {
+        assert_eq!(compact::write(&file(name), LIMITS, lent), Ok(file("instructions-compact.trace")), "{name}");
+    }
+}
+
+#[test]
+fn the_sheets_are_read_as_the_page_says() {
+    let read = |name| sheet::read(&file(name), 21).map_err(|refusal| (refusal.number(), refusal.line));
+    let case_i = all_cycles_alone(&[[1, 10, 9, 2, 2], [1, 8, 7, 1, 0], [1, 7, 7, 7, 7]]).concat();
+    assert_eq!((read("case-i.csv"), read("case-i-quoted.csv")), (Ok(case_i.clone()), Ok(case_i)));
+    assert_eq!(read("refusal-15-line-ends.csv"), Err((15, 0)));
+    assert_eq!(read("refusal-15-header.csv"), Err((15, 0)));
+    assert_eq!(read("refusal-15-number.csv"), Err((15, 1)));
 }
 
 #[test]
@@ -202,6 +228,7 @@ fn each_refusal_is_on_the_page() {
         ("refusal-11.trace", "ff0b00000001"),
         ("refusal-12.trace", "ff0c00000020"),
         ("refusal-14.trace", "ff0e00000004"),
+        ("refusal-22.trace", "ff1600000003"),
     ];
     for (name, line) in by_hand {
         assert_eq!(example(name), format!("{line}\n"), "{name}");

@@ -8,7 +8,7 @@ use second::compare::{shapes, sites};
 use second::folded;
 use second::forecast::Entry;
 use second::library::Second;
-use second::rows::Row;
+use second::rows::{all_cycles_alone, Row};
 use second::trace::Trace;
 
 /// Both ways, by pairs where the trace is short enough for it.
@@ -20,24 +20,7 @@ fn ways() -> [Second; 2] {
 fn answer_rows_and_marks_or_the_refusal_are_as_worked_out_by_hand() {
     for case in traces() {
         for second in ways() {
-            let lent = case.limits.for_marks(case.trace.lines());
-            let found = second.profile(&case.trace.chars, case.limits, &lent);
-            match (&case.given, found) {
-                (Err(right), found) => {
-                    assert_eq!(
-                        found.err().map(|refusal| (refusal.number(), refusal.line)),
-                        Some(*right),
-                        "{}",
-                        case.name
-                    );
-                }
-                (Ok(right), found) => {
-                    let found = found.expect(case.name);
-                    let marked = (0..found.marks.len()).filter(|&line| found.marks[line] == 1).collect::<Vec<_>>();
-                    assert_eq!((found.answer, &found.rows), (right.answer, &right.rows), "{}", case.name);
-                    assert_eq!(marked, right.chosen, "{}", case.name);
-                }
-            }
+            assert_eq!(case.by(&second), case.given, "{}", case.name);
         }
     }
 }
@@ -73,9 +56,9 @@ fn a_site_declared_on_the_way_may_be_forecast() {
         given.map(|profile| profile.rows).map_err(|refusal| (refusal.number(), refusal.line))
     };
     // 3 by 2 is 2, beside 4; 4 by 2 is 2, beside 3.
-    assert_eq!(of(0), Ok(vec![[1, 6, 4, 2, 0], [1, 4, 4, 4, 4], [0; 5]]));
-    assert_eq!(of(1), Ok(vec![[1, 5, 3, 3, 3], [1, 2, 2, 2, 0], [0; 5]]));
-    assert_eq!(of(2), Ok(vec![[1, 7, 4, 3, 0], [1, 4, 4, 4, 4], [0; 5]]));
+    assert_eq!(of(0), Ok(all_cycles_alone(&[[1, 6, 4, 2, 0], [1, 4, 4, 4, 4], [0; 5]])));
+    assert_eq!(of(1), Ok(all_cycles_alone(&[[1, 5, 3, 3, 3], [1, 2, 2, 2, 0], [0; 5]])));
+    assert_eq!(of(2), Ok(all_cycles_alone(&[[1, 7, 4, 3, 0], [1, 4, 4, 4, 4], [0; 5]])));
     assert_eq!(of(3), Err((19, 0)));
 }
 

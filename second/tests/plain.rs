@@ -4,7 +4,7 @@
 use second::check::Limits;
 use second::compact;
 use second::compare::case::{Case, Question};
-use second::compare::{fixed, generate, on_the_way};
+use second::compare::{carried, fixed, generate, on_the_way};
 use second::folded;
 use second::library::Second;
 use second::plain;
@@ -25,7 +25,8 @@ fn alike(cases: impl IntoIterator<Item = Case>) -> usize {
 
 #[test]
 fn on_the_fixed_traces() {
-    assert_eq!(alike(fixed::cases()), 58 + on_the_way::traces().len());
+    // Those with 07 lines in seven rooms.
+    assert_eq!(alike(fixed::cases()), 58 + on_the_way::traces().len() + 7 * carried::traces().len());
 }
 
 #[test]
@@ -49,7 +50,8 @@ fn forecast_alike(cases: impl IntoIterator<Item = Case>) -> usize {
 
 #[test]
 fn on_the_fixed_entries() {
-    assert_eq!(forecast_alike(fixed::cases()), 7 * 39 + on_the_way::traces().len());
+    let traces = on_the_way::traces().len() + carried::traces().len();
+    assert_eq!(forecast_alike(fixed::cases()), 7 * (39 + carried::FORECASTS.len()) + traces);
 }
 
 #[test]
@@ -80,7 +82,8 @@ fn folded_alike(cases: impl IntoIterator<Item = Case>) -> usize {
 
 #[test]
 fn on_the_fixed_lists() {
-    assert_eq!(folded_alike(fixed::cases()), 7 * 47 + on_the_way::traces().len());
+    let traces = on_the_way::traces().len() + carried::traces().len();
+    assert_eq!(folded_alike(fixed::cases()), 7 * 47 + traces);
 }
 
 #[test]
@@ -109,8 +112,10 @@ fn compacts_alike(cases: impl IntoIterator<Item = Case>) -> usize {
 
 #[test]
 fn on_the_fixed_compactions() {
-    // 44 traces by hand, 5 long ones and 18 that are refused, and 16 with site lines on the way, in six rooms.
-    assert_eq!(compacts_alike(fixed::cases()), 6 * (44 + 5 + 18 + 16) + on_the_way::traces().len());
+    // 44 traces by hand, 5 long ones and 18 that are refused, 16 with site lines on the way, and 26 with 07 lines and a long
+    // one, in six rooms.
+    let traces = on_the_way::traces().len() + carried::traces().len();
+    assert_eq!(compacts_alike(fixed::cases()), 6 * (44 + 5 + 18 + 16 + 26 + 1) + traces);
 }
 
 #[test]

@@ -27,11 +27,11 @@ fn the_rows_by_hand() {
 #[test]
 fn two_hundred_sites_of_which_twelve_ran() {
     let calls = |row: u64| u64::from(row % 16 == 0);
-    let numbers: Vec<u64> = (0..=200).flat_map(|row| [calls(row), row, row, row, row]).collect();
+    let numbers: Vec<u64> = (0..=200).flat_map(|row| [calls(row), row, row, row, row, row, row]).collect();
     let printed: Vec<usize> = (0..13).map(|n| 16 * n).collect();
-    assert_eq!(report(&numbers, 200, 13 * 85).map(|text| rows(&text)), Ok(printed));
-    assert!(report(&numbers, 200, 13 * 85 - 1).is_err());
-    assert!(full_report(&numbers, 200, 201 * 85).is_ok());
+    assert_eq!(report(&numbers, 200, 13 * 117).map(|text| rows(&text)), Ok(printed));
+    assert!(report(&numbers, 200, 13 * 117 - 1).is_err());
+    assert!(full_report(&numbers, 200, 201 * 117).is_ok());
 }
 
 #[test]

@@ -7,7 +7,7 @@ use second::folded;
 use second::library::Second;
 use second::refusal::{Ground, Refusal};
 use second::report;
-use second::rows::{Profile, ON_SPAN};
+use second::rows::{all_cycles_alone, cycles_alone, Profile, ON_SPAN};
 use second::trace::Trace;
 use second::{chain, graph};
 
@@ -39,13 +39,14 @@ fn the_twelve() {
 
 #[test]
 fn in_k_row_1_has_calls_2_work_3_span_3_local_3() {
-    assert_eq!(of("call 1 {1, call 1 {2}}").rows[1], [2, 3, 3, 3, 3]);
+    assert_eq!(of("call 1 {1, call 1 {2}}").rows[1], cycles_alone([2, 3, 3, 3, 3]));
 }
 
 #[test]
 fn the_recursive_traces() {
     for case in recursive() {
-        assert_eq!(profile(&case.trace, case.limits).expect(case.name).rows, case.rows, "{}", case.name);
+        let rows = profile(&case.trace, case.limits).expect(case.name).rows;
+        assert_eq!(rows, all_cycles_alone(&case.rows), "{}", case.name);
     }
 }
 
@@ -66,7 +67,7 @@ fn the_forecasts() {
         for search in [chain::search, graph::search] {
             let found = Second { search }.forecast(&trace, limits, &entries, &limits.for_tables());
             let rows = found.map(|profile| profile.rows).map_err(|refusal| (refusal.number(), refusal.line));
-            assert_eq!(rows, asked.given.map(|rows| rows.to_vec()), "{}", asked.name);
+            assert_eq!(rows, asked.given.map(|rows| all_cycles_alone(&rows)), "{}", asked.name);
         }
     }
 }
@@ -84,12 +85,13 @@ fn the_printed_costs_of_the_twelve_add_up_to_their_work() {
 #[test]
 fn case_i_is_reported_as_the_rules_print_it() {
     let profile = of("call 1 {spawn 2 {7}, 1}, 2");
+    // The rules print the first 84 characters of each line; behind them stand the two numbers of instructions, both zero.
     let printed = "\
-00000000000000000001000000000000000a000000000000000900000000000000020000000000000002
-000100000000000000010000000000000008000000000000000700000000000000010000000000000000
-000200000000000000010000000000000007000000000000000700000000000000070000000000000007
+00000000000000000001000000000000000a00000000000000090000000000000002000000000000000200000000000000000000000000000000
+00010000000000000001000000000000000800000000000000070000000000000001000000000000000000000000000000000000000000000000
+00020000000000000001000000000000000700000000000000070000000000000007000000000000000700000000000000000000000000000000
 ";
-    assert_eq!(report::full_report(profile.rows.as_flattened(), 2, 255).as_deref(), Ok(printed));
+    assert_eq!(report::full_report(profile.rows.as_flattened(), 2, 351).as_deref(), Ok(printed));
     assert_eq!(profile.marks, [0, 0, 0, 0, 1, 0, 0, 0, 1, 0]);
 }
 
@@ -107,7 +109,7 @@ fn the_heaviest_trace_stays_below_2_to_the_48() {
     let most = 281_470_681_677_825;
     let heaviest = profile(&heaviest(), Limits { depth: 1, sites: 0 }).expect("accepted");
     assert_eq!(heaviest.answer, [most, most, 0, 65_536]);
-    assert_eq!(heaviest.rows, [[1, most, most, most, most]]);
+    assert_eq!(heaviest.rows, [cycles_alone([1, most, most, most, most])]);
 }
 
 #[test]
@@ -123,7 +125,8 @@ fn a_sync_joins_every_child_spawned_before_it_and_none_after() {
 #[test]
 fn the_spans_of_a_row_add_up_over_its_outermost_invocations() {
     let profile = of("spawn 1 {5}, spawn 1 {6, spawn 1 {4}, 3}, sync, call 2 {}");
-    assert_eq!(profile.rows, [[1, 18, 10, 0, 0], [3, 18, 15, 18, 10], [1, 0, 0, 0, 0]]);
+    let rows = [[1, 18, 10, 0, 0], [3, 18, 15, 18, 10], [1, 0, 0, 0, 0]];
+    assert_eq!(profile.rows, all_cycles_alone(&rows));
 }
 
 #[test]
@@ -144,6 +147,7 @@ const SITE_2: &str = "0100020000001400010009";
 const CALL_1: &str = "0200010000000000000000";
 const RETURN: &str = "0500000000000000000000";
 const COST_1: &str = "0600000000000100000000";
+const CARRY_1: &str = "0700000000000100000000";
 
 #[test]
 fn the_first_faulty_line_decides_and_within_it_the_smallest_number() {
@@ -152,6 +156,10 @@ fn the_first_faulty_line_decides_and_within_it_the_smallest_number() {
     assert_eq!(refused(&[COST_1, "0g00000000000000000000", "0600000000000000000000"]), Some((5, 1)));
     assert_eq!(refused(&[RETURN, "0600000000000000000000"]), Some((6, 1)));
     assert_eq!(refused(&[RETURN, SITE_1]), Some((7, 1)));
+    assert_eq!(refused(&[RETURN, "0700000000000000000000"]), Some((6, 1)));
+    assert_eq!(refused(&[RETURN, CARRY_1]), Some((7, 1)));
+    assert_eq!(refused(&[SITE_1, CARRY_1, "0100040000000a00010005"]), Some((22, 1)));
+    assert_eq!(refused(&[SITE_1, "0100030000000a00010005", CARRY_1]), Some((8, 1)));
     assert_eq!(refused(&[SITE_1, SITE_2, "0100040000000a00010005"]), Some((8, 2)));
     assert_eq!(refused(&[SITE_1, SITE_2, "0100030000000a00010005"]), Some((9, 2)));
     assert_eq!(refused(&[SITE_1, "0100020000000a00010005"]), Some((10, 1)));
@@ -196,12 +204,12 @@ fn room_may_be_just_enough_and_not_one_less() {
     let limits = Limits { depth: 3, sites: 2 };
     let trace = Trace::from_events(2, "call 1 {spawn 2 {7}, 1}, 2");
     let refused = |lent: Lent| Second::new().profile(&trace.chars, limits, &lent).err();
-    let tables = Lent { scratch: 4 * 3 * 5, rows: 15, answer: 4, marks: None };
-    let marks = Lent { scratch: 8 * 3, rows: 15, answer: 4, marks: Some(10) };
+    let tables = Lent { scratch: 7 * 3 * 5, rows: 21, answer: 4, marks: None };
+    let marks = Lent { scratch: 8 * 3, rows: 21, answer: 4, marks: Some(10) };
     for just in [tables, marks] {
         assert_eq!(refused(just), None);
         assert_eq!(refused(Lent { scratch: just.scratch - 1, ..just }), Some(Ground::Room.at(0)));
-        assert_eq!(refused(Lent { rows: 14, ..just }), Some(Ground::Room.at(0)));
+        assert_eq!(refused(Lent { rows: 20, ..just }), Some(Ground::Room.at(0)));
         assert_eq!(refused(Lent { answer: 3, ..just }), Some(Ground::Room.at(0)));
     }
     assert_eq!(refused(Lent { marks: Some(9), ..marks }), Some(Ground::Room.at(0)));

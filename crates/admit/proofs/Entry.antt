@@ -48,7 +48,7 @@ module _ {s : List ℕ} {D M : ℕ} (p : Passed s D M) where
   decided room e = simp (p .checked .in-range, p .checked .whole, p .checked .few, e)
 
   -- the table engine's scratch is far below the machine's numbers
-  pub scratch-small : 4 * D * (M + 3) ≤ 66048
+  pub scratch-small : 7 * D * (M + 3) ≤ 115584
   scratch-small =
       let h : M + 3 ≤ 258 = omega (arith, limits .sites-most) in
-      omega (arith, limits .most, mul-le-mul-left (4 * D) h)
+      omega (arith, limits .most, mul-le-mul-left (7 * D) h)

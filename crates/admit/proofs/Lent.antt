@@ -57,7 +57,7 @@ refusal-fits r vs is = LL.owed S.the-type S′.the-laws r vs is .0 .1
 pub tally-is : (r : Tallied) (vs : List Val) → Is S.the-row r vs → TallyIs (r .tally)
 tally-is r vs is = LL.owed S.the-type S′.the-laws r vs is .1 .0
 
--- beside the tally: the line's frame, whether its place is declared again, and the two limits
+-- beside the tally: the line's frame, what the lines before say against it, and the two limits
 abbrev pub Beside : List RattleType
 Beside = F.the-row ∷ bool ∷ usize ∷ usize ∷ []
 

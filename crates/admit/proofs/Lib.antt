@@ -1,4 +1,5 @@
 pub mod Keys
+pub mod Strays
 pub mod Tallies
 pub mod Reach
 pub mod Entry

@@ -15,7 +15,7 @@ use Rattle.line.specs.declared.Read.the-variants.{Line, Refused}
 use Rattle.line.specs.Read.{lineAt, readAt}
 use Rattle.line.proofs.Cases.{refusals-at}
 use Rattle.trace.specs.Shape.{sites}
-use Rattle.trace.specs.Refusals.{lineCount, openNow, afterRoot, fault, accepted, refused, judged, scan, readsFrom, reads}
+use Rattle.trace.specs.Refusals.{lineCount, openNow, afterRoot, afterCost, fault, accepted, refused, judged, scan, readsFrom, reads}
 use Rattle.trace.specs.Refusals.{Verdict as Judgement}
 use Rattle.trace.proofs.Scan.{read-line, faultless}
 use Rattle.trace.proofs.Sites.{sites-le, Numbered, numbered-start, numbered-snoc, within-snoc}
@@ -24,8 +24,9 @@ use Rattle.admit.specs.declared.Verdict.the-variants.{Refused as Denied}
 use Rattle.admit.specs.declared.Tally.{Tally}
 use Rattle.admit.specs.declared.Tallied.{Tallied}
 use Rattle.admit.specs.Answer.{answerOf}
-use Rattle.admit.specs.Step.{tallyOf, tagsOf, refuse, next, judgedBy, keptBy, stepped, seen, kept, Limits, Within}
+use Rattle.admit.specs.Step.{tallyOf, tagsOf, refuse, next, against, judgedBy, keptBy, stepped, kept, behindCost, Limits, Within}
 use Rattle.admit.proofs.Keys.{NarrowSites, narrow-snoc, read-narrow, keysOf, seen-is, kept-is, kept-length}
+use Rattle.admit.proofs.Strays.{stray-is, cost-snoc}
 use Rattle.admit.proofs.Tallies.{none-open, judgement, step-is}
 
 -- what is known behind the lines before
@@ -41,6 +42,8 @@ pub record Known (D M : ℕ) (s ks : List ℕ) (before : List Frame) : Type 0 wh
   pub narrow : NarrowSites before
   pub room : length ks ≡ 256
   pub keys : take (sites before) ks ≡ keysOf before
+  -- the kind of the last line tells whether it is a cost line
+  pub costs : behindCost s (length before) ≡ afterCost false before
 
 -- the flat check has come to a line: t and ks are the tally and the keys of the lines before it
 pub record Reached (D M : ℕ) (s ks : List ℕ) (t : Tally) : Type 0 where
@@ -54,7 +57,7 @@ reached-start {D} {M} {s} ks h r =
     record {
       before = [];
       tally = refl;
-      known = record { left = lineCount s; whole = omega arith; rest = refl; numbered = numbered-start; within = omega arith; narrow = tt; room = r; keys = refl };
+      known = record { left = lineCount s; whole = omega arith; rest = refl; numbered = numbered-start; within = omega arith; narrow = tt; room = r; keys = refl; costs = refl };
     }
 
 module _ {D M : ℕ} {s ks : List ℕ} (limits : Limits D M s) where
@@ -77,10 +80,11 @@ module _ {D M : ℕ} {s ks : List ℕ} (limits : Limits D M s) where
     -- at the next line
     module _ (l : n < lineCount s) where
       -- the step is what the refusals say of the line
-      judged-is : (k : ℕ) (f : Frame) → readAt s n ≡ Line k f → stepped D M (seen ks (sites before) f) (tallyOf before) f ≡ judgement D M before f
+      judged-is : (k : ℕ) (f : Frame) → readAt s n ≡ Line k f → stepped D M (against s ks (tallyOf before) f) (tallyOf before) f ≡ judgement D M before f
       judged-is k f e =
-          step-is D M before (seen ks (sites before) f) (r .numbered) f
-          (seen-is ks before (r .keys) f (r .narrow) (read-narrow s n k f e))
+          let place = seen-is ks before (r .keys) f (r .narrow) (read-narrow s n k f e) in
+          let cost = stray-is s before f (r .costs) in
+          step-is D M before (against s ks (tallyOf before) f) (r .numbered) f (rw (place, cost) refl)
 
       abbrev behind : ℕ → Frame → Judgement
       behind k f = scan D M (before ++ f ∷ []) (readsFrom s (suc n) k)
@@ -94,18 +98,18 @@ module _ {D M : ℕ} {s ks : List ℕ} (limits : Limits D M s) where
           go zero w e = absurd (omega arith)
           go (suc k) w e = (k, omega arith, e)
 
-      refused-is : (x : Tallied) → x ≡ judgedBy D M ks (tallyOf before) (readAt s n) → (x .refusal ≡ 0 → ⊥) → answerOf (scan D M [] (reads s)) ≡ Denied (x .refusal) n
+      refused-is : (x : Tallied) → x ≡ judgedBy D M s ks (tallyOf before) (readAt s n) → (x .refusal ≡ 0 → ⊥) → answerOf (scan D M [] (reads s)) ≡ Denied (x .refusal) n
       refused-is x e z = sym (ap answerOf (unrolled .2)) ∙ go (unrolled .0) (readAt s n) refl e
         where
           stop : (on : Judgement) (k : ℕ) (f : Frame) (b : Bool) → k ≡ n → x ≡ cond b (next (tallyOf (before ++ f ∷ []))) (refuse (tallyOf before) (fault D M before f)) → answerOf (cond b on (refused (fault D M before f) k)) ≡ Denied (x .refusal) n
           stop on k f true q e = absurd (z (ap (λ (y : Tallied). y .refusal) e))
           stop on k f false q e = rw (q, e) refl
 
-          go : (j : ℕ) (y : Read) → readAt s n ≡ y → x ≡ judgedBy D M ks (tallyOf before) y → answerOf (judged D M before y (behind j)) ≡ Denied (x .refusal) n
+          go : (j : ℕ) (y : Read) → readAt s n ≡ y → x ≡ judgedBy D M s ks (tallyOf before) y → answerOf (judged D M before y (behind j)) ≡ Denied (x .refusal) n
           go j (Refused a b) h e = rw (refusals-at s n a b l h .0, e) refl
           go j (Line k f) h e = stop (behind j f) k f (eqb (fault D M before f) 0) (read-line (lineAt s n) n k f h .0) (e ∙ judged-is k f h)
 
-      next-is : (x : Tallied) → x ≡ judgedBy D M ks (tallyOf before) (readAt s n) → x .refusal ≡ 0 → (x .tally .lines ≡ suc n) × Reached D M s (keptBy ks (tallyOf before) (readAt s n)) (x .tally)
+      next-is : (x : Tallied) → x ≡ judgedBy D M s ks (tallyOf before) (readAt s n) → x .refusal ≡ 0 → (x .tally .lines ≡ suc n) × Reached D M s (keptBy ks (tallyOf before) (readAt s n)) (x .tally)
       next-is x e z = go (readAt s n) refl e (unrolled .2)
         where
           unread : (a : ℕ) → (a ≡ 5) ⊎ (a ≡ 6) → a ≡ 0 → ⊥
@@ -130,11 +134,12 @@ module _ {D M : ℕ} {s ks : List ℕ} (limits : Limits D M s) where
                 narrow = narrow-snoc before f (r .narrow) (read-narrow s n k f h);
                 room = kept-length ks before (r .keys) f ∙ r .room;
                 keys = kept-is ks before (r .keys) f (omega (arith, r .within, limits .sites-most, r .room));
+                costs = cost-snoc s before k f h;
               } in
               (ap (λ (v : Tally). v .lines) q ∙ one-more f, record { before = before ++ f ∷ []; tally = q; known = k })
           on k f false h b e w = absurd (eqb-false (fault D M before f) 0 b (sym (ap (λ (y : Tallied). y .refusal) e) ∙ z))
 
-          go : (y : Read) → readAt s n ≡ y → x ≡ judgedBy D M ks (tallyOf before) y → judged D M before y (behind (unrolled .0)) ≡ scan D M [] (reads s) → (x .tally .lines ≡ suc n) × Reached D M s (keptBy ks (tallyOf before) y) (x .tally)
+          go : (y : Read) → readAt s n ≡ y → x ≡ judgedBy D M s ks (tallyOf before) y → judged D M before y (behind (unrolled .0)) ≡ scan D M [] (reads s) → (x .tally .lines ≡ suc n) × Reached D M s (keptBy ks (tallyOf before) y) (x .tally)
           go (Refused a b) h e w = absurd (unread a (refusals-at s n a b l h .1) (sym (ap (λ (y : Tallied). y .refusal) e) ∙ z))
           go (Line k f) h e w = on k f (eqb (fault D M before f) 0) h refl (e ∙ judged-is k f h) w
 
@@ -155,12 +160,12 @@ module _ {D M : ℕ} {s ks : List ℕ} (limits : Limits D M s) where
         subst⁻¹ (λ (v : Tally). lineCount s ≤ v .lines → answerOf (scan D M [] (reads s)) ≡ cond (eqb (v .depth) 0) (Accepted (v .sites) (v .lines)) (Denied 14 (v .lines))) (r .tally)
         (end-is (r .known))
 
-    pub reached-refused : t .lines < lineCount s → (x : Tallied) → x ≡ judgedBy D M ks t (readAt s (t .lines)) → (x .refusal ≡ 0 → ⊥) → answerOf (scan D M [] (reads s)) ≡ Denied (x .refusal) (t .lines)
+    pub reached-refused : t .lines < lineCount s → (x : Tallied) → x ≡ judgedBy D M s ks t (readAt s (t .lines)) → (x .refusal ≡ 0 → ⊥) → answerOf (scan D M [] (reads s)) ≡ Denied (x .refusal) (t .lines)
     reached-refused =
-        subst⁻¹ (λ (v : Tally). v .lines < lineCount s → (x : Tallied) → x ≡ judgedBy D M ks v (readAt s (v .lines)) → (x .refusal ≡ 0 → ⊥) → answerOf (scan D M [] (reads s)) ≡ Denied (x .refusal) (v .lines)) (r .tally)
+        subst⁻¹ (λ (v : Tally). v .lines < lineCount s → (x : Tallied) → x ≡ judgedBy D M s ks v (readAt s (v .lines)) → (x .refusal ≡ 0 → ⊥) → answerOf (scan D M [] (reads s)) ≡ Denied (x .refusal) (v .lines)) (r .tally)
         (refused-is (r .known))
 
-    pub reached-next : t .lines < lineCount s → (x : Tallied) → x ≡ judgedBy D M ks t (readAt s (t .lines)) → x .refusal ≡ 0 → (x .tally .lines ≡ suc (t .lines)) × Reached D M s (keptBy ks t (readAt s (t .lines))) (x .tally)
+    pub reached-next : t .lines < lineCount s → (x : Tallied) → x ≡ judgedBy D M s ks t (readAt s (t .lines)) → x .refusal ≡ 0 → (x .tally .lines ≡ suc (t .lines)) × Reached D M s (keptBy ks t (readAt s (t .lines))) (x .tally)
     reached-next =
-        subst⁻¹ (λ (v : Tally). v .lines < lineCount s → (x : Tallied) → x ≡ judgedBy D M ks v (readAt s (v .lines)) → x .refusal ≡ 0 → (x .tally .lines ≡ suc (v .lines)) × Reached D M s (keptBy ks v (readAt s (v .lines))) (x .tally)) (r .tally)
+        subst⁻¹ (λ (v : Tally). v .lines < lineCount s → (x : Tallied) → x ≡ judgedBy D M s ks v (readAt s (v .lines)) → x .refusal ≡ 0 → (x .tally .lines ≡ suc (v .lines)) × Reached D M s (keptBy ks v (readAt s (v .lines))) (x .tally)) (r .tally)
         (next-is (r .known))

@@ -1,6 +1,6 @@
 -- A line's fault by the tally: the step on numbers gives what the refusals say of the line behind the lines before it.
 use mathlib.Core.Path.{_≡_, refl, sym, _∙_, ap}
-use mathlib.Core.Bool.{Bool, true, false, not, cond, _||_}
+use mathlib.Core.Bool.{Bool, true, false, not, cond, _||_, or-false}
 use mathlib.Core.List.{List, [], _∷_, _++_}
 use Prim.Native.Nat.{ℕ, suc, _+_, _-_}
 use native.Mathlib.Omega.{arith}
@@ -8,9 +8,9 @@ use lib.ListN.{length, length-append}
 use lib.Dec.{eqb, ltb, leb}
 use borrow.Author.Tests.{eqb-false, leb-true, leb-false, ne-eqb, lt-ltb, le-ltb}
 use Rattle.line.specs.declared.Frame.{Frame}
-use Rattle.line.specs.declared.Frame.the-variants.{Site, Call, Spawn, Sync, Return, Cost}
+use Rattle.line.specs.declared.Frame.the-variants.{Site, Call, Spawn, Sync, Return, Cost, Instructions}
 use Rattle.trace.specs.Shape.{closed, step, sites}
-use Rattle.trace.specs.Refusals.{openNow, empty, afterRoot, lastSite, placed, placeAgain, declared, fault}
+use Rattle.trace.specs.Refusals.{openNow, empty, afterRoot, afterCost, stray, lastSite, placed, placeAgain, declared, fault}
 use Rattle.trace.proofs.Scan.{now}
 use Rattle.trace.proofs.Sites.{sites-append, Numbered}
 use Rattle.admit.specs.declared.Tally.{Tally}
@@ -98,8 +98,21 @@ site a d q m g r u v t e h k = rw (e, h, k) (go a q m g)
     go false true false true = refl
     go false true false false = refl
 
+-- y: 22 applies
+carry : (a d y r : Bool) (u v t : Tally) → d ≡ a → u ≡ v → r ≡ y → cond d (refuse t 7) (cond r (refuse t 22) (next u)) ≡ outcome (cond a 7 (cond y 22 0)) v t
+carry a d y r u v t e g h = rw (e, g, h) (go a y)
+  where
+    go : (a y : Bool) → cond a (refuse t 7) (cond y (refuse t 22) (next v)) ≡ outcome (cond a 7 (cond y 22 0)) v t
+    go true y = refl
+    go false true = refl
+    go false false = refl
+
+-- what the lines before say against a line: refusals 10 and 22, the first of site lines and the second of 07 lines
+abbrev pub objection : List Frame → Frame → Bool
+objection before f = placeAgain before f || stray before f
+
 -- the step on numbers is what the refusals say
-module _ (D M : ℕ) (before : List Frame) (again : Bool) (h : Numbered before) where
+module _ (D M : ℕ) (before : List Frame) (against : Bool) (h : Numbered before) where
   abbrev n : ℕ
   n = length before
 
@@ -125,14 +138,17 @@ module _ (D M : ℕ) (before : List Frame) (again : Bool) (h : Numbered before) 
       (make (afterRoot before) (eqb (length o) 0) (eqb s 0 || not (declared s before)) (eqb s 0) (ltb (sites before) s) (leb D (length o)) (behind (sites before) (length o + 1)) (tallyOf (before ++ f ∷ [])) t
       (none-open o) (next-is before f (sites before) (length o + 1) (omega (arith, z)) e) (undeclared-is before s h))
 
-  pub step-is : (f : Frame) → again ≡ placeAgain before f → stepped D M again (tallyOf before) f ≡ judgement D M before f
+  pub step-is : (f : Frame) → against ≡ objection before f → stepped D M against (tallyOf before) f ≡ judgement D M before f
   step-is (Site s p) g =
       let e : sites before + 1 ≡ suc (lastSite 0 before) = omega (arith, h .last) in
       rw e
-      (site (afterRoot before) (eqb (length o) 0) (eqb s (suc (lastSite 0 before))) (ltb M s) (placed p before) again (behind (suc (lastSite 0 before)) (length o)) (tallyOf (before ++ Site s p ∷ [])) t
-      (none-open o) (next-is before (Site s p) (suc (lastSite 0 before)) (length o) (omega (arith, h .last)) refl) g)
+      (site (afterRoot before) (eqb (length o) 0) (eqb s (suc (lastSite 0 before))) (ltb M s) (placed p before) against (behind (suc (lastSite 0 before)) (length o)) (tallyOf (before ++ Site s p ∷ [])) t
+      (none-open o) (next-is before (Site s p) (suc (lastSite 0 before)) (length o) (omega (arith, h .last)) refl) (g ∙ or-false (placed p before)))
   step-is (Call s) g = make-is (Call s) s refl (omega arith)
   step-is (Spawn s) g = make-is (Spawn s) s refl (omega arith)
   step-is Sync g = plain-is Sync (length o) refl refl
   step-is Return g = plain-is Return (length o - 1) refl (closed-length o)
   step-is (Cost v) g = plain-is (Cost v) (length o) refl refl
+  step-is (Instructions v) g =
+      carry (afterRoot before) (eqb (length o) 0) (not (afterCost false before)) against (behind (sites before) (length o)) (tallyOf (before ++ Instructions v ∷ [])) t
+      (none-open o) (next-is before (Instructions v) (sites before) (length o) (omega arith) refl) g

@@ -2,16 +2,17 @@
 -- the places so far with their tags.
 use mathlib.Core.Path.{_≡_}
 use Prim.Native.Nat.{ℕ, _+_, _*_, _-_, _/_, _%_, _≤_, _<_}
-use mathlib.Core.Bool.{Bool, false, cond}
+use mathlib.Core.Bool.{Bool, false, not, cond, _&&_, _||_}
 use mathlib.Core.List.{List, map}
 use lib.ListN.{length, take, set}
 use lib.Dec.{eqb, ltb, leb}
 use Rattle.line.specs.declared.Place.{Place}
 use Rattle.line.specs.declared.Frame.{Frame}
-use Rattle.line.specs.declared.Frame.the-variants.{Site, Call, Spawn, Sync, Return, Cost}
+use Rattle.line.specs.declared.Frame.the-variants.{Site, Call, Spawn, Sync, Return, Cost, Instructions}
 use Rattle.line.specs.declared.Read.{Read}
 use Rattle.line.specs.declared.Read.the-variants.{Line, Refused}
-use Rattle.trace.specs.Shape.{ifSite, has, sites}
+use Rattle.line.specs.At.{kindAt}
+use Rattle.trace.specs.Shape.{ifSite, ifInstructions, has, sites}
 use Rattle.trace.specs.Refusals.{lineCount, openNow}
 use Rattle.admit.specs.declared.Tally.{Tally}
 use Rattle.admit.specs.declared.Tallied.{Tallied}
@@ -38,6 +39,18 @@ seen ks n f = ifSite (λ s p. has (key p) (take n ks)) false f
 
 abbrev pub kept : List ℕ → ℕ → Frame → List ℕ
 kept ks n f = ifSite (λ s p. set ks n (key p)) ks f
+
+-- line n of the text s stands directly after a cost line, by the kind of the line before it
+abbrev pub behindCost : List ℕ → ℕ → Bool
+behindCost s n = not (eqb n 0) && eqb (kindAt s (n - 1)) 6
+
+-- and is a 07 line that does not
+abbrev pub strayAt : List ℕ → ℕ → Frame → Bool
+strayAt s n f = ifInstructions (λ v. not (behindCost s n)) false f
+
+-- what the lines before, with this tally and these keys, say against a line of the text s: refusals 10 and 22
+abbrev pub against : List ℕ → List ℕ → Tally → Frame → Bool
+against s ks t f = seen ks (t .sites) f || strayAt s (t .lines) f
 
 -- a line that is refused, behind the tally t: the tally stays as it was
 abbrev pub refuse : Tally → ℕ → Tallied
@@ -68,23 +81,28 @@ entering D s t =
     (cond (leb D (t .depth)) (refuse t 12)
     (onward t (t .sites) (t .depth + 1))))
 
--- a line of an open root, by its kind
+-- a 07 line: refusal 22
+abbrev pub carrying : Bool → Tally → Tallied
+carrying stray t = cond stray (refuse t 22) (onward t (t .sites) (t .depth))
+
+-- a line of an open root, by its kind; a: something stands against it
 abbrev pub inside : ℕ → ℕ → Bool → Tally → Frame → Tallied
-inside D M again t (Site s p) = declaring M again s t
-inside D M again t (Call s) = entering D s t
-inside D M again t (Spawn s) = entering D s t
-inside D M again t Sync = onward t (t .sites) (t .depth)
-inside D M again t Return = onward t (t .sites) (t .depth - 1)
-inside D M again t (Cost v) = onward t (t .sites) (t .depth)
+inside D M a t (Site s p) = declaring M a s t
+inside D M a t (Call s) = entering D s t
+inside D M a t (Spawn s) = entering D s t
+inside D M a t Sync = onward t (t .sites) (t .depth)
+inside D M a t Return = onward t (t .sites) (t .depth - 1)
+inside D M a t (Cost v) = onward t (t .sites) (t .depth)
+inside D M a t (Instructions v) = carrying a t
 
 -- a line, refusal 7 first
 abbrev pub stepped : ℕ → ℕ → Bool → Tally → Frame → Tallied
-stepped D M again t f = cond (eqb (t .depth) 0) (refuse t 7) (inside D M again t f)
+stepped D M a t f = cond (eqb (t .depth) 0) (refuse t 7) (inside D M a t f)
 
--- a line as it reads, and the keys behind it
-abbrev pub judgedBy : ℕ → ℕ → List ℕ → Tally → Read → Tallied
-judgedBy D M ks t (Refused n k) = refuse t n
-judgedBy D M ks t (Line k f) = stepped D M (seen ks (t .sites) f) t f
+-- a line of the text s as it reads, and the keys behind it
+abbrev pub judgedBy : ℕ → ℕ → List ℕ → List ℕ → Tally → Read → Tallied
+judgedBy D M s ks t (Refused n k) = refuse t n
+judgedBy D M s ks t (Line k f) = stepped D M (against s ks t f) t f
 
 abbrev pub keptBy : List ℕ → Tally → Read → List ℕ
 keptBy ks t (Refused n k) = ks

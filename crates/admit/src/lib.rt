@@ -10,11 +10,13 @@ ghost use mathlib.Core.List.{[]};
 ghost use Prim.Native.Nat.{_≤_, _<_};
 ghost use lib.ListN.{length};
 ghost use Rattle.line.specs.Read.{readAt};
+ghost use Rattle.line.specs.Seeing.{glanced};
+ghost use Rattle.line.specs.declared.Sight.the-variants.{Other};
 ghost use Rattle.trace.specs.Shape.{has};
 ghost use Rattle.trace.specs.Refusals.{scan, reads, verdict};
 ghost use Rattle.trace.specs.Promise.{Engine, rowsRoom};
 ghost use Rattle.admit.specs.Answer.{answerOf, admission, opening};
-ghost use Rattle.admit.specs.Step.{key, tag, tagsOf, seen, kept, refuse, onward, declaring, entering, stepped, judgedBy, keptBy, Small, Within, Limits};
+ghost use Rattle.admit.specs.Step.{key, tag, tagsOf, seen, kept, behindCost, strayAt, refuse, onward, declaring, entering, carrying, stepped, judgedBy, keptBy, Small, Within, Limits};
 
 // What acceptance answers: the numbers of sites and of lines, or a refusal's number and line.
 pub enum Verdict {
@@ -110,6 +112,26 @@ fn again(keys: &mut [u64], tags: &mut [u16], count: usize, frame: Frame) -> bool
     }
 }
 
+// Whether line n stands directly after a cost line. The lines before it are accepted: their kind tells.
+fn behind_cost(trace: &[u8], n: usize) -> bool
+    ensures { λ r. ⌜ r ≡ behindCost (now (trace .entry)) n ⌝ }
+{
+    if n == 0 {
+        return false;
+    }
+    line::kind_at(trace, n - 1) == 6
+}
+
+// Whether line n is "a 07 line not directly after a cost". For a line of another kind the line before is not looked at.
+fn stray(trace: &[u8], n: usize, frame: Frame) -> bool
+    ensures { λ r. ⌜ r ≡ strayAt (now (trace .entry)) n frame ⌝ }
+{
+    match frame {
+        Frame::Instructions(_) => !behind_cost(trace, n),
+        _ => false,
+    }
+}
+
 // A line that is refused: the tally stays as it was.
 fn refuse(t: Tally, number: u8) -> Tallied
     ensures { λ r. ⌜ r ≡ refuse t number ⌝ }
@@ -167,48 +189,61 @@ fn enter(t: Tally, site: usize, limit: usize) -> Tallied
     onward(t, t.sites, t.depth + 1)
 }
 
-// A line by its kind: the tally behind it, or the smallest refusal from 7 to 12 that applies.
-fn step(t: Tally, frame: Frame, again: bool, depth: usize, sites: usize) -> Tallied
+// A 07 line: refusal 22.
+fn carry(t: Tally, stray: bool) -> Tallied
+    requires { ⌜ t .lines < 65536 ⌝ }
+    ensures { λ r. ⌜ r ≡ carrying stray t ⌝ }
+{
+    if stray {
+        return refuse(t, 22);
+    }
+    onward(t, t.sites, t.depth)
+}
+
+// A line by its kind: the tally behind it, or the first of refusals 7, 22 and 8 to 12 that applies. `against` is what
+// the lines before say against it: its place is declared already, or it is a 07 line that is not directly after a cost.
+fn step(t: Tally, frame: Frame, against: bool, depth: usize, sites: usize) -> Tallied
     requires { ⌜ Small depth t ⌝ }
-    ensures { λ r. ⌜ r ≡ stepped depth sites again t frame ⌝ }
+    ensures { λ r. ⌜ r ≡ stepped depth sites against t frame ⌝ }
 {
     if t.depth == 0 {
         return refuse(t, 7);
     }
     match frame {
-        Frame::Site(site, _) => declare(t, site as usize, again, sites),
+        Frame::Site(site, _) => declare(t, site as usize, against, sites),
         Frame::Call(site) => enter(t, site as usize, depth),
         Frame::Spawn(site) => enter(t, site as usize, depth),
         Frame::Sync => onward(t, t.sites, t.depth),
         Frame::Return => onward(t, t.sites, t.depth - 1),
         Frame::Cost(_) => onward(t, t.sites, t.depth),
+        Frame::Instructions(_) => carry(t, against),
     }
 }
 
 // "A tally of lines, sites and open depth is kept up to date at each line": the same step on a tally that is lent.
 // The answer is 0 or the refusal.
-fn update(tally: &mut Tally, frame: Frame, again: bool, depth: usize, sites: usize) -> u8
+fn update(tally: &mut Tally, frame: Frame, against: bool, depth: usize, sites: usize) -> u8
     requires { ⌜ Small depth (now tally) ⌝ }
-    ensures { λ r. ⌜ (r ≡ stepped depth sites again (now (tally .entry)) frame .refusal)
-        × (now (tally .exit) ≡ stepped depth sites again (now (tally .entry)) frame .tally) ⌝ }
+    ensures { λ r. ⌜ (r ≡ stepped depth sites against (now (tally .entry)) frame .refusal)
+        × (now (tally .exit) ≡ stepped depth sites against (now (tally .entry)) frame .tally) ⌝ }
 {
-    let next = step(*tally, frame, again, depth, sites);
+    let next = step(*tally, frame, against, depth, sites);
     *tally = next.tally;
     next.refusal
 }
 
 // The same step from value to value: it lends a tally of its own, so that no caller has to.
-fn updated(t: Tally, frame: Frame, again: bool, depth: usize, sites: usize) -> Tallied
+fn updated(t: Tally, frame: Frame, against: bool, depth: usize, sites: usize) -> Tallied
     requires { ⌜ Small depth t ⌝ }
-    ensures { λ r. ⌜ r ≡ stepped depth sites again t frame ⌝ }
+    ensures { λ r. ⌜ r ≡ stepped depth sites against t frame ⌝ }
 {
     let mut tally = t;
-    let refusal = update(&mut tally, frame, again, depth, sites);
+    let refusal = update(&mut tally, frame, against, depth, sites);
     Tallied { refusal, tally }
 }
 
-// A line of the trace, read whole and judged with the lines before it: their tally, and the keys and tags of their
-// places.
+// A line of the trace that a glance does not see, read whole and judged with the lines before it: their tally, and the
+// keys and tags of their places.
 fn judge_whole(
     trace: &[u8],
     keys: &mut [u64],
@@ -217,8 +252,8 @@ fn judge_whole(
     depth: usize,
     sites: usize,
 ) -> Tallied
-    requires { ⌜ Within depth (now keys) (now tags) t ⌝ }
-    ensures { λ r. ⌜ (r ≡ judgedBy depth sites (now (keys .entry)) t (readAt (now (trace .entry)) (t .lines)))
+    requires { ⌜ Within depth (now keys) (now tags) t × (glanced (readAt (now trace) (t .lines)) ≡ Other) ⌝ }
+    ensures { λ r. ⌜ (r ≡ judgedBy depth sites (now (trace .entry)) (now (keys .entry)) t (readAt (now (trace .entry)) (t .lines)))
         × ((now (keys .exit) ≡ keptBy (now (keys .entry)) t (readAt (now (trace .entry)) (t .lines)))
         × (now (tags .exit) ≡ tagsOf (keptBy (now (keys .entry)) t (readAt (now (trace .entry)) (t .lines))))) ⌝ }
 {
@@ -231,7 +266,7 @@ fn judge_whole(
     }
 }
 
-// The same, where a glance at the line is enough without reading it whole.
+// A line of the trace, judged with the lines before it. Where a glance sees it, it is not read whole.
 fn judge(
     trace: &[u8],
     keys: &mut [u64],
@@ -241,12 +276,15 @@ fn judge(
     sites: usize,
 ) -> Tallied
     requires { ⌜ Within depth (now keys) (now tags) t ⌝ }
-    ensures { λ r. ⌜ (r ≡ judgedBy depth sites (now (keys .entry)) t (readAt (now (trace .entry)) (t .lines)))
+    ensures { λ r. ⌜ (r ≡ judgedBy depth sites (now (trace .entry)) (now (keys .entry)) t (readAt (now (trace .entry)) (t .lines)))
         × ((now (keys .exit) ≡ keptBy (now (keys .entry)) t (readAt (now (trace .entry)) (t .lines)))
         × (now (tags .exit) ≡ tagsOf (keptBy (now (keys .entry)) t (readAt (now (trace .entry)) (t .lines))))) ⌝ }
 {
     match line::glance(trace, t.lines) {
-        Sight::Seen(frame) => updated(t, frame, false, depth, sites),
+        Sight::Seen(frame) => {
+            let against = stray(trace, t.lines, frame);
+            updated(t, frame, against, depth, sites)
+        }
         Sight::Other => judge_whole(trace, keys, tags, t, depth, sites),
     }
 }
@@ -299,7 +337,7 @@ pub fn opening(bytes: usize, depth: usize, sites: usize) -> u8
     0
 }
 
-// "5·(M+1) row numbers"
+// "5·(M+1) row numbers"; 02, request l: "every row room with five reads seven"
 fn rows_room(sites: usize) -> usize
     requires { ⌜ sites ≤ 255 ⌝ }
     ensures { λ r. ⌜ r ≡ rowsRoom sites ⌝ }
@@ -315,7 +353,7 @@ pub fn for_tables(trace: &[u8], depth: usize, sites: usize, scratch: usize, rows
     if first != 0 {
         return Verdict::Refused(first, 0);
     }
-    if scratch < 4 * depth * (sites + 3) {
+    if scratch < trace::SCRATCH * depth * (sites + 3) {
         return Verdict::Refused(4, 0);
     }
     if rows < rows_room(sites) {

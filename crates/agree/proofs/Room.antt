@@ -12,7 +12,7 @@ use Rattle.line.specs.declared.Read.{Read}
 use Rattle.line.specs.declared.Read.the-variants.{Line, Refused}
 use Rattle.line.specs.Table.{Entry, frame, none, table}
 use Rattle.line.specs.Read.{fields, wrong, tabled, readLine, lineAt, readAt}
-use Rattle.trace.specs.Refusals.{lineCount, afterRoot, misplaced, aboveM, placeAgain, undeclared, tooDeep, fault, Verdict, accepted, refused, judged, scan, readsFrom, verdict}
+use Rattle.trace.specs.Refusals.{lineCount, afterRoot, stray, misplaced, aboveM, placeAgain, undeclared, tooDeep, fault, Verdict, accepted, refused, judged, scan, readsFrom, verdict}
 use Rattle.trace.specs.Promise.{Engine, refusal}
 use Rattle.trace.proofs.Basics.{clash, no-way}
 use Rattle.trace.proofs.Checks.{passed, room-last, by-checks}
@@ -31,14 +31,15 @@ read-never s n m k e h = go (eqb (length s) 23) (wrong s) (table (fields s)) e
     go true false none q = let y : 6 ≡ m = cc in omega arith
     go false b x q = let y : 2 ≡ m = cc in omega arith
 
-fault-never : (a b c d e f : Bool) → _≡_ {A = ℕ} (cond a 7 (cond b 8 (cond c 9 (cond d 10 (cond e 11 (cond f 12 0)))))) 4 → ⊥
-fault-never true b c d e f q = omega arith
-fault-never false true c d e f q = omega arith
-fault-never false false true d e f q = omega arith
-fault-never false false false true e f q = omega arith
-fault-never false false false false true f q = omega arith
-fault-never false false false false false true q = omega arith
-fault-never false false false false false false q = omega arith
+fault-never : (a b c d e f g : Bool) → _≡_ {A = ℕ} (cond a 7 (cond b 22 (cond c 8 (cond d 9 (cond e 10 (cond f 11 (cond g 12 0))))))) 4 → ⊥
+fault-never true b c d e f g q = omega arith
+fault-never false true c d e f g q = omega arith
+fault-never false false true d e f g q = omega arith
+fault-never false false false true e f g q = omega arith
+fault-never false false false false true f g q = omega arith
+fault-never false false false false false true g q = omega arith
+fault-never false false false false false false true q = omega arith
+fault-never false false false false false false false q = omega arith
 
 scan-never : (D M : ℕ) (s : List ℕ) (before : List Frame) (n count k : ℕ) → scan D M before (readsFrom s n count) ≡ refused 4 k → ⊥
 scan-never D M s before n zero k e = go (afterRoot before) e
@@ -55,7 +56,7 @@ scan-never D M s before n (suc count) k e = go (λ f. scan-never D M s (before +
     on j f true rec q = rec q
     on j f false rec q =
         let y : fault D M before f ≡ 4 = cc in
-        fault-never (afterRoot before) (misplaced before f) (aboveM M f) (placeAgain before f) (undeclared before f) (tooDeep D before f) y
+        fault-never (afterRoot before) (stray before f) (misplaced before f) (aboveM M f) (placeAgain before f) (undeclared before f) (tooDeep D before f) y
 
     go : ((f : Frame) → scan D M (before ++ f ∷ []) rs ≡ refused 4 k → ⊥) → (r : Read) → readAt s n ≡ r → judged D M before r (λ f. scan D M (before ++ f ∷ []) rs) ≡ refused 4 k → ⊥
     go rec (Refused m j) r q = (let y : m ≡ 4 = cc in read-never (lineAt s n) n m j r y)

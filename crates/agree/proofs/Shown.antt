@@ -1,24 +1,31 @@
 -- The marked lines are the chosen chain, which is what demand 3 asks of them, and nothing else is.
-use mathlib.Core.Path.{_≡_, refl, sym, _∙_, ap}
-use mathlib.Core.Bool.{Bool, true, false, cond}
+use mathlib.Core.Path.{_≡_, refl, sym, _∙_, ap, subst}
+use mathlib.Core.Bool.{Bool, true, false, cond, _||_}
 use mathlib.Core.List.{List, [], _∷_}
 use Prim.Native.Nat.{ℕ, zero, suc, _≤_, _<_}
 use native.Mathlib.Omega.{arith}
 use lib.ListN.{length, getD}
 use lib.Dec.{eqb}
+use borrow.Author.Tests.{ne-eqb}
 use Rattle.line.specs.declared.Frame.{Frame}
-use Rattle.line.specs.declared.Frame.the-variants.{Cost}
+use Rattle.line.specs.declared.Frame.the-variants.{Cost, Instructions}
 use Rattle.chain.specs.Over.{Each, EachTwo}
 use Rattle.trace.specs.declared.Answer.{Answer}
-use Rattle.trace.specs.Shape.{root, has, sites}
+use Rattle.trace.specs.Shape.{Is, root, has, sites}
 use Rattle.trace.specs.Series.{valueAt, Series, CostIn, Chain, weight, Span, Chosen}
+use Rattle.trace.specs.Rows.{cycles, instructions, local, onSpan, ilocal, ionSpan}
 use Rattle.trace.specs.Column.{Column, slot}
+use Rattle.trace.specs.Tree.{Parts}
 use Rattle.trace.specs.Promise.{Engine, Lent, acceptance, Marks, Profile}
+use Rattle.trace.proofs.Basics.{clash}
+use Rattle.trace.proofs.Sums.{upTo}
 use Rattle.trace.proofs.Chains.{is-length}
+use Rattle.trace.proofs.Declared.{is-one}
+use Rattle.trace.proofs.OnChain.{locals-add-up, ilocals-add-up, on-spans-add-up, ion-spans-add-up}
 use Rattle.trace.proofs.Unique.{span-unique, chosen-unique}
-use Rattle.agree.specs.Shown.{marked, costsInRow, Shown}
+use Rattle.agree.specs.Shown.{marked, costsInRow, columnTo, AddUp, Shown}
 use Rattle.agree.proofs.Picked.{Among, each-map, where-same, where-has, has-where}
-use Rattle.agree.proofs.InRow.{on-span-along}
+use Rattle.agree.proofs.InRow.{on-span-along, all-along}
 
 -- ── a chain is ascending, and its lines are the trace's ──
 
@@ -28,6 +35,14 @@ chain-up t (x ∷ c) h = (each-map (Series t x) (λ z. x < z) (λ z k. k .0) c (
 
 pub chain-within : (t : List Frame) (c : List ℕ) → Chain t root c → Each (Among 0 (length t)) c
 chain-within t c h = each-map (CostIn t root) (Among 0 (length t)) (λ k i. (omega arith, omega (arith, is-length t k (Cost (valueAt t k)) (i .is)))) c (h .costs)
+
+-- a 07 line is on no chain
+not-carried : (t : List Frame) (k v : ℕ) (c : List ℕ) → Is t k (Instructions v) → Each (CostIn t root) c → has k c ≡ false
+not-carried t k v [] i h = refl
+not-carried t k v (x ∷ c) i h =
+    ap (λ (b : Bool). b || has k c)
+    (ne-eqb k x (λ q. (let e : Instructions v ≡ Cost (valueAt t x) = is-one t x (Instructions v) (Cost (valueAt t x)) (subst (λ (j : ℕ). Is t j (Instructions v)) q i) (h .0 .is) in clash (cc))))
+    ∙ not-carried t k v c i (h .1)
 
 -- ── the marked lines ──
 
@@ -39,6 +54,10 @@ module _ (t : List Frame) (c before after : List ℕ) (h : Marks (length t) c be
       go : (b : Bool) → getD after k 0 ≡ cond b 1 0 → getD after k 0 ≤ 1
       go true e = omega arith
       go false e = omega arith
+
+  -- LAW: "A 07 line's mark is 0."
+  pub carried-unmarked : Chain t root c → (k v : ℕ) → Is t k (Instructions v) → getD after k 0 ≡ 0
+  carried-unmarked q k v i = h .marks-are k (is-length t k (Instructions v) i) ∙ ap (λ (b : Bool). cond b 1 0) (not-carried t k v c i (q .costs))
 
   -- and 1 on the chain
   mark-one : (k : ℕ) → k < length t → eqb (getD after k 0) 1 ≡ has k c
@@ -58,18 +77,45 @@ module _ (t : List Frame) (c before after : List ℕ) (h : Marks (length t) c be
 pub chosen-span : (t : List Frame) (c : List ℕ) → Chosen t c → Span t root (weight t c)
 chosen-span t c h = record { chain = c; is-chain = h .chain; weighs = refl; greatest = h .heaviest }
 
--- LAW: beside an answer and rows that are those of the chosen chain, it is what demand 3 asks
-pub chain-shown : (e : Engine) (t : List Frame) (before : Lent) (r : Answer) (after : Lent) (h : Profile e t before r after) → Shown t r (after .rows) (h .chain)
-chain-shown e t before r after h =
-    record {
-      chain = h .chosen .chain;
-      row-by-row = λ s l. sym (h .rows .rows-are s l .on-span-is ∙ on-span-along t (h .chain) s (chain-up t (h .chain) (h .chosen .chain .series)) (chain-within t (h .chain) (h .chosen .chain)));
-      in-total = h .answer ∙ ap (acceptance t) (span-unique t root (h .span) (weight t (h .chain)) (h .is-span) (chosen-span t (h .chain) (h .chosen)));
-      heaviest = h .chosen .heaviest;
-      first = h .chosen .first;
-    }
+-- one column of the rows, by what each row has there
+column-is : (rows : List ℕ) (k : Column) (f : ℕ → ℕ) (s : ℕ) → ((i : ℕ) → i ≤ s → getD rows (slot i k) 0 ≡ f i) → columnTo rows k s ≡ upTo f s
+column-is rows k f zero h = h 0 (omega arith)
+column-is rows k f (suc s) h = omega (arith, h (suc s) (omega arith), column-is rows k f s (λ i l. h i (omega arith)))
 
--- ── the demand determines the chain, the answer, the on-span column and the marks ──
+module _ (e : Engine) (D : ℕ) (t : List Frame) (p : Parts D t) (before : Lent) (r : Answer) (after : Lent) (h : Profile e t before r after) where
+  abbrev c : List ℕ
+  c = h .chain
+
+  up : EachTwo (λ i j. i < j) c
+  up = chain-up t c (h .chosen .chain .series)
+
+  within : Each (Among 0 (length t)) c
+  within = chain-within t c (h .chosen .chain)
+
+  -- LAW: the columns add up
+  pub columns-add-up : AddUp t (after .rows) (h .chain)
+  columns-add-up =
+      record {
+        local = column-is (after .rows) Column.local (local t) (sites t) (λ s l. h .rows .rows-are s l .local-is) ∙ locals-add-up D t p;
+        on-span = column-is (after .rows) Column.onSpan (onSpan t c) (sites t) (λ s l. h .rows .rows-are s l .on-span-is) ∙ on-spans-add-up D t p c (h .chosen) (weight t c) (chosen-span t c (h .chosen));
+        ilocal = column-is (after .rows) Column.ilocal (ilocal t) (sites t) (λ s l. h .rows .rows-are s l .ilocal-is) ∙ ilocals-add-up D t p;
+        ion-span = column-is (after .rows) Column.ionSpan (ionSpan t c) (sites t) (λ s l. h .rows .rows-are s l .ion-span-is) ∙ ion-spans-add-up D t p c ∙ all-along instructions t c up within;
+      }
+
+  -- LAW: beside an answer and rows that are those of the chosen chain, it is what demand 3 asks
+  pub chain-shown : Shown t r (after .rows) (h .chain)
+  chain-shown =
+      record {
+        chain = h .chosen .chain;
+        row-by-row = λ s l. sym (h .rows .rows-are s l .on-span-is ∙ on-span-along cycles t c up within s);
+        instructions-by-row = λ s l. sym (h .rows .rows-are s l .ion-span-is ∙ on-span-along instructions t c up within s);
+        in-total = h .answer ∙ ap (acceptance t) (span-unique t root (h .span) (weight t c) (h .is-span) (chosen-span t c (h .chosen)));
+        heaviest = h .chosen .heaviest;
+        first = h .chosen .first;
+        columns = columns-add-up;
+      }
+
+-- ── the demand determines the chain, the answer, the on-span columns and the marks ──
 
 -- LAW: what is shown is the chosen chain
 pub shown-chosen : (t : List Frame) (r : Answer) (rows c : List ℕ) → Shown t r rows c → Chosen t c
@@ -86,7 +132,11 @@ module _ (t : List Frame) (r q : Answer) (rows rows′ c d : List ℕ) (h : Show
 
   -- LAW
   pub one-column : (s : ℕ) → s ≤ sites t → getD rows (slot s Column.onSpan) 0 ≡ getD rows′ (slot s Column.onSpan) 0
-  one-column s l = sym (h .row-by-row s l) ∙ ap (costsInRow t s) one-chain ∙ k .row-by-row s l
+  one-column s l = sym (h .row-by-row s l) ∙ ap (costsInRow cycles t s) one-chain ∙ k .row-by-row s l
+
+  -- LAW
+  pub one-icolumn : (s : ℕ) → s ≤ sites t → getD rows (slot s Column.ionSpan) 0 ≡ getD rows′ (slot s Column.ionSpan) 0
+  one-icolumn s l = sym (h .instructions-by-row s l) ∙ ap (costsInRow instructions t s) one-chain ∙ k .instructions-by-row s l
 
 -- LAW: marks that are 0 or 1 and show the same lines are equal
 pub one-marking : (n : ℕ) (m m′ : List ℕ) → ((k : ℕ) → k < n → getD m k 0 ≤ 1) → ((k : ℕ) → k < n → getD m′ k 0 ≤ 1) → marked m n ≡ marked m′ n → (k : ℕ) → k < n → getD m k 0 ≡ getD m′ k 0

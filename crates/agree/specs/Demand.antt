@@ -5,8 +5,10 @@ use mathlib.Core.Bool.{true}
 use mathlib.Core.List.{List}
 use lib.ListN.{length, getD}
 use Rattle.line.specs.declared.Frame.{Frame}
+use Rattle.line.specs.declared.Frame.the-variants.{Instructions}
 use Rattle.trace.specs.declared.Answer.{Answer}
 use Rattle.trace.specs.declared.Answer.the-variants.{Accepted, Refused}
+use Rattle.trace.specs.Shape.{Is}
 use Rattle.trace.specs.Rows.{columns}
 use Rattle.trace.specs.Refusals.{accepted, verdict}
 use Rattle.trace.specs.Promise.{Engine, tables, marks, Lent, enough, Promise}
@@ -30,7 +32,7 @@ HasRoom e s D M x = enough e s D M (x .lent) ≡ true
 pub record Agree (x y : Run) : Type 0 where
   -- "equal answers"
   pub answers : x .answer ≡ y .answer
-  -- "Row numbers 0 to 5·(sites+1)-1 hold the rows": "and rows"
+  -- "Row numbers 0 to 5·(sites+1)-1", with seven for five, "hold the rows": "and rows"
   pub rows : (work span sites lines : ℕ) → x .answer ≡ Accepted work span sites lines → (i : ℕ) → i < columns * (sites + 1) → getD (x .left .rows) i 0 ≡ getD (y .left .rows) i 0
   -- the others are as each was lent them
   pub own : (work span sites lines : ℕ) → x .answer ≡ Accepted work span sites lines → (i : ℕ) → columns * (sites + 1) ≤ i
@@ -45,6 +47,8 @@ pub record DemandThree (s : List ℕ) (D M : ℕ) (x y : Run) : Type 0 where
   pub agree : HasRoom tables s D M x → HasRoom marks s D M y → Agree x y
   -- each line is marked or not
   pub zero-or-one : (t : List Frame) → HasRoom marks s D M y → verdict s D M true ≡ accepted t → (k : ℕ) → k < length t → getD (y .left .marks) k 0 ≤ 1
+  -- 02, request l: "A 07 line's mark is 0."
+  pub unmarked : (t : List Frame) → HasRoom marks s D M y → verdict s D M true ≡ accepted t → (k v : ℕ) → Is t k (Instructions v) → getD (y .left .marks) k 0 ≡ 0
   -- "The marks show one chain ...": beside the answer and rows of the marks engine itself
   pub shown : (t : List Frame) → HasRoom marks s D M y → verdict s D M true ≡ accepted t → Shown t (y .answer) (y .left .rows) (marked (y .left .marks) (length t))
   -- and beside those of the table engine

@@ -1,5 +1,5 @@
 -- What the marks show of an accepted trace.
-use Prim.Native.Nat.{ℕ, zero, suc, _≤_}
+use Prim.Native.Nat.{ℕ, zero, suc, _+_, _≤_}
 use mathlib.Core.Path.{_≡_}
 use mathlib.Core.Logic.{_⊎_}
 use mathlib.Core.Bool.{Bool, false, cond}
@@ -10,8 +10,8 @@ use Rattle.line.specs.declared.Frame.{Frame}
 use Rattle.chain.specs.Over.{Before}
 use Rattle.trace.specs.declared.Answer.{Answer}
 use Rattle.trace.specs.Shape.{root, openAt, has, sites}
-use Rattle.trace.specs.Series.{valueAt, Chain, weight}
-use Rattle.trace.specs.Rows.{ofRow, sum}
+use Rattle.trace.specs.Series.{Chain, weight}
+use Rattle.trace.specs.Rows.{ofRow, Measure, cycles, instructions, total, itotal, sum}
 use Rattle.trace.specs.Column.{Column, slot}
 use Rattle.trace.specs.Promise.{acceptance}
 
@@ -33,19 +33,45 @@ firstOf l (F ∷ o) = has F l
 abbrev pub inRow : List Frame → ℕ → ℕ → Bool
 inRow t s k = firstOf (ofRow t s) (openAt t k)
 
--- the costs of those of the lines c that stand directly in the invocations of row s
-abbrev pub costsInRow : List Frame → ℕ → List ℕ → ℕ
-costsInRow t s c = sum (λ k. cond (inRow t s k) (valueAt t k) 0) c
+-- what line k comes to in a measure
+abbrev pub atLine : Measure → List Frame → ℕ → ℕ
+atLine m [] k = 0
+atLine m (e ∷ t) zero = m e t
+atLine m (e ∷ t) (suc k) = atLine m t k
+
+-- what those of the lines c that stand directly in the invocations of row s come to in a measure
+abbrev pub costsInRow : Measure → List Frame → ℕ → List ℕ → ℕ
+costsInRow m t s c = sum (λ k. cond (inRow t s k) (atLine m t k) 0) c
+
+-- one column of the rows 0 to s together
+abbrev pub columnTo : List ℕ → Column → ℕ → ℕ
+columnTo rows k zero = getD rows (slot 0 k) 0
+columnTo rows k (suc s) = getD rows (slot (suc s) k) 0 + columnTo rows k s
+
+-- the columns of all rows of the trace t, of which the lines c are marked
+pub record AddUp (t : List Frame) (rows c : List ℕ) : Type 0 where
+  -- 01: "Column 4 adds up to the total work"
+  pub local : columnTo rows Column.local (sites t) ≡ total t
+  -- "and column 5 to the total span", which is what the marked lines weigh
+  pub on-span : columnTo rows Column.onSpan (sites t) ≡ weight t c
+  -- 02, request l: column 6 to all instructions
+  pub ilocal : columnTo rows Column.ilocal (sites t) ≡ itotal t
+  -- and column 7 to those of the marked lines
+  pub ion-span : columnTo rows Column.ionSpan (sites t) ≡ sum (atLine instructions t) c
 
 -- the marked lines c of the trace t, beside the answer r and the rows
 pub record Shown (t : List Frame) (r : Answer) (rows c : List ℕ) : Type 0 where
   -- "The marks show one chain"
   pub chain : Chain t root c
   -- "whose costs add up, row by row, to the on-span column"
-  pub row-by-row : (s : ℕ) → s ≤ sites t → costsInRow t s c ≡ getD rows (slot s Column.onSpan) 0
+  pub row-by-row : (s : ℕ) → s ≤ sites t → costsInRow cycles t s c ≡ getD rows (slot s Column.onSpan) 0
+  -- 02, request l: "Demand 3's sums hold for instructions by row"
+  pub instructions-by-row : (s : ℕ) → s ≤ sites t → costsInRow instructions t s c ≡ getD rows (slot s Column.ionSpan) 0
   -- "and in total to the span"
   pub in-total : r ≡ acceptance t (weight t c)
   -- "no chain is heavier"
   pub heaviest : (d : List ℕ) → Chain t root d → weight t d ≤ weight t c
   -- "and among equals it is the first by line number"
   pub first : (d : List ℕ) → Chain t root d → weight t d ≡ weight t c → (d ≡ c) ⊎ Before c d
+  -- and the columns add up
+  pub columns : AddUp t rows c

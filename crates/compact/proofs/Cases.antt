@@ -12,4 +12,4 @@ by t u e = subst (Compacted t) e (compact-is t)
 
 -- LAW
 pub all-hold : AllHold cases
-all-hold = (by _ _ refl, by _ _ refl, (by _ _ refl, by _ _ refl, (by _ _ refl, by _ _ refl, (by _ _ refl, by _ _ refl, (by _ _ refl, by _ _ refl, (by _ _ refl, by _ _ refl, (by _ _ refl, by _ _ refl, (by _ _ refl, by _ _ refl, (by _ _ refl, by _ _ refl, (by _ _ refl, by _ _ refl, (by _ _ refl, by _ _ refl, (by _ _ refl, by _ _ refl, (by _ _ refl, by _ _ refl, (by _ _ refl, by _ _ refl, (by _ _ refl, by _ _ refl, (by _ _ refl, by _ _ refl, (by _ _ refl, by _ _ refl, tt)))))))))))))))))
+all-hold = (by _ _ refl, by _ _ refl, (by _ _ refl, by _ _ refl, (by _ _ refl, by _ _ refl, (by _ _ refl, by _ _ refl, (by _ _ refl, by _ _ refl, (by _ _ refl, by _ _ refl, (by _ _ refl, by _ _ refl, (by _ _ refl, by _ _ refl, (by _ _ refl, by _ _ refl, (by _ _ refl, by _ _ refl, (by _ _ refl, by _ _ refl, (by _ _ refl, by _ _ refl, (by _ _ refl, by _ _ refl, (by _ _ refl, by _ _ refl, (by _ _ refl, by _ _ refl, (by _ _ refl, by _ _ refl, (by _ _ refl, by _ _ refl, (by _ _ refl, by _ _ refl, (by _ _ refl, by _ _ refl, (by _ _ refl, by _ _ refl, (by _ _ refl, by _ _ refl, (by _ _ refl, by _ _ refl, (by _ _ refl, by _ _ refl, tt)))))))))))))))))))))))

@@ -1,3 +1,4 @@
+pub mod Pairs
 pub mod Lines
 pub mod Sums
 pub mod Same

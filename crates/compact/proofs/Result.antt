@@ -6,26 +6,28 @@ use mathlib.Core.Bool.{Bool, true, false, cond}
 use mathlib.Core.List.{List, [], _∷_}
 use Prim.Native.Nat.{ℕ, zero, suc, _+_, _≤_}
 use native.Mathlib.Omega.{arith}
-use lib.Dec.{leb}
 use lib.ListN.{length}
-use borrow.Author.Tests.{le-leb, leb-true}
+use borrow.Author.Tests.{le-leb}
 use Rattle.line.specs.declared.Frame.{Frame}
-use Rattle.line.specs.declared.Frame.the-variants.{Site, Call, Spawn, Sync, Return, Cost}
+use Rattle.line.specs.declared.Frame.the-variants.{Site, Call, Spawn, Sync, Return, Cost, Instructions}
 use Rattle.line.specs.declared.Wrote.{Wrote}
 use Rattle.line.specs.Write.{writable}
-use Rattle.line.proofs.Writable.{writable-cost}
+use Rattle.line.proofs.Writable.{writable-value}
+use Rattle.trace.specs.Rows.{carried}
 use Rattle.trace.specs.Refusals.{Verdict, accepted, refused, verdict}
 use Rattle.trace.specs.Written.{textOf}
 use Rattle.trace.proofs.Basics.{clash}
 use Rattle.trace.proofs.Scan.{Fine, accepted-fine, accepted-same, accepted-length}
 use Rattle.trace.proofs.Parse.{parts}
 use Rattle.trace.proofs.Written.{Writable, text-length, text-accepted, accepted-writable}
+use Rattle.trace.proofs.Owned.{Owned, accepted-owned}
 use Rattle.report.specs.Room.{Writes}
 use Rattle.report.proofs.Decisions.{one-outcome}
-use Rattle.compact.specs.Compact.{mostValue, summed, mergedFrom, Compacted}
+use Rattle.compact.specs.Compact.{mostValue, bothFit, carrying, summed, mergedFrom, Compacted}
 use Rattle.compact.specs.Promise.{shelved, Shelved, Compacts}
 use Rattle.compact.specs.Unchanged.{Unchanged}
 use Rattle.compact.specs.Fold.{idle, since, keptFrom, kept, compact}
+use Rattle.compact.proofs.Pairs.{Fit, Over, fit-either}
 use Rattle.compact.proofs.Tied.{compact-is, compact-only}
 use Rattle.compact.proofs.Laws.{compact-fine, compact-unchanged, never-longer, twice-is-once}
 
@@ -39,43 +41,77 @@ kept-writable (f ∷ t) o h = go (idle f o t) (kept-writable t (since f o) (h .1
     go true k = k
     go false k = (h .0, k)
 
--- a sum that is none or can be written
-abbrev Held : ℕ → Type 0
-Held h = (h ≡ 0) ⊎ (writable (Cost h) ≡ true)
+-- a sum that is none or can be written, of costs and of their instructions
+abbrev Held : (ℕ → Frame) → ℕ → Type 0
+Held line h = (h ≡ 0) ⊎ (writable (line h) ≡ true)
 
-summed-writable : (h : ℕ) (t : List Frame) → Held h → Writable t → Writable (summed h t)
-summed-writable zero t h k = k
-summed-writable (suc h) t (inl e) k = absurd (omega arith)
-summed-writable (suc h) t (inr w) k = (w, k)
+carrying-writable : (j : ℕ) (t : List Frame) → Held Instructions j → Writable t → Writable (carrying j t)
+carrying-writable zero t n k = k
+carrying-writable (suc j) t (inl e) k = absurd (omega arith)
+carrying-writable (suc j) t (inr w) k = (w, k)
 
-fitting-held : (n : ℕ) → n ≤ mostValue → Held n
-fitting-held zero l = inl refl
-fitting-held (suc n) l = inr (writable-cost (suc n) (omega arith) ∙ le-leb 1 (suc n) (omega arith))
+summed-writable : (h j : ℕ) (t : List Frame) → Held Cost h → Held Instructions j → Writable t → Writable (summed h j t)
+summed-writable zero j t l n k = k
+summed-writable (suc h) j t (inl e) n k = absurd (omega arith)
+summed-writable (suc h) j t (inr w) n k = (w, carrying-writable j t n k)
 
-merged-writable : (t : List Frame) (h : ℕ) → Held h → Writable t → Writable (mergedFrom h t)
-merged-writable [] h l k = summed-writable h [] l tt
-merged-writable (Site s p ∷ t) h l k = summed-writable h (Site s p ∷ mergedFrom 0 t) l (k .0, merged-writable t 0 (inl refl) (k .1))
-merged-writable (Call s ∷ t) h l k = summed-writable h (Call s ∷ mergedFrom 0 t) l (k .0, merged-writable t 0 (inl refl) (k .1))
-merged-writable (Spawn s ∷ t) h l k = summed-writable h (Spawn s ∷ mergedFrom 0 t) l (k .0, merged-writable t 0 (inl refl) (k .1))
-merged-writable (Sync ∷ t) h l k = summed-writable h (Sync ∷ mergedFrom 0 t) l (k .0, merged-writable t 0 (inl refl) (k .1))
-merged-writable (Return ∷ t) h l k = summed-writable h (Return ∷ mergedFrom 0 t) l (k .0, merged-writable t 0 (inl refl) (k .1))
-merged-writable (Cost v ∷ t) h l k =
-    go (leb (h + v) mostValue) refl (λ q. merged-writable t (h + v) (fitting-held (h + v) q) (k .1)) (merged-writable t v (inr (k .0)) (k .1))
+cost-held : (n : ℕ) → n ≤ mostValue → Held Cost n
+cost-held zero l = inl refl
+cost-held (suc n) l = inr (writable-value (Cost (suc n)) (suc n) (omega arith) ∙ le-leb 1 (suc n) (omega arith))
+
+instructions-held : (n : ℕ) → n ≤ mostValue → Held Instructions n
+instructions-held zero l = inl refl
+instructions-held (suc n) l = inr (writable-value (Instructions (suc n)) (suc n) (omega arith) ∙ le-leb 1 (suc n) (omega arith))
+
+carried-held : (t : List Frame) → Writable t → Held Instructions (carried t)
+carried-held [] k = inl refl
+carried-held (Site s p ∷ t) k = inl refl
+carried-held (Call s ∷ t) k = inl refl
+carried-held (Spawn s ∷ t) k = inl refl
+carried-held (Sync ∷ t) k = inl refl
+carried-held (Return ∷ t) k = inl refl
+carried-held (Cost v ∷ t) k = inl refl
+carried-held (Instructions v ∷ t) k = inr (k .0)
+
+-- a line that goes out itself, behind all that is held
+line-writable : (f : Frame) (t : List Frame) (h j : ℕ) → Held Cost h → Held Instructions j → writable f ≡ true → Writable t → Writable (summed h j (f ∷ t))
+line-writable f t h j l n w k = summed-writable h j (f ∷ t) l n (w, k)
+
+merged-writable : (t : List Frame) (h j : ℕ) → Held Cost h → Held Instructions j → Writable t → Writable (mergedFrom h j t)
+merged-writable [] h j l n k = summed-writable h j [] l n tt
+merged-writable (Site s p ∷ t) h j l n k = line-writable (Site s p) (mergedFrom 0 0 t) h j l n (k .0) (merged-writable t 0 0 (inl refl) (inl refl) (k .1))
+merged-writable (Call s ∷ t) h j l n k = line-writable (Call s) (mergedFrom 0 0 t) h j l n (k .0) (merged-writable t 0 0 (inl refl) (inl refl) (k .1))
+merged-writable (Spawn s ∷ t) h j l n k = line-writable (Spawn s) (mergedFrom 0 0 t) h j l n (k .0) (merged-writable t 0 0 (inl refl) (inl refl) (k .1))
+merged-writable (Sync ∷ t) h j l n k = line-writable Sync (mergedFrom 0 0 t) h j l n (k .0) (merged-writable t 0 0 (inl refl) (inl refl) (k .1))
+merged-writable (Return ∷ t) h j l n k = line-writable Return (mergedFrom 0 0 t) h j l n (k .0) (merged-writable t 0 0 (inl refl) (inl refl) (k .1))
+merged-writable (Instructions v ∷ t) h j l n k = merged-writable t h j l n (k .1)
+merged-writable (Cost v ∷ t) h j l n k =
+    go (fit-either (h + v) (j + i)) (λ q. merged-writable t (h + v) (j + i) (cost-held (h + v) (q .0)) (instructions-held (j + i) (q .1)) (k .1))
+    (merged-writable t v i (inr (k .0)) (carried-held t (k .1)) (k .1))
   where
-    go : (b : Bool) → leb (h + v) mostValue ≡ b → (h + v ≤ mostValue → Writable (mergedFrom (h + v) t)) → Writable (mergedFrom v t)
-        → Writable (cond b (mergedFrom (h + v) t) (summed h (mergedFrom v t)))
-    go true e x y = x (leb-true (h + v) mostValue e)
-    go false e x y = summed-writable h (mergedFrom v t) l y
+    i : ℕ
+    i = carried t
+
+    either : Bool → List Frame
+    either b = cond b (mergedFrom (h + v) (j + i) t) (summed h j (mergedFrom v i t))
+
+    go : (Fit (h + v) (j + i) × (bothFit (h + v) (j + i) ≡ true)) ⊎ (Over (h + v) (j + i) × (bothFit (h + v) (j + i) ≡ false))
+        → (Fit (h + v) (j + i) → Writable (mergedFrom (h + v) (j + i) t)) → Writable (mergedFrom v i t) → Writable (either (bothFit (h + v) (j + i)))
+    go (inl q) x y = subst (λ (b : Bool). Writable (either b)) (sym (q .1)) (x (q .0))
+    go (inr q) x y = subst (λ (b : Bool). Writable (either b)) (sym (q .1)) (summed-writable h j (mergedFrom v i t) l n y)
 
 -- LAW: "Its lines are as the line writer gives them": it refuses none
 pub compact-writable : (t : List Frame) → Writable t → Writable (compact t)
-compact-writable t h = merged-writable (kept t) 0 (inl refl) (kept-writable t (false ∷ []) h)
+compact-writable t h = merged-writable (kept t) 0 0 (inl refl) (inl refl) (kept-writable t (false ∷ []) h)
 
 -- ── the result ──
 
 module _ (s : List ℕ) (D M : ℕ) (room : Bool) (t : List Frame) (e : verdict s D M room ≡ accepted t) (u : List Frame) (c : Compacted t u) where
   fine : Fine D M t
   fine = accepted-fine s D M room t e
+
+  own : Owned false t
+  own = accepted-owned s D M room t e
 
   is : u ≡ compact t
   is = compact-only t u c
@@ -88,11 +124,11 @@ module _ (s : List ℕ) (D M : ℕ) (room : Bool) (t : List Frame) (e : verdict 
 
   -- LAW: "Work, span and all rows are unchanged"
   pub result-unchanged : Unchanged t u
-  result-unchanged = subst (Unchanged t) (sym is) (compact-unchanged D t (parts D M t fine))
+  result-unchanged = subst (Unchanged t) (sym is) (compact-unchanged D t (parts D M t fine) own)
 
   -- LAW: it is never longer
   pub result-lines : length u ≤ length t
-  result-lines = subst (λ (v : List Frame). length v ≤ length t) (sym is) (never-longer D t (parts D M t fine))
+  result-lines = subst (λ (v : List Frame). length v ≤ length t) (sym is) (never-longer D t (parts D M t fine) own)
 
   pub result-length : length (textOf u) ≤ length s
   result-length =
@@ -102,7 +138,7 @@ module _ (s : List ℕ) (D M : ℕ) (room : Bool) (t : List Frame) (e : verdict 
   -- LAW: "Compacting twice equals compacting once."
   pub result-again : Compacted u u
   result-again =
-      let once : compact u ≡ u = ap compact is ∙ twice-is-once D t (parts D M t fine) ∙ sym is in
+      let once : compact u ≡ u = ap compact is ∙ twice-is-once D t (parts D M t fine) own ∙ sym is in
       subst (Compacted u) once (compact-is u)
 
   -- LAW: and so on characters: the compactor lent its own result answers and leaves what it did

@@ -1,14 +1,16 @@
 -- On the tree: compacting changes no span, and no row's part of the chosen chain. Assumes nothing.
 use mathlib.Core.Path.{_≡_, refl, sym, _∙_, ap, subst}
 use mathlib.Core.Bool.{Bool, true, false, cond}
-use Prim.Native.Nat.{ℕ, zero, suc, _+_}
-use Rattle.chain.specs.Plan.{none, cost, seq, weight, pick}
-use Rattle.trace.specs.Tree.{Way, call, spawn, Note, spend, sync, note, Body, done, leaf, child, size, spanOf}
+use Prim.Native.Nat.{ℕ, zero, suc, _+_, _≤_}
+use native.Mathlib.Omega.{arith}
+use Rattle.chain.specs.Plan.{CostLine, Plan, none, cost, seq, weight, pick}
+use Rattle.trace.specs.Tree.{Way, call, spawn, Note, site, carry, spend, sync, note, Body, done, leaf, child, ahead, size, spanOf}
 use Rattle.trace.specs.Fold.{costAt, block, after, plan, chainOf, onRow}
 use Rattle.trace.proofs.Basics.{clash}
 use Rattle.trace.proofs.Recurrence.{Paid, chain-is-pick, weight-chain}
 use Rattle.compact.specs.Tree.{ends, summedB, packed, compactB}
-use Rattle.compact.proofs.Sums.{cost-either, packed-paid}
+use Rattle.compact.proofs.Pairs.{Paired, Adds}
+use Rattle.compact.proofs.Sums.{cost-either, packed-paid, packed-ahead}
 use Rattle.compact.proofs.Once.{ends-done}
 use Rattle.compact.proofs.Same.{Same, same-refl, same-sym, same-trans, same-seq, same-assoc, same-left, held, same-cost, same-add, same-zero, same-together}
 
@@ -20,67 +22,78 @@ Both a b = (n k s : ℕ) → Same (block n s a) (block k s b) × Same (after n s
 abbrev Whole : Body → Body → Type 0
 Whole a b = (n k s : ℕ) → Same (plan n s a) (plan k s b)
 
--- a is b with a cost of h before it
-abbrev BothWith : ℕ → Body → Body → Type 0
-BothWith h a b = (n k s : ℕ) → Same (block n s a) (seq (held s h) (block k s b)) × Same (after n s a) (after k s b)
+-- a is b with a cost of h with the instructions j before it
+abbrev BothWith : ℕ → ℕ → Body → Body → Type 0
+BothWith h j a b = (n k s : ℕ) → Same (block n s a) (seq (held s h j) (block k s b)) × Same (after n s a) (after k s b)
 
-abbrev WholeWith : ℕ → Body → Body → Type 0
-WholeWith h a b = (n k s : ℕ) → Same (plan n s a) (seq (held s h) (plan k s b))
+abbrev WholeWith : ℕ → ℕ → Body → Body → Type 0
+WholeWith h j a b = (n k s : ℕ) → Same (plan n s a) (seq (held s h j) (plan k s b))
 
 both-whole : (a b : Body) → Both a b → Whole a b
 both-whole a b w n k s = let x = w n k s in same-seq (x .0) (x .1)
 
--- ── a cost of h before a body ──
+-- ── a cost of h with the instructions j before a body ──
 
-summed-both : (h : ℕ) (a b : Body) → Both a b → BothWith h (summedB h a) b
-summed-both zero a b w n k s =
-    let x = w n k s in
-    (same-trans (x .0) (same-sym (same-trans (same-seq (same-zero s) (same-refl (block k s b))) (same-left (block k s b)))), x .1)
-summed-both (suc h) a b w n k s = let x = w (suc n) k s in (same-seq (same-cost n s (suc h)) (x .0), x .1)
+same-none : (s j : ℕ) (p : Plan) → j ≡ 0 → Same (seq (held s 0 j) p) p
+same-none s j p e =
+    subst (λ (i : ℕ). Same (seq (held s 0 i) p) p) (sym e) (same-trans (same-seq (same-zero s) (same-refl p)) (same-left p))
 
-summed-whole : (h : ℕ) (a b : Body) → Whole a b → WholeWith h (summedB h a) b
-summed-whole zero a b w n k s = same-trans (w n k s) (same-sym (same-trans (same-seq (same-zero s) (same-refl (plan k s b))) (same-left (plan k s b))))
-summed-whole (suc h) a b w n k s =
-    same-trans (same-assoc (cost (costAt n s (suc h))) (block (suc n) s a) (after (suc n) s a)) (same-seq (same-cost n s (suc h)) (w (suc n) k s))
+-- its line
+same-line : (n s h j i : ℕ) → i ≡ j → Same (cost (costAt n s h i)) (held s h j)
+same-line n s h j i e = subst (λ (x : ℕ). Same (cost (costAt n s h i)) (held s h x)) e (same-cost n s h i)
 
-zero-whole : (a b : Body) → WholeWith 0 a b → Whole a b
-zero-whole a b w n k s = same-trans (w n k s) (same-trans (same-seq (same-zero s) (same-refl (plan k s b))) (same-left (plan k s b)))
+summed-both : (h j : ℕ) (a b : Body) → Paired h j → ahead a ≡ 0 → Both a b → BothWith h j (summedB h j a) b
+summed-both zero j a b p e w n k s = let x = w n k s in (same-trans (x .0) (same-sym (same-none s j (block k s b) (p refl))), x .1)
+summed-both (suc h) zero a b p e w n k s = let x = w (suc n) k s in (same-seq (same-line n s (suc h) 0 (ahead a) e) (x .0), x .1)
+summed-both (suc h) (suc j) a b p e w n k s = let x = w (suc (suc n)) k s in (same-seq (same-cost n s (suc h) (suc j)) (x .0), x .1)
 
-zero-both : (a b : Body) → BothWith 0 a b → Both a b
-zero-both a b w n k s =
-    let x = w n k s in
-    (same-trans (x .0) (same-trans (same-seq (same-zero s) (same-refl (block k s b))) (same-left (block k s b))), x .1)
+summed-whole : (h j : ℕ) (a b : Body) → Paired h j → ahead a ≡ 0 → Whole a b → WholeWith h j (summedB h j a) b
+summed-whole zero j a b p e w n k s = same-trans (w n k s) (same-sym (same-none s j (plan k s b) (p refl)))
+summed-whole (suc h) zero a b p e w n k s =
+    same-trans (same-assoc (cost (costAt n s (suc h) (ahead a))) (block (suc n) s a) (after (suc n) s a)) (same-seq (same-line n s (suc h) 0 (ahead a) e) (w (suc n) k s))
+summed-whole (suc h) (suc j) a b p e w n k s =
+    same-trans (same-assoc (cost (costAt n s (suc h) (suc j))) (block (suc (suc n)) s a) (after (suc (suc n)) s a)) (same-seq (same-cost n s (suc h) (suc j)) (w (suc (suc n)) k s))
+
+zero-whole : (a b : Body) → WholeWith 0 0 a b → Whole a b
+zero-whole a b w n k s = same-trans (w n k s) (same-none s 0 (plan k s b) refl)
+
+zero-both : (a b : Body) → BothWith 0 0 a b → Both a b
+zero-both a b w n k s = let x = w n k s in (same-trans (x .0) (same-none s 0 (block k s b) refl), x .1)
 
 -- ── a cost line ──
 
--- a cost of v before r is the line of that cost and r
-line-both : (v : ℕ) (a r : Body) → BothWith v a r → Both a (leaf (spend v) r)
+-- a cost of v before r, with the instructions that r begins with, is the line of that cost and r
+line-both : (v : ℕ) (a r : Body) → BothWith v (ahead r) a r → Both a (leaf (spend v) r)
 line-both v a r w n k s =
     let x = w n (suc k) s in
-    (same-trans (x .0) (same-seq (same-sym (same-cost k s v)) (same-refl (block (suc k) s r))), x .1)
+    (same-trans (x .0) (same-seq (same-sym (same-cost k s v (ahead r))) (same-refl (block (suc k) s r))), x .1)
 
-line-whole : (v : ℕ) (a r : Body) → WholeWith v a r → Whole a (leaf (spend v) r)
+line-whole : (v : ℕ) (a r : Body) → WholeWith v (ahead r) a r → Whole a (leaf (spend v) r)
 line-whole v a r w n k s =
     same-trans (w n (suc k) s)
-    (same-trans (same-seq (same-sym (same-cost k s v)) (same-refl (plan (suc k) s r))) (same-sym (same-assoc (cost (costAt k s v)) (block (suc k) s r) (after (suc k) s r))))
+    (same-trans (same-seq (same-sym (same-cost k s v (ahead r))) (same-refl (plan (suc k) s r)))
+    (same-sym (same-assoc (cost (costAt k s v (ahead r))) (block (suc k) s r) (after (suc k) s r))))
 
 -- and the sum of two costs is the one before the other
-add-both : (h v : ℕ) (a r : Body) → BothWith (h + v) a r → BothWith h a (leaf (spend v) r)
-add-both h v a r w n k s =
-    let x = w n (suc k) s in (
+add-both : (h j v : ℕ) (a r : Body) → BothWith (h + v) (j + ahead r) a r → BothWith h j a (leaf (spend v) r)
+add-both h j v a r w n k s =
+    let x = w n (suc k) s in
+    let i = ahead r in (
       same-trans (x .0)
-          (same-trans (same-seq (same-add s h v) (same-refl (block (suc k) s r)))
-          (same-trans (same-assoc (held s h) (held s v) (block (suc k) s r)) (same-seq (same-refl (held s h)) (same-seq (same-sym (same-cost k s v)) (same-refl (block (suc k) s r)))))),
+          (same-trans (same-seq (same-add s h j v i) (same-refl (block (suc k) s r)))
+          (same-trans (same-assoc (held s h j) (held s v i) (block (suc k) s r))
+          (same-seq (same-refl (held s h j)) (same-seq (same-sym (same-cost k s v i)) (same-refl (block (suc k) s r)))))),
       x .1,
     )
 
-add-whole : (h v : ℕ) (a r : Body) → WholeWith (h + v) a r → WholeWith h a (leaf (spend v) r)
-add-whole h v a r w n k s =
+add-whole : (h j v : ℕ) (a r : Body) → WholeWith (h + v) (j + ahead r) a r → WholeWith h j a (leaf (spend v) r)
+add-whole h j v a r w n k s =
+    let i = ahead r in
     same-trans (w n (suc k) s)
-    (same-trans (same-seq (same-add s h v) (same-refl (plan (suc k) s r)))
-    (same-trans (same-assoc (held s h) (held s v) (plan (suc k) s r))
-    (same-seq (same-refl (held s h))
-    (same-trans (same-seq (same-sym (same-cost k s v)) (same-refl (plan (suc k) s r))) (same-sym (same-assoc (cost (costAt k s v)) (block (suc k) s r) (after (suc k) s r)))))))
+    (same-trans (same-seq (same-add s h j v i) (same-refl (plan (suc k) s r)))
+    (same-trans (same-assoc (held s h j) (held s v i) (plan (suc k) s r))
+    (same-seq (same-refl (held s h j))
+    (same-trans (same-seq (same-sym (same-cost k s v i)) (same-refl (plan (suc k) s r))) (same-sym (same-assoc (cost (costAt k s v i)) (block (suc k) s r) (after (suc k) s r)))))))
 
 -- ── a sync ──
 
@@ -92,18 +105,18 @@ ends-none (leaf (note x) r) e n s = clash (cc)
 ends-none (child y i g r) e n s = clash (cc)
 
 -- with a spawn since: it goes where nothing is left behind it, and stays otherwise
-sync-both : (h : ℕ) (r : Body) → Whole (compactB r) r → BothWith h (packed true h (leaf sync r)) (leaf sync r)
-sync-both h r w = go (ends r) refl
+sync-both : (h j : ℕ) (r : Body) → Paired h j → Whole (compactB r) r → BothWith h j (packed true h j (leaf sync r)) (leaf sync r)
+sync-both h j r p w = go (ends r) refl
   where
-    go : (e : Bool) → ends r ≡ e → BothWith h (cond e (packed false h r) (summedB h (leaf sync (compactB r)))) (leaf sync r)
+    go : (e : Bool) → ends r ≡ e → BothWith h j (cond e (packed false h j r) (summedB h j (leaf sync (compactB r)))) (leaf sync r)
     go true q =
-        subst (λ (b : Body). BothWith h b (leaf sync r)) (sym (ends-done r h q))
-        (summed-both h done (leaf sync r) (λ n k s. (same-refl none, same-sym (ends-none r q (suc k) s))))
-    go false q = summed-both h (leaf sync (compactB r)) (leaf sync r) (λ n k s. (same-refl none, w (suc n) (suc k) s))
+        subst (λ (b : Body). BothWith h j b (leaf sync r)) (sym (ends-done r h j q))
+        (summed-both h j done (leaf sync r) p refl (λ n k s. (same-refl none, same-sym (ends-none r q (suc k) s))))
+    go false q = summed-both h j (leaf sync (compactB r)) (leaf sync r) p refl (λ n k s. (same-refl none, w (suc n) (suc k) s))
 
 -- without one it goes
-sync-whole : (h : ℕ) (r : Body) → WholeWith h (packed false h r) r → WholeWith h (packed false h (leaf sync r)) (leaf sync r)
-sync-whole h r w n k s = same-trans (w n (suc k) s) (same-seq (same-refl (held s h)) (same-sym (same-left (plan (suc k) s r))))
+sync-whole : (h j : ℕ) (r : Body) → WholeWith h j (packed false h j r) r → WholeWith h j (packed false h j (leaf sync r)) (leaf sync r)
+sync-whole h j r w n k s = same-trans (w n (suc k) s) (same-seq (same-refl (held s h j)) (same-sym (same-left (plan (suc k) s r))))
 
 -- ── a line that weighs nothing and joins nothing ──
 
@@ -131,49 +144,67 @@ called-whole i a b g r p q n k s =
 
 -- with a spawn since, and without one
 abbrev Packs : Body → Type 0
-Packs b = ((h : ℕ) → BothWith h (packed true h b) b) × ((h : ℕ) → WholeWith h (packed false h b) b)
+Packs b = ((h j : ℕ) → Paired h j → BothWith h j (packed true h j b) b) × ((h j : ℕ) → Paired h j → WholeWith h j (packed false h j b) b)
 
-packed-same : (b : Body) → Packs b
-packed-same done = (λ h. summed-both h done done (λ n k s. (same-refl none, same-refl none)), λ h. summed-whole h done done (λ n k s. same-refl (seq none none)))
-packed-same (leaf (spend v) r) =
-    let p = packed-same r in (
-      λ h. cost-either (λ b. BothWith h b (leaf (spend v) r)) true h v r
-          (λ q. add-both h v (packed true (h + v) r) r (p .0 (h + v)))
-          (λ q. summed-both h (packed true v r) (leaf (spend v) r) (line-both v (packed true v r) r (p .0 v))),
-      λ h. cost-either (λ b. WholeWith h b (leaf (spend v) r)) false h v r
-          (λ q. add-whole h v (packed false (h + v) r) r (p .1 (h + v)))
-          (λ q. summed-whole h (packed false v r) (leaf (spend v) r) (line-whole v (packed false v r) r (p .1 v))),
+-- what is held behind a cost of v
+paid-pair : (v : ℕ) → 1 ≤ v → (h j : ℕ) → Paired (h + v) j
+paid-pair v l h j e = absurd (omega arith)
+
+lone-pair : (v : ℕ) → 1 ≤ v → (j : ℕ) → Paired v j
+lone-pair v l j e = absurd (omega arith)
+
+no-pair : Paired 0 0
+no-pair e = refl
+
+packed-same : (b : Body) → Paid b → Packs b
+packed-same done w =
+    (λ h j p. summed-both h j done done p refl (λ n k s. (same-refl none, same-refl none)), λ h j p. summed-whole h j done done p refl (λ n k s. same-refl (seq none none)))
+packed-same (leaf (spend v) r) w =
+    let i = ahead r in
+    let q = packed-same r (w .1) in (
+      λ h j p. cost-either (λ b. BothWith h j b (leaf (spend v) r)) true h j v r
+          (λ f. add-both h j v (packed true (h + v) (j + i) r) r (q .0 (h + v) (j + i) (paid-pair v (w .0) h (j + i))))
+          (λ f. summed-both h j (packed true v i r) (leaf (spend v) r) p (packed-ahead r true v i) (line-both v (packed true v i r) r (q .0 v i (lone-pair v (w .0) i)))),
+      λ h j p. cost-either (λ b. WholeWith h j b (leaf (spend v) r)) false h j v r
+          (λ f. add-whole h j v (packed false (h + v) (j + i) r) r (q .1 (h + v) (j + i) (paid-pair v (w .0) h (j + i))))
+          (λ f. summed-whole h j (packed false v i r) (leaf (spend v) r) p (packed-ahead r false v i) (line-whole v (packed false v i r) r (q .1 v i (lone-pair v (w .0) i)))),
     )
-packed-same (leaf sync r) = let p = packed-same r in (λ h. sync-both h r (zero-whole (compactB r) r (p .1 0)), λ h. sync-whole h r (p .1 h))
-packed-same (leaf (note x) r) =
-    let p = packed-same r in (
-      λ h. summed-both h (leaf (note x) (packed true 0 r)) (leaf (note x) r) (note-both x (packed true 0 r) r (zero-both (packed true 0 r) r (p .0 0))),
-      λ h. summed-whole h (leaf (note x) (compactB r)) (leaf (note x) r) (note-whole x (compactB r) r (zero-whole (compactB r) r (p .1 0))),
+packed-same (leaf sync r) w =
+    let q = packed-same r (w .1) in
+    (λ h j p. sync-both h j r p (zero-whole (compactB r) r (q .1 0 0 no-pair)), λ h j p. sync-whole h j r (q .1 h j p))
+packed-same (leaf (note (site i c)) r) w =
+    let q = packed-same r (w .1) in
+    let x = site i c in (
+      λ h j p. summed-both h j (leaf (note x) (packed true 0 0 r)) (leaf (note x) r) p refl (note-both x (packed true 0 0 r) r (zero-both (packed true 0 0 r) r (q .0 0 0 no-pair))),
+      λ h j p. summed-whole h j (leaf (note x) (compactB r)) (leaf (note x) r) p refl (note-whole x (compactB r) r (zero-whole (compactB r) r (q .1 0 0 no-pair))),
     )
-packed-same (child call i g r) =
-    let p = zero-whole (compactB g) g (packed-same g .1 0) in
-    let q = packed-same r in (
-      λ h. summed-both h (child call i (compactB g) (packed true 0 r)) (child call i g r) (child-both call i (compactB g) (packed true 0 r) g r p (zero-both (packed true 0 r) r (q .0 0))),
-      λ h. summed-whole h (child call i (compactB g) (compactB r)) (child call i g r) (called-whole i (compactB g) (compactB r) g r p (zero-whole (compactB r) r (q .1 0))),
+packed-same (leaf (note (carry v)) r) w = let q = packed-same r (w .1) in (λ h j p n k s. q .0 h j p n (suc k) s, λ h j p n k s. q .1 h j p n (suc k) s)
+packed-same (child call i g r) w =
+    let p = zero-whole (compactB g) g (packed-same g (w .0) .1 0 0 no-pair) in
+    let q = packed-same r (w .1) in (
+      λ h j k. summed-both h j (child call i (compactB g) (packed true 0 0 r)) (child call i g r) k refl
+          (child-both call i (compactB g) (packed true 0 0 r) g r p (zero-both (packed true 0 0 r) r (q .0 0 0 no-pair))),
+      λ h j k. summed-whole h j (child call i (compactB g) (compactB r)) (child call i g r) k refl
+          (called-whole i (compactB g) (compactB r) g r p (zero-whole (compactB r) r (q .1 0 0 no-pair))),
     )
-packed-same (child spawn i g r) =
-    let p = zero-whole (compactB g) g (packed-same g .1 0) in
-    let q = child-both spawn i (compactB g) (packed true 0 r) g r p (zero-both (packed true 0 r) r (packed-same r .0 0)) in
-    let c = child spawn i (compactB g) (packed true 0 r) in
-    (λ h. summed-both h c (child spawn i g r) q, λ h. summed-whole h c (child spawn i g r) (both-whole c (child spawn i g r) q))
+packed-same (child spawn i g r) w =
+    let p = zero-whole (compactB g) g (packed-same g (w .0) .1 0 0 no-pair) in
+    let q = child-both spawn i (compactB g) (packed true 0 0 r) g r p (zero-both (packed true 0 0 r) r (packed-same r (w .1) .0 0 0 no-pair)) in
+    let c = child spawn i (compactB g) (packed true 0 0 r) in
+    (λ h j k. summed-both h j c (child spawn i g r) k refl q, λ h j k. summed-whole h j c (child spawn i g r) k refl (both-whole c (child spawn i g r) q))
 
 -- LAW: the plans of a body and of the compacted body are the same but for line numbers
-pub compact-same : (b : Body) → Whole (compactB b) b
-compact-same b = zero-whole (compactB b) b (packed-same b .1 0)
+pub compact-same : (b : Body) → Paid b → Whole (compactB b) b
+compact-same b w = zero-whole (compactB b) b (packed-same b w .1 0 0 no-pair)
 
 span-pick : (b : Body) (n s : ℕ) → Paid b → spanOf b ≡ weight (pick (plan n s b))
 span-pick b n s w = sym (weight-chain b n s) ∙ ap weight (chain-is-pick b n s w)
 
 -- LAW
 pub compact-span : (b : Body) → Paid b → spanOf (compactB b) ≡ spanOf b
-compact-span b w = span-pick (compactB b) 0 0 (packed-paid b false 0 w) ∙ compact-same b 0 0 0 .weighs ∙ sym (span-pick b 0 0 w)
+compact-span b w = span-pick (compactB b) 0 0 (packed-paid b false 0 0 w) ∙ compact-same b w 0 0 0 .weighs ∙ sym (span-pick b 0 0 w)
 
--- LAW: each row has the same part of the chosen chain
-pub compact-on : (b : Body) (n k s r : ℕ) → Paid b → onRow r (chainOf n s (compactB b)) ≡ onRow r (chainOf k s b)
-compact-on b n k s r w =
-    ap (onRow r) (chain-is-pick (compactB b) n s (packed-paid b false 0 w)) ∙ compact-same b n k s .on r ∙ sym (ap (onRow r) (chain-is-pick b k s w))
+-- LAW: each row has the same part of the chosen chain, in each measure
+pub compact-on : (m : CostLine → ℕ) → Adds m → (b : Body) (n k s r : ℕ) → Paid b → onRow m r (chainOf n s (compactB b)) ≡ onRow m r (chainOf k s b)
+compact-on m d b n k s r w =
+    ap (onRow m r) (chain-is-pick (compactB b) n s (packed-paid b false 0 0 w)) ∙ compact-same b w n k s .on m d r ∙ sym (ap (onRow m r) (chain-is-pick b k s w))

@@ -15,7 +15,7 @@ use Rattle.line.specs.Read.{readAt}
 use Rattle.trace.specs.Refusals.{accepted, verdict}
 use Rattle.trace.specs.Written.{textOf}
 use Rattle.trace.proofs.Basics.{clash}
-use Rattle.trace.proofs.Scan.{Fine, accepted-fine, accepted-same, accepted-reads}
+use Rattle.trace.proofs.Scan.{Fine, accepted-fine, accepted-same, accepted-reads, accepted-length}
 use Rattle.trace.proofs.Written.{Writable, text-length, accepted-writable}
 use Rattle.admit.specs.declared.Verdict.the-variants as Verdict
 use Rattle.admit.specs.Answer.{answerOf}
@@ -32,7 +32,7 @@ use Rattle.compact.specs.Pass.{Lines, Fits, Ends}
 use Rattle.compact.specs.Promise.{shelved, Shelved, Compacts}
 use Rattle.compact.proofs.Tied.{compact-is}
 use Rattle.compact.proofs.Result.{compact-writable, result-lines, result-length}
-use Rattle.compact.proofs.Machine.{fine-inside, outs-compact, room-trace}
+use Rattle.compact.proofs.Machine.{fine-inside, fine-owned, outs-compact, room-trace}
 
 -- ── an accepted trace ──
 
@@ -41,7 +41,7 @@ module _ (s : List ℕ) (D M : ℕ) (t : List Frame) (e : verdict s D M true ≡
   fine = accepted-fine s D M true t e
 
   outs-are : outs start t ≡ compact t
-  outs-are = outs-compact t (fine-inside D M t fine)
+  outs-are = outs-compact t (fine-inside D M t fine) (fine-owned D M t fine)
 
   few : length (outs start t) ≤ 65536
   few = omega (arith, ap length outs-are, result-lines s D M true t e (compact t) (compact-is t), fine .lines-most)
@@ -58,6 +58,7 @@ module _ (s : List ℕ) (D M : ℕ) (t : List Frame) (e : verdict s D M true ≡
         frames = t;
         stands = stands;
         long = l;
+        all = sym (accepted-length s D M true t e) ∙ l;
         room = room-trace t (fine-inside D M t fine);
         few = few;
         size = text-length (outs start t) writable;

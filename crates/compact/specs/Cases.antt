@@ -1,7 +1,7 @@
 -- Cases worked out by hand: a trace, and what compacting makes of it.
 use mathlib.Core.List.{List, [], _∷_}
 use Rattle.line.specs.declared.Frame.{Frame}
-use Rattle.line.specs.declared.Frame.the-variants.{Site, Call, Spawn, Sync, Return, Cost}
+use Rattle.line.specs.declared.Frame.the-variants.{Site, Call, Spawn, Sync, Return, Cost, Instructions}
 use Rattle.compact.specs.Compact.{Compacted}
 
 pub record Case : Type 0 where
@@ -64,6 +64,24 @@ cases =
     -- a site line is no sync, so the sync before it stays: site 1, spawn 1 {4}, sync, site 2, sync
     ∷ case (Site 1 (record { file = 1; line = 10; column = 5 }) ∷ Spawn 1 ∷ Cost 4 ∷ Return ∷ Sync ∷ Site 2 (record { file = 1; line = 20; column = 9 }) ∷ Sync ∷ Return ∷ [])
     (Site 1 (record { file = 1; line = 10; column = 5 }) ∷ Spawn 1 ∷ Cost 4 ∷ Return ∷ Sync ∷ Site 2 (record { file = 1; line = 20; column = 9 }) ∷ Return ∷ [])
+    -- 02, request l, a cost with its 07 line counts as one: 5 with 2, 6 with 4
+    ∷ case (Cost 5 ∷ Instructions 2 ∷ Cost 6 ∷ Instructions 4 ∷ Return ∷ [])
+    (Cost 11 ∷ Instructions 6 ∷ Return ∷ [])
+    -- the cycles fit and the instructions do not: 1 with 4294967295, 1 with 1
+    ∷ case (Cost 1 ∷ Instructions 4294967295 ∷ Cost 1 ∷ Instructions 1 ∷ Return ∷ [])
+    (Cost 1 ∷ Instructions 4294967295 ∷ Cost 1 ∷ Instructions 1 ∷ Return ∷ [])
+    -- and the other way round, with a last that fits both: 4294967295 with 1, 1 with 1, 2 with 3
+    ∷ case (Cost 4294967295 ∷ Instructions 1 ∷ Cost 1 ∷ Instructions 1 ∷ Cost 2 ∷ Instructions 3 ∷ Return ∷ [])
+    (Cost 4294967295 ∷ Instructions 1 ∷ Cost 3 ∷ Instructions 4 ∷ Return ∷ [])
+    -- without a 07 line they are zero: 1 with 10, 2, 3 with 30
+    ∷ case (Cost 1 ∷ Instructions 10 ∷ Cost 2 ∷ Cost 3 ∷ Instructions 30 ∷ Return ∷ [])
+    (Cost 6 ∷ Instructions 40 ∷ Return ∷ [])
+    -- a dropped sync between two of them: 1 with 2, sync, 3 with 4
+    ∷ case (Cost 1 ∷ Instructions 2 ∷ Sync ∷ Cost 3 ∷ Instructions 4 ∷ Return ∷ [])
+    (Cost 4 ∷ Instructions 6 ∷ Return ∷ [])
+    -- a sync that is kept: spawn 1 {4 with 5}, 1 with 2, sync, 3 with 4
+    ∷ case (Spawn 1 ∷ Cost 4 ∷ Instructions 5 ∷ Return ∷ Cost 1 ∷ Instructions 2 ∷ Sync ∷ Cost 3 ∷ Instructions 4 ∷ Return ∷ [])
+    (Spawn 1 ∷ Cost 4 ∷ Instructions 5 ∷ Return ∷ Cost 1 ∷ Instructions 2 ∷ Sync ∷ Cost 3 ∷ Instructions 4 ∷ Return ∷ [])
     ∷ []
 
 -- each is compacted as its case says, and compacting that once more changes nothing

@@ -3,12 +3,13 @@
 use Prim.Native.Nat.{ℕ, zero, suc, _+_, _<_}
 use mathlib.Core.Path.{_≡_}
 use mathlib.Core.Logic.{_⊎_}
-use mathlib.Core.Bool.{cond}
+use mathlib.Core.Bool.{Bool, cond, _&&_}
 use mathlib.Core.List.{List, [], _∷_}
 use lib.Dec.{leb}
 use Rattle.line.specs.declared.Frame.{Frame}
-use Rattle.line.specs.declared.Frame.the-variants.{Spawn, Sync, Cost}
-use Rattle.trace.specs.Shape.{ifCost, Is, Directly, Returns}
+use Rattle.line.specs.declared.Frame.the-variants.{Spawn, Sync, Cost, Instructions}
+use Rattle.trace.specs.Shape.{ifCost, ifInstructions, Is, Directly, Returns}
+use Rattle.trace.specs.Rows.{carried}
 
 -- "spawn directly in its invocation since that invocation's start or last sync": before line k one stands directly in F,
 -- and no sync directly in F between the two. The last sync is the last of the trace, whether it is dropped or not.
@@ -41,27 +42,39 @@ pub data Undropped (t : List Frame) : ℕ → List Frame → List Frame → Type
   drop : {n : ℕ} {f : Frame} {u v : List Frame} → Dropped t n → Undropped t (suc n) u v → Undropped t n (f ∷ u) v
   keep : {n : ℕ} {f : Frame} {u v : List Frame} → (Dropped t n → ⊥) → Undropped t (suc n) u v → Undropped t n (f ∷ u) (f ∷ v)
 
--- "fits a value": the greatest that a cost line has
+-- "fits a value": the greatest that a cost line has, and a 07 line
 abbrev pub mostValue : ℕ
 mostValue = 4294967295
 
--- the sum h of the costs directly before the lines u, as a cost line; costs are at least 1, and a sum of 0 is none
-abbrev pub summed : ℕ → List Frame → List Frame
-summed zero u = u
-summed (suc h) u = Cost (suc h) ∷ u
+-- 02, request l: "The compactor merges only while both sums fit"
+abbrev pub bothFit : ℕ → ℕ → Bool
+bothFit h j = leb h mostValue && leb j mostValue
+
+-- the instructions j of a cost, before the lines u, as a 07 line; "without one they are zero"
+abbrev pub carrying : ℕ → List Frame → List Frame
+carrying zero u = u
+carrying (suc j) u = Instructions (suc j) ∷ u
+
+-- the sum h of the costs directly before the lines u and the sum j of their instructions, as lines; costs are at least 1,
+-- and a sum of 0 is none
+abbrev pub summed : ℕ → ℕ → List Frame → List Frame
+summed zero j u = u
+summed (suc h) j u = Cost (suc h) ∷ carrying j u
 
 -- "Then adjacent cost lines merge from the left while the sum fits a value, and a sum that would not fit starts a new
--- line"; h: the sum of the costs directly before. 02, request j: "two costs with one", a site line, "between them are not
--- adjacent for the compactor".
-abbrev pub mergedFrom : ℕ → List Frame → List Frame
-mergedFrom h [] = summed h []
-mergedFrom h (f ∷ t) =
-    ifCost (λ v. cond (leb (h + v) mostValue) (mergedFrom (h + v) t) (summed h (mergedFrom v t)))
-    (summed h (f ∷ mergedFrom 0 t))
+-- line"; h: the sum of the costs directly before, j: that of their instructions. 02, request j: "two costs with one", a
+-- site line, "between them are not adjacent for the compactor". Request l: "a cost with its 07 line counts as one".
+abbrev pub mergedFrom : ℕ → ℕ → List Frame → List Frame
+mergedFrom h j [] = summed h j []
+mergedFrom h j (f ∷ t) =
+    ifCost (λ v. cond (bothFit (h + v) (j + carried t)) (mergedFrom (h + v) (j + carried t) t) (summed h j (mergedFrom v (carried t) t)))
+    (ifInstructions (λ v. mergedFrom h j t)
+    (summed h j (f ∷ mergedFrom 0 0 t))
+    f)
     f
 
 abbrev pub merged : List Frame → List Frame
-merged t = mergedFrom 0 t
+merged t = mergedFrom 0 0 t
 
 -- u is the trace t without the lines that say nothing
 pub record Compacted (t u : List Frame) : Type 0 where

@@ -2,7 +2,7 @@
 use mathlib.Core.Bool.{Bool, true, false, not, cond, _||_}
 use mathlib.Core.List.{List, [], _∷_}
 use Rattle.line.specs.declared.Frame.{Frame}
-use Rattle.line.specs.declared.Frame.the-variants.{Site, Call, Spawn, Sync, Return, Cost}
+use Rattle.line.specs.declared.Frame.the-variants.{Site, Call, Spawn, Sync, Return, Cost, Instructions}
 use Rattle.compact.specs.Compact.{merged}
 
 -- Of each open invocation, innermost first: has a spawn stood directly in it since its start or last sync? What a line
@@ -19,6 +19,7 @@ since Sync o = innermost false o
 since Return [] = []
 since Return (x ∷ o) = o
 since (Cost v) o = o
+since (Instructions v) o = o
 
 -- the lines t begin with syncs and then a return
 abbrev pub onlySyncs : List Frame → Bool
@@ -29,6 +30,7 @@ onlySyncs (Spawn s ∷ t) = false
 onlySyncs (Sync ∷ t) = onlySyncs t
 onlySyncs (Return ∷ t) = true
 onlySyncs (Cost v ∷ t) = false
+onlySyncs (Instructions v ∷ t) = false
 
 -- a sync is to be dropped, before the lines t
 abbrev pub idleSync : List Bool → List Frame → Bool
@@ -42,6 +44,7 @@ idle (Spawn s) o t = false
 idle Sync o t = idleSync o t
 idle Return o t = false
 idle (Cost v) o t = false
+idle (Instructions v) o t = false
 
 abbrev pub keptFrom : List Bool → List Frame → List Frame
 keptFrom o [] = []

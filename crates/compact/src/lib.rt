@@ -4,14 +4,39 @@ mod step;
 
 use line::LINE;
 use line::Wrote;
+use step::Given;
 use step::State;
+use walk::Cycles;
+use walk::Instructions;
 ghost use mathlib.Core.Path.{_≡_};
+ghost use Prim.Native.Nat.{_+_, _^_, _<_};
 ghost use lib.Dec.{leb};
 ghost use lib.ListN.{length};
 ghost use Rattle.trace.specs.Written.{textOf};
-ghost use Rattle.compact.specs.Machine.{start, outs};
-ghost use Rattle.compact.specs.Pass.{Lines, Fits, Leaves, Ends};
+ghost use Rattle.compact.specs.Machine.{start, outs, Ready};
+ghost use Rattle.compact.specs.Pass.{carriedAt, steppedAt, Lines, Fits, Leaves, Ends};
 ghost use Rattle.compact.specs.Promise.{Compacts};
+
+// The instructions of line n, where it is a cost line; none of any other.
+fn carried(trace: &[u8], n: usize, kind: u8) -> Instructions
+    requires { ⌜ n + 1 < 2 ^ 64 ⌝ }
+    ensures { λ r. ⌜ r .0 ≡ carriedAt (now (trace .entry)) n kind ⌝ }
+{
+    if kind == 6 {
+        return walk::instructions_at(trace, n);
+    }
+    Instructions(0)
+}
+
+// What goes out at line n, and what is held back then.
+fn given(trace: &[u8], n: usize, s: State) -> Given
+    requires { ⌜ (n + 1 < 2 ^ 64) × Ready s ⌝ }
+    ensures { λ r. ⌜ r ≡ steppedAt (now (trace .entry)) n s ⌝ }
+{
+    let kind = line::kind_at(trace, n);
+    let v = Cycles(line::value_at(trace, n) as u64);
+    s.step(kind, v, carried(trace, n, kind))
+}
 
 // How many lines the result has.
 fn count(trace: &[u8], lines: usize) -> usize
@@ -22,7 +47,7 @@ fn count(trace: &[u8], lines: usize) -> usize
     let mut total = 0;
     let mut n = 0;
     while n < lines {
-        let g = s.step(line::kind_at(trace, n), line::value_at(trace, n));
+        let g = given(trace, n, s);
         total += put::size(g);
         s = g.next;
         n += 1;
@@ -39,7 +64,7 @@ fn write(trace: &[u8], lines: usize, out: &mut [u8]) -> usize
     let mut at = 0;
     let mut n = 0;
     while n < lines {
-        let g = s.step(line::kind_at(trace, n), line::value_at(trace, n));
+        let g = given(trace, n, s);
         at = put::lines(trace, n, out, at, g);
         s = g.next;
         n += 1;

@@ -4,6 +4,8 @@ use line::Frame;
 use line::LINE;
 use line::Written;
 use report::lay;
+use walk::Cycles;
+use walk::Instructions;
 ghost use mathlib.Core.Path.{_≡_};
 ghost use mathlib.Core.Bool.{cond};
 ghost use mathlib.Core.List.{[]};
@@ -16,8 +18,8 @@ ghost use Rattle.line.specs.Write.{writeChars};
 ghost use Rattle.trace.specs.Written.{textOf};
 ghost use Rattle.report.specs.Room.{Lays};
 ghost use Rattle.walk.specs.Stands.{Whole};
-ghost use Rattle.compact.specs.Compact.{summed};
-ghost use Rattle.compact.specs.Machine.{bit, sizeOf, pieces};
+ghost use Rattle.compact.specs.Compact.{mostValue, carrying, summed};
+ghost use Rattle.compact.specs.Machine.{bit, pairSize, sizeOf, pieces, Fitting};
 
 // What the line writer gave. An array in a struct has no known length, so it is asked.
 fn written(out: &mut [u8], at: usize, w: Written) -> usize
@@ -28,15 +30,27 @@ fn written(out: &mut [u8], at: usize, w: Written) -> usize
     lay::text(out, at, &chars)
 }
 
-// A cost line, unless the cost is 0.
-fn cost(out: &mut [u8], at: usize, v: u32) -> usize
-    requires { ⌜ at + length (textOf (summed v [])) ≤ length (now out) ⌝ }
-    ensures { λ r. ⌜ Lays at (textOf (summed v [])) (now (out .entry)) r (now (out .exit)) ⌝ }
+// The line of a cost's instructions, unless they are 0.
+fn carrying(out: &mut [u8], at: usize, i: Instructions) -> usize
+    requires { ⌜ (i .0 ≤ mostValue) × (at + length (textOf (carrying (i .0) [])) ≤ length (now out)) ⌝ }
+    ensures { λ r. ⌜ Lays at (textOf (carrying (i .0) [])) (now (out .entry)) r (now (out .exit)) ⌝ }
 {
-    if v == 0 {
+    if i.0 == 0 {
         return at;
     }
-    written(out, at, line::write_line(Frame::Cost(v)))
+    written(out, at, line::write_line(Frame::Instructions(i.0 as u32)))
+}
+
+// A cost line with its instructions behind it, unless the cost is 0.
+fn cost(out: &mut [u8], at: usize, v: Cycles, i: Instructions) -> usize
+    requires { ⌜ (v .0 ≤ mostValue) × ((i .0 ≤ mostValue) × (at + length (textOf (summed (v .0) (i .0) [])) ≤ length (now out))) ⌝ }
+    ensures { λ r. ⌜ Lays at (textOf (summed (v .0) (i .0) [])) (now (out .entry)) r (now (out .exit)) ⌝ }
+{
+    if v.0 == 0 {
+        return at;
+    }
+    let end = written(out, at, line::write_line(Frame::Cost(v.0 as u32)));
+    carrying(out, end, i)
 }
 
 // A sync line, where one goes out.
@@ -100,11 +114,11 @@ fn itself(trace: &[u8], n: usize, out: &mut [u8], at: usize, goes: bool) -> usiz
 
 // All that goes out at line n of the trace.
 pub(crate) fn lines(trace: &[u8], n: usize, out: &mut [u8], at: usize, g: Given) -> usize
-    requires { ⌜ Whole (now trace) n × (at + length (pieces g (smallForm (lineAt (now trace) n))) ≤ length (now out)) ⌝ }
+    requires { ⌜ Whole (now trace) n × (Fitting g × (at + length (pieces g (smallForm (lineAt (now trace) n))) ≤ length (now out))) ⌝ }
     ensures { λ r. ⌜ Lays at (pieces g (smallForm (lineAt (now (trace .entry)) n))) (now (out .entry)) r
         (now (out .exit)) ⌝ }
 {
-    let a = cost(out, at, g.cost);
+    let a = cost(out, at, g.cost, g.instructions);
     let b = sync(out, a, g.sync);
     itself(trace, n, out, b, g.line)
 }
@@ -118,11 +132,21 @@ fn one(b: bool) -> usize
     0
 }
 
+// How many lines a cost with its instructions is.
+fn cost_size(v: Cycles, i: Instructions) -> usize
+    ensures { λ r. ⌜ (r ≡ pairSize (v .0) (i .0)) × (r ≤ 2) ⌝ }
+{
+    if v.0 == 0 {
+        return 0;
+    }
+    1 + one(i.0 != 0)
+}
+
 // How many lines go out at a line.
 pub(crate) fn size(g: Given) -> usize
     ensures { λ r. ⌜ r ≡ sizeOf g ⌝ }
 {
-    let cost = one(g.cost != 0);
+    let cost = cost_size(g.cost, g.instructions);
     let sync = one(g.sync);
     let line = one(g.line);
     cost + (sync + line)

@@ -1,21 +1,27 @@
 // What is held back behind a line, and what goes out at one. In a run of syncs only the first can stay, so at most one is
 // held, and it waits for a line that is not a return.
+use walk::Cycles;
+use walk::Instructions;
 ghost use mathlib.Core.Path.{_≡_};
 ghost use Prim.Native.Nat.{_+_, _^_, _<_};
-ghost use Rattle.compact.specs.Machine.{start, flushed, entered, left, waiting, alone, together, spent, step};
+ghost use Rattle.compact.specs.Machine.{start, silent, flushed, entered, left, waiting, alone, together, spent, step, Ready};
 
 // Of the invocations around the innermost one, a bit each, the innermost lowest: has it spawned since its start or last
-// sync? Has the innermost one? Does a sync wait? And the sum of the costs before that sync, 0 where there are none.
+// sync? Has the innermost one? Does a sync wait? And the sum of the costs before that sync and that of their instructions,
+// 0 and 0 where there are none.
 pub struct State {
     pub around: u64,
     pub spawned: bool,
     pub sync: bool,
-    pub held: u32,
+    pub held: Cycles,
+    pub carried: Instructions,
 }
 
-// What goes out at a line, in this order: a cost unless it is 0, a sync, the line itself. And what is held back then.
+// What goes out at a line, in this order: a cost unless it is 0, its instructions unless they are 0, a sync, the line
+// itself. And what is held back then.
 pub struct Given {
-    pub cost: u32,
+    pub cost: Cycles,
+    pub instructions: Instructions,
     pub sync: bool,
     pub line: bool,
     pub next: State,
@@ -30,7 +36,21 @@ impl State {
             around: 0,
             spawned: false,
             sync: false,
-            held: 0,
+            held: Cycles(0),
+            carried: Instructions(0),
+        }
+    }
+
+    // Nothing goes out, and this is held back.
+    fn keep(self) -> Given
+        ensures { λ r. ⌜ r ≡ silent self ⌝ }
+    {
+        Given {
+            cost: Cycles(0),
+            instructions: Instructions(0),
+            sync: false,
+            line: false,
+            next: self,
         }
     }
 
@@ -38,14 +58,18 @@ impl State {
     fn flush(self, around: u64, spawned: bool, sync: bool) -> Given
         ensures { λ r. ⌜ r ≡ flushed around spawned sync self ⌝ }
     {
+        let cost = self.held;
+        let instructions = self.carried;
         let next = State {
             around,
             spawned,
             sync: false,
-            held: 0,
+            held: Cycles(0),
+            carried: Instructions(0),
         };
         Given {
-            cost: self.held,
+            cost,
+            instructions,
             sync,
             line: true,
             next,
@@ -74,77 +98,84 @@ impl State {
     fn wait(self) -> Given
         ensures { λ r. ⌜ r ≡ waiting self ⌝ }
     {
+        let held = self.held;
+        let carried = self.carried;
         let next = State {
             around: self.around,
             spawned: false,
             sync: self.spawned | self.sync,
-            held: self.held,
+            held,
+            carried,
         };
-        Given {
-            cost: 0,
-            sync: false,
-            line: false,
-            next,
-        }
+        next.keep()
     }
 
     // A cost that starts a new line: all that was held goes out.
-    fn start_cost(self, v: u32) -> Given
-        ensures { λ r. ⌜ r ≡ alone v self ⌝ }
+    fn start_cost(self, v: Cycles, i: Instructions) -> Given
+        ensures { λ r. ⌜ r ≡ alone v i self ⌝ }
     {
+        let cost = self.held;
+        let instructions = self.carried;
         let next = State {
             around: self.around,
             spawned: self.spawned,
             sync: false,
             held: v,
+            carried: i,
         };
         Given {
-            cost: self.held,
+            cost,
+            instructions,
             sync: self.sync,
             line: false,
             next,
         }
     }
 
-    // A cost that is held together with those directly before it.
-    fn add_cost(self, v: u32) -> Given
-        requires { ⌜ self .held + v < 2 ^ 32 ⌝ }
-        ensures { λ r. ⌜ r ≡ together v self ⌝ }
+    // A cost that is held together with those directly before it, each measure by itself.
+    fn add_cost(self, v: Cycles, i: Instructions) -> Given
+        requires { ⌜ (self .held .0 + v .0 < 2 ^ 64) × (self .carried .0 + i .0 < 2 ^ 64) ⌝ }
+        ensures { λ r. ⌜ r ≡ together v i self ⌝ }
     {
+        let held = self.held;
+        let carried = self.carried;
         let next = State {
             around: self.around,
             spawned: self.spawned,
             sync: false,
-            held: self.held + v,
+            held: held.plus(v),
+            carried: carried.plus(i),
         };
-        Given {
-            cost: 0,
-            sync: false,
-            line: false,
-            next,
-        }
+        next.keep()
     }
 
-    // A cost.
-    fn spend(self, v: u32) -> Given
-        ensures { λ r. ⌜ r ≡ spent v self ⌝ }
+    // A cost with its instructions: it merges only while both sums fit a value.
+    fn spend(self, v: Cycles, i: Instructions) -> Given
+        requires { ⌜ Ready self ⌝ }
+        ensures { λ r. ⌜ r ≡ spent v i self ⌝ }
     {
         if self.sync {
-            return self.start_cost(v);
+            return self.start_cost(v, i);
         }
-        if v <= 4294967295 - self.held {
-            return self.add_cost(v);
+        if v.0 > 4294967295 - self.held.0 {
+            return self.start_cost(v, i);
         }
-        self.start_cost(v)
+        if i.0 > 4294967295 - self.carried.0 {
+            return self.start_cost(v, i);
+        }
+        self.add_cost(v, i)
     }
 
-    // A line of any kind, with its value.
-    pub(crate) fn step(self, kind: u8, v: u32) -> Given
-        requires { ⌜ self .around < 2 ^ 63 ⌝ }
-        ensures { λ r. ⌜ r ≡ step kind v self ⌝ }
+    // A line of any kind, with its value, and with its instructions where it is a cost. A 07 line went with its cost.
+    pub(crate) fn step(self, kind: u8, v: Cycles, i: Instructions) -> Given
+        requires { ⌜ Ready self ⌝ }
+        ensures { λ r. ⌜ r ≡ step kind v i self ⌝ }
     {
+        if kind == 7 {
+            return self.keep();
+        }
         if kind == 6 {
-            return self.spend(v);
+            return self.spend(v, i);
         }
         if kind == 5 {
             return self.leave();

@@ -1,10 +1,10 @@
 -- What a line of each kind does to the open rows, and what it prints. Assumes nothing.
-use Prim.Native.Nat.{ℕ}
+use Prim.Native.Nat.{ℕ, _≤_, _<_}
 use mathlib.Core.List.{List, [], _∷_, _++_}
 use mathlib.Core.Path.{_≡_, refl}
 use native.Mathlib.Omega.{arith}
 use Rattle.line.specs.declared.Frame.{Frame}
-use Rattle.line.specs.declared.Frame.the-variants.{Site, Call, Spawn, Sync, Return, Cost}
+use Rattle.line.specs.declared.Frame.the-variants.{Site, Call, Spawn, Sync, Return, Cost, Instructions}
 use Rattle.trace.specs.Shape.{closed}
 use Rattle.walk.specs.Stands.{kindOf, siteOf, valueOf}
 use Rattle.folded.specs.Text.{costText}
@@ -24,6 +24,7 @@ module _ (name : ℕ → List ℕ) (o : List ℕ) where
   a-cost Sync e = absurd (omega arith)
   a-cost Return e = absurd (omega arith)
   a-cost (Cost v) e = record { shifts = refl; prints = refl }
+  a-cost (Instructions v) e = absurd (omega arith)
 
   pub a-return : (f : Frame) → kindOf f ≡ 5 → Does name f o (closed o) []
   a-return (Site s p) e = absurd (omega arith)
@@ -32,14 +33,17 @@ module _ (name : ℕ → List ℕ) (o : List ℕ) where
   a-return Sync e = absurd (omega arith)
   a-return Return e = record { shifts = refl; prints = refl }
   a-return (Cost v) e = absurd (omega arith)
+  a-return (Instructions v) e = absurd (omega arith)
 
-  pub a-sync : (f : Frame) → kindOf f ≡ 4 → Does name f o o []
-  a-sync (Site s p) e = absurd (omega arith)
-  a-sync (Call s) e = absurd (omega arith)
-  a-sync (Spawn s) e = absurd (omega arith)
-  a-sync Sync e = record { shifts = refl; prints = refl }
-  a-sync Return e = absurd (omega arith)
-  a-sync (Cost v) e = absurd (omega arith)
+  -- a sync, or a cost's instructions
+  pub a-passed : (f : Frame) → (kindOf f ≡ 6 → ⊥) → (kindOf f ≡ 5 → ⊥) → 3 < kindOf f → Does name f o o []
+  a-passed (Site s p) a b e = absurd (omega arith)
+  a-passed (Call s) a b e = absurd (omega arith)
+  a-passed (Spawn s) a b e = absurd (omega arith)
+  a-passed Sync a b e = record { shifts = refl; prints = refl }
+  a-passed Return a b e = absurd (b refl)
+  a-passed (Cost v) a b e = absurd (a refl)
+  a-passed (Instructions v) a b e = record { shifts = refl; prints = refl }
 
   pub a-site : (f : Frame) → kindOf f ≡ 1 → Does name f o o []
   a-site (Site s p) e = record { shifts = refl; prints = refl }
@@ -48,12 +52,14 @@ module _ (name : ℕ → List ℕ) (o : List ℕ) where
   a-site Sync e = absurd (omega arith)
   a-site Return e = absurd (omega arith)
   a-site (Cost v) e = absurd (omega arith)
+  a-site (Instructions v) e = absurd (omega arith)
 
   -- any other kind is a call or a spawn
-  pub a-making : (f : Frame) → (kindOf f ≡ 6 → ⊥) → (kindOf f ≡ 5 → ⊥) → (kindOf f ≡ 4 → ⊥) → (kindOf f ≡ 1 → ⊥) → Does name f o (siteOf f ∷ o) []
-  a-making (Site s p) a b d e = absurd (e refl)
-  a-making (Call s) a b d e = record { shifts = refl; prints = refl }
-  a-making (Spawn s) a b d e = record { shifts = refl; prints = refl }
-  a-making Sync a b d e = absurd (d refl)
-  a-making Return a b d e = absurd (b refl)
-  a-making (Cost v) a b d e = absurd (a refl)
+  pub a-making : (f : Frame) → kindOf f ≤ 3 → (kindOf f ≡ 1 → ⊥) → Does name f o (siteOf f ∷ o) []
+  a-making (Site s p) d e = absurd (e refl)
+  a-making (Call s) d e = record { shifts = refl; prints = refl }
+  a-making (Spawn s) d e = record { shifts = refl; prints = refl }
+  a-making Sync d e = absurd (omega arith)
+  a-making Return d e = absurd (omega arith)
+  a-making (Cost v) d e = absurd (omega arith)
+  a-making (Instructions v) d e = absurd (omega arith)

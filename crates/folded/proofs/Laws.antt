@@ -9,7 +9,7 @@ use borrow.Author.Tests.{ltb-false}
 use lib.Dec.{leb, ltb}
 use lib.ListN.{length}
 use Rattle.line.specs.declared.Frame.{Frame}
-use Rattle.line.specs.declared.Frame.the-variants.{Site, Call, Spawn, Sync, Return, Cost}
+use Rattle.line.specs.declared.Frame.the-variants.{Site, Call, Spawn, Sync, Return, Cost, Instructions}
 use Rattle.line.specs.declared.Wrote.{Wrote}
 use Rattle.trace.specs.Shape.{sites}
 use Rattle.trace.specs.Rows.{total}
@@ -38,6 +38,7 @@ clean-small D M before (Spawn s ∷ t) c = (omega arith, clean-small D M (before
 clean-small D M before (Sync ∷ t) c = (omega arith, clean-small D M (before ++ Sync ∷ []) t (c .2))
 clean-small D M before (Return ∷ t) c = (omega arith, clean-small D M (before ++ Return ∷ []) t (c .2))
 clean-small D M before (Cost v ∷ t) c = (c .1 .1, clean-small D M (before ++ Cost v ∷ []) t (c .2))
+clean-small D M before (Instructions v ∷ t) c = (omega arith, clean-small D M (before ++ Instructions v ∷ []) t (c .2))
 
 -- what a written text says
 pub record Says (s : List ℕ) (D M : ℕ) (project stock : List ℕ) (scratch : ℕ) (text : List ℕ) : Type 0 where

@@ -22,7 +22,7 @@ use Rattle.folded.specs.Rows.{stack, printsOf, prints, Few}
 use Rattle.folded.specs.Spots.{Spot}
 use Rattle.folded.specs.Measure.{whole, less, Lefts, LineAsks, LineLeaves, Asks}
 use Rattle.folded.proofs.Stacks.{piece-length, stack-length}
-use Rattle.folded.proofs.Frames.{Does, a-cost, a-return, a-sync, a-site, a-making}
+use Rattle.folded.proofs.Frames.{Does, a-cost, a-return, a-passed, a-site, a-making}
 use Rattle.folded.proofs.Rooms.{less-less, less-none, less-known, fits-whole}
 use Rattle.folded.proofs.Turns.{Turn, few-flows, turn-start, turn-next, turn-end}
 
@@ -89,17 +89,17 @@ module _ {s : List ℕ} {n : ℕ} {project stock spots : List ℕ} {room : ℕ} 
         go [] some d h x = absurd (omega arith)
         go (y ∷ o) some d h x = left-by o [] x (measured (a .depth - 1) (a .room)) t (omega arith) unprinted (h .1)
 
-    pub sync-left : kind ≡ 4 → Left a t
-    sync-left e = left-by (q .rows) [] (a-sync name (q .rows) (q .frame) (sym says ∙ e)) a t (q .depth-is) unprinted (q .held)
+    pub passed-left : (kind ≡ 6 → ⊥) → (kind ≡ 5 → ⊥) → 3 < kind → Left a t
+    passed-left n6 n5 e = left-by (q .rows) [] (a-passed name (q .rows) (q .frame) (λ e. n6 (says ∙ e)) (λ e. n5 (says ∙ e)) (omega (arith, says))) a t (q .depth-is) unprinted (q .held)
 
     pub site-left : kind ≡ 1 → Left a t
     site-left e = left-by (q .rows) [] (a-site name (q .rows) (q .frame) (sym says ∙ e)) a t (q .depth-is) unprinted (q .held)
 
-    module _ (n6 : kind ≡ 6 → ⊥) (n5 : kind ≡ 5 → ⊥) (n4 : kind ≡ 4 → ⊥) (n1 : kind ≡ 1 → ⊥) (site : ℕ) (i : site ≡ siteAt s n) where
+    module _ (low : kind ≤ 3) (n1 : kind ≡ 1 → ⊥) (site : ℕ) (i : site ≡ siteAt s n) where
       made : Does name (q .frame) (q .rows) (site ∷ q .rows) []
       made =
           subst (λ (x : ℕ). Does name (q .frame) (q .rows) (x ∷ q .rows) []) (sym (site-says s n n site refl i (q .frame) (q .reads)))
-          (a-making name (q .rows) (q .frame) (λ e. n6 (says ∙ e)) (λ e. n5 (says ∙ e)) (λ e. n4 (says ∙ e)) (λ e. n1 (says ∙ e)))
+          (a-making name (q .rows) (q .frame) (omega (arith, says)) (λ e. n1 (says ∙ e)))
 
       next : Few (q .m) (q .D) (site ∷ q .rows)
       next = subst (Few (q .m) (q .D)) (made .shifts) (q .next)

@@ -10,10 +10,10 @@ use lib.ListN.{length}
 use Rattle.digits.specs.Decimal.{isFigure, allFigures, behind, decimal}
 use Rattle.digits.proofs.Figures.{figure-bounds, proper-figures, decimal-proper, decimal-number}
 use Rattle.line.specs.declared.Frame.{Frame}
-use Rattle.line.specs.declared.Frame.the-variants.{Site, Call, Spawn, Sync, Return, Cost}
+use Rattle.line.specs.declared.Frame.the-variants.{Site, Call, Spawn, Sync, Return, Cost, Instructions}
 use Rattle.trace.specs.Shape.{root, step}
 use Rattle.trace.specs.Series.{value}
-use Rattle.trace.specs.Rows.{sumOf, total}
+use Rattle.trace.specs.Rows.{cycles, sumOf, total}
 use Rattle.trace.proofs.Basics.{both}
 use Rattle.names.specs.Names.{nameChar, nameChars}
 use Rattle.folded.specs.Text.{rootFirst, further, joined, costText, folded}
@@ -105,6 +105,7 @@ module _ (name : ℕ → List ℕ) (m : ℕ) (good : (r : ℕ) → r ≤ m → n
   prints-read D o (Cost v ∷ u) h l =
       line-read o v (prints name o u) (h .0) (h .1 .rows) (omega (arith, l .0))
       ∙ ap (λ (x : List Stack). record { names = map name (rootFirst o); cost = v } ∷ x) (prints-read D o u (h .2) (l .1))
+  prints-read D o (Instructions v ∷ u) h l = prints-read D o u (h .2) (l .1)
 
   -- LAW: the text reads back as the stacks and costs of the trace's cost lines, in their order
   pub folded-reads : (D : ℕ) (t : List Frame) → Flows m D (0 ∷ []) t → Small t → stacksIn (folded name t) ≡ stacksOf name t
@@ -113,7 +114,7 @@ module _ (name : ℕ → List ℕ) (m : ℕ) (good : (r : ℕ) → r ≤ m → n
 -- The costs of these add up to the total work, and there is one for each cost line.
 
 module _ (name : ℕ → List ℕ) where
-  says-sum : (o : List ℕ) (u : List Frame) (n : ℕ) (i : List ℕ) → costSum (says name o u) ≡ sumOf (λ k z. true) n i u
+  says-sum : (o : List ℕ) (u : List Frame) (n : ℕ) (i : List ℕ) → costSum (says name o u) ≡ sumOf cycles (λ k z. true) n i u
   says-sum o [] n i = refl
   says-sum o (Site s p ∷ u) n i = omega (arith, says-sum o u (suc n) (step n (Site s p) i))
   says-sum o (Call s ∷ u) n i = omega (arith, says-sum (s ∷ o) u (suc n) (step n (Call s) i))
@@ -121,6 +122,7 @@ module _ (name : ℕ → List ℕ) where
   says-sum o (Sync ∷ u) n i = omega (arith, says-sum o u (suc n) (step n Sync i))
   says-sum o (Return ∷ u) n i = omega (arith, says-sum (rowStep Return o) u (suc n) (step n Return i))
   says-sum o (Cost v ∷ u) n i = ap (λ (k : ℕ). v + k) (says-sum o u (suc n) (step n (Cost v) i))
+  says-sum o (Instructions v ∷ u) n i = omega (arith, says-sum o u (suc n) (step n (Instructions v) i))
 
   says-count : (o : List ℕ) (u : List Frame) → length (says name o u) ≡ costLines u
   says-count o [] = refl
@@ -130,6 +132,7 @@ module _ (name : ℕ → List ℕ) where
   says-count o (Sync ∷ u) = says-count o u
   says-count o (Return ∷ u) = says-count (rowStep Return o) u
   says-count o (Cost v ∷ u) = ap suc (says-count o u)
+  says-count o (Instructions v ∷ u) = says-count o u
 
   pub stacks-sum : (t : List Frame) → costSum (stacksOf name t) ≡ total t
   stacks-sum t = ap costSum (stacks-say name t) ∙ says-sum (0 ∷ []) t 0 (root ∷ [])

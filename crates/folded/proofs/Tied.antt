@@ -7,7 +7,7 @@ use native.Mathlib.Omega.{arith}
 use lib.ListN.{length, length-append}
 use lib.Seq.{append-snoc}
 use Rattle.line.specs.declared.Frame.{Frame}
-use Rattle.line.specs.declared.Frame.the-variants.{Site, Call, Spawn, Sync, Return, Cost}
+use Rattle.line.specs.declared.Frame.the-variants.{Site, Call, Spawn, Sync, Return, Cost, Instructions}
 use Rattle.trace.specs.Shape.{ifMakes, root, closed, step, walk, openAt}
 use Rattle.trace.proofs.Context.{walk-append}
 use Rattle.folded.specs.Text.{siteOn, rowOf, rowsAt, lineText, textFrom, folded}
@@ -47,6 +47,7 @@ rows-step before (Spawn s) v o = ap (λ (r : ℕ). r ∷ map (rowOf (before ++ S
 rows-step before Sync v o = refl
 rows-step before Return v o = map-closed (rowOf (before ++ Return ∷ v)) o
 rows-step before (Cost w) v o = refl
+rows-step before (Instructions w) v o = refl
 
 rows-next : (before : List Frame) (f : Frame) (v : List Frame) → rowsAt (before ++ f ∷ v) (suc (length before)) ≡ rowStep f (rowsAt (before ++ f ∷ v) (length before))
 rows-next before f v = ap (map (rowOf (before ++ f ∷ v))) (open-next before f v) ∙ rows-step before f v (openAt (before ++ f ∷ v) (length before))

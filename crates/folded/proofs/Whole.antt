@@ -16,7 +16,7 @@ use Rattle.line.specs.Read.{readAt}
 use Rattle.trace.specs.Shape.{closed, sites}
 use Rattle.trace.specs.Refusals.{accepted, verdict}
 use Rattle.trace.specs.Refusals.{Verdict as Judgement}
-use Rattle.trace.specs.Tree.{call, spawn, site, spend, sync, note, Body, done, leaf, child, linesOf, Within}
+use Rattle.trace.specs.Tree.{call, spawn, site, carry, spend, sync, note, Body, done, leaf, child, linesOf, Within}
 use Rattle.trace.proofs.Scan.{Fine, accepted-is, accepted-fine, accepted-reads}
 use Rattle.trace.proofs.Parse.{parts}
 use Rattle.trace.proofs.Accept.{sites-le-M}
@@ -45,6 +45,7 @@ flows-body m D done o u a l w h = (a, l, h)
 flows-body m D (leaf (spend v) r) o u a l w h = (a, l, flows-body m D r o u a l (w .1) h)
 flows-body m D (leaf sync r) o u a l w h = (a, l, flows-body m D r o u a l (w .1) h)
 flows-body m D (leaf (note (site i p)) r) o u a l w h = (a, l, flows-body m D r o u a l (w .1) h)
+flows-body m D (leaf (note (carry v)) r) o u a l w h = (a, l, flows-body m D r o u a l (w .1) h)
 flows-body m D (child call s g r) o u a l w h =
     (a, l, subst (Flows m D (s ∷ o)) (sym (append-assoc (linesOf g) (linesOf r) u)) (flows-body m D g (s ∷ o) (linesOf r ++ u) (omega arith) (record { rows = (w .1, l .rows); deep = w .2 }) (w .3) (flows-body m D r o u a l (w .4) h)))
 flows-body m D (child spawn s g r) o u a l w h =

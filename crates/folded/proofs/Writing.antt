@@ -25,7 +25,7 @@ use Rattle.folded.specs.Rows.{stack, printsOf, prints, AtMost, Few}
 use Rattle.folded.specs.Spots.{Spot}
 use Rattle.folded.specs.Write.{piece, Common, StackAsks, CloseAsks, CloseLeaves, LineAsks, LineLeaves, Asks}
 use Rattle.folded.proofs.Stacks.{root-length, piece-length, joined-on, joined-fewer}
-use Rattle.folded.proofs.Frames.{Does, a-cost, a-return, a-sync, a-site, a-making}
+use Rattle.folded.proofs.Frames.{Does, a-cost, a-return, a-passed, a-site, a-making}
 use Rattle.folded.proofs.Turns.{Turn, few-flows, turn-start, turn-next, turn-end}
 
 -- A cost.
@@ -239,17 +239,17 @@ module _ {s : List ℕ} {n : ℕ} {project stock spots t out : List ℕ} {a : Wr
             (lays-nothing (a .at) out)
             (common-off name out (a .at) (rootFirst o) y (a .last) l k closes)
 
-    pub sync-left : kind ≡ 4 → Left a t out
-    sync-left e = left-by (q .rows) [] (a-sync name (q .rows) (q .frame) (sym says ∙ e)) a t out (q .depth-is) (q .held) (lays-nothing (a .at) out) (q .common)
+    pub passed-left : (kind ≡ 6 → ⊥) → (kind ≡ 5 → ⊥) → 3 < kind → Left a t out
+    passed-left n6 n5 e = left-by (q .rows) [] (a-passed name (q .rows) (q .frame) (λ e. n6 (says ∙ e)) (λ e. n5 (says ∙ e)) (omega (arith, says))) a t out (q .depth-is) (q .held) (lays-nothing (a .at) out) (q .common)
 
     pub site-left : kind ≡ 1 → Left a t out
     site-left e = left-by (q .rows) [] (a-site name (q .rows) (q .frame) (sym says ∙ e)) a t out (q .depth-is) (q .held) (lays-nothing (a .at) out) (q .common)
 
-    module _ (n6 : kind ≡ 6 → ⊥) (n5 : kind ≡ 5 → ⊥) (n4 : kind ≡ 4 → ⊥) (n1 : kind ≡ 1 → ⊥) (site : ℕ) (i : site ≡ siteAt s n) where
+    module _ (low : kind ≤ 3) (n1 : kind ≡ 1 → ⊥) (site : ℕ) (i : site ≡ siteAt s n) where
       made : Does name (q .frame) (q .rows) (site ∷ q .rows) []
       made =
           subst (λ (x : ℕ). Does name (q .frame) (q .rows) (x ∷ q .rows) []) (sym (site-says s n n site refl i (q .frame) (q .reads)))
-          (a-making name (q .rows) (q .frame) (λ e. n6 (says ∙ e)) (λ e. n5 (says ∙ e)) (λ e. n4 (says ∙ e)) (λ e. n1 (says ∙ e)))
+          (a-making name (q .rows) (q .frame) (omega (arith, says)) (λ e. n1 (says ∙ e)))
 
       pub made-room : a .depth < length t
       made-room = omega (arith, subst (Few (q .m) (q .D)) (made .shifts) (q .next) .deep, q .depth-is, q .long)

@@ -102,7 +102,8 @@ fn take_line<'a>(
             room,
         };
     }
-    if kind == 4 {
+    // a sync, or a cost's instructions
+    if 3 < kind {
         return a;
     }
     if kind == 1 {

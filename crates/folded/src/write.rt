@@ -151,7 +151,8 @@ fn put_line<'a>(
             last: same,
         };
     }
-    if kind == 4 {
+    // a sync, or a cost's instructions
+    if 3 < kind {
         return a;
     }
     if kind == 1 {

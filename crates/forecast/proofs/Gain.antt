@@ -9,18 +9,18 @@ use native.Mathlib.Omega.{arith}
 use lib.Dec.{eqb}
 use borrow.Author.Tests.{eqb-true, eq-eqb}
 use Rattle.line.specs.declared.Frame.{Frame}
-use Rattle.line.specs.declared.Frame.the-variants.{Site, Call, Spawn, Sync, Return, Cost}
+use Rattle.line.specs.declared.Frame.the-variants.{Site, Call, Spawn, Sync, Return, Cost, Instructions}
 use Rattle.chain.specs.Over.{Each}
 use Rattle.chain.specs.Over as Over
 use Rattle.trace.specs.Shape.{Is, root, step, walk, openAt, has, firstIs}
 use Rattle.trace.specs.Series.{value, valueAt, CostIn, weight, Span, Chosen}
-use Rattle.trace.specs.Rows.{ofRow, sumOf, directOn, sum, total, calls, work, Spans, onSpan}
+use Rattle.trace.specs.Rows.{ofRow, cycles, sumOf, directOn, sum, total, calls, work, Spans, onSpan, ilocal}
 use Rattle.trace.specs.Refusals.{Verdict, accepted, refused}
 use Rattle.trace.proofs.Basics.{no-way}
 use Rattle.weigh.specs.Cost.{costing}
 use Rattle.weigh.proofs.Alike.{ButCosts, chain-alike}
 use Rattle.weigh.proofs.Accepted.{costing-bare}
-use Rattle.weigh.proofs.Less.{AtMost, calls-alike, total-most, work-most, span-most, spans-most}
+use Rattle.weigh.proofs.Less.{AtMost, calls-alike, ilocal-alike, total-most, work-most, span-most, spans-most}
 use Rattle.forecast.specs.declared.Entry.{Entry}
 use Rattle.forecast.specs.Rewritten.{divided, factorOf, factorAt, rewrittenFrom, rewritten}
 use Rattle.forecast.specs.Asked.{badFactor, asking}
@@ -37,6 +37,7 @@ as-it-is (Spawn s) = refl
 as-it-is Sync = refl
 as-it-is Return = refl
 as-it-is (Cost v) = ap Cost (divided-one v)
+as-it-is (Instructions v) = refl
 
 no-factor : (t : List Frame) (o : List ℕ) → factorAt [] t o ≡ 1
 no-factor t [] = refl
@@ -79,6 +80,7 @@ module _ (es : List Entry) (good : badFactor es ≡ false) (t : List Frame) wher
   lighter g h Sync = omega arith
   lighter g h Return = omega arith
   lighter g h (Cost v) = h v
+  lighter g h (Instructions v) = omega arith
 
   most-lines : (n : ℕ) (o : List ℕ) (u : List Frame) → AtMost u (rewrittenFrom es t n o u)
   most-lines n o [] = tt
@@ -100,6 +102,10 @@ module _ (es : List Entry) (good : badFactor es ≡ false) (t : List Frame) wher
   -- LAW: calls do not change
   pub same-calls : (s : ℕ) → calls (rewritten es t) s ≡ calls t s
   same-calls s = sym (calls-alike t u alike s)
+
+  -- LAW: "Forecasts leave instructions as they are"
+  pub same-instructions : (s : ℕ) → ilocal (rewritten es t) s ≡ ilocal t s
+  same-instructions s = sym (ilocal-alike t u alike s)
 
   -- LAW: total work, total span, and work and span of every row are at most the plain ones
   pub no-more-work : total (rewritten es t) ≤ total t
@@ -156,7 +162,7 @@ module _ (es : List Entry) (good : badFactor es ≡ false) (t : List Frame) wher
 
 -- ── rows off the span ──
 
-picks : (p : ℕ → List ℕ → Bool) (n : ℕ) (o : List ℕ) (u : List Frame) (k : ℕ) → p (n + k) (walk n o u k) ≡ true → valueAt u k ≤ sumOf p n o u
+picks : (p : ℕ → List ℕ → Bool) (n : ℕ) (o : List ℕ) (u : List Frame) (k : ℕ) → p (n + k) (walk n o u k) ≡ true → valueAt u k ≤ sumOf cycles p n o u
 picks p n o [] k h = omega arith
 picks p n o (f ∷ u) zero h =
     let e : n + 0 ≡ n = omega arith in
@@ -179,7 +185,7 @@ on-row : (t : List Frame) (c : List ℕ) (s F k : ℕ) → has F (ofRow t s) ≡
 on-row t c s F k h d i =
     let e : 0 + k ≡ k = omega arith in
     let z : (firstIs F (openAt t k) && has (0 + k) c) ≡ true = ap (λ (j : ℕ). firstIs F (openAt t k) && has j c) e ∙ ap (λ (b : Bool). b && has k c) d ∙ i in
-    omega (arith, picks (λ j o. firstIs F o && has j c) 0 (root ∷ []) t k z, one-of (directOn t c) F (ofRow t s) h)
+    omega (arith, picks (λ j o. firstIs F o && has j c) 0 (root ∷ []) t k z, one-of (directOn cycles t c) F (ofRow t s) h)
 
 module _ (t : List Frame) (c : List ℕ) where
   off-factor : (es : List Entry) → OffSpan t c es → (F k : ℕ) → firstIs F (openAt t k) ≡ true → has k c ≡ true → (valueAt t k ≡ 0) ⊎ (factorOf es t F ≡ 1)

@@ -7,9 +7,9 @@ use Prim.Native.Nat.{ℕ, suc, _≤_}
 use native.Mathlib.Omega.{arith}
 use borrow.Author.Tests.{le-leb}
 use Rattle.line.specs.declared.Frame.{Frame}
-use Rattle.line.specs.declared.Frame.the-variants.{Site, Call, Spawn, Sync, Return, Cost}
+use Rattle.line.specs.declared.Frame.the-variants.{Site, Call, Spawn, Sync, Return, Cost, Instructions}
 use Rattle.line.specs.Write.{writable}
-use Rattle.line.proofs.Writable.{writable-cost}
+use Rattle.line.proofs.Writable.{writable-value}
 use Rattle.trace.specs.declared.Answer.{Answer}
 use Rattle.trace.specs.Shape.{root, step, sites}
 use Rattle.trace.specs.Refusals.{lineCount, accepted, verdict}
@@ -41,8 +41,9 @@ divided-writable (Call s) k l h w = w
 divided-writable (Spawn s) k l h w = w
 divided-writable Sync k l h w = w
 divided-writable Return k l h w = w
+divided-writable (Instructions v) k l h w = w
 divided-writable (Cost v) k l h w =
-    writable-cost (divided v k) (omega (arith, divided-most v k l, h .1)) ∙ le-leb 1 (divided v k) (divided-least v k (h .0) l)
+    writable-value (Cost (divided v k)) (divided v k) (omega (arith, divided-most v k l, h .1)) ∙ le-leb 1 (divided v k) (divided-least v k (h .0) l)
 
 module _ (es : List Entry) (good : badFactor es ≡ false) (t : List Frame) (D M : ℕ) where
   lines-writable : (n : ℕ) (o : List ℕ) (before u : List Frame) → Clean D M before u → Writable u → Writable (rewrittenFrom es t n o u)

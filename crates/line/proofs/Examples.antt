@@ -6,7 +6,7 @@ use mathlib.Core.Path.{_≡_, refl}
 use lib.ListN.{take, set, replicate}
 use Rattle.digits.specs.Digits.{digits}
 use Rattle.line.specs.declared.Frame.{Frame}
-use Rattle.line.specs.declared.Frame.the-variants.{Site, Call, Spawn, Return, Cost}
+use Rattle.line.specs.declared.Frame.the-variants.{Site, Call, Spawn, Return, Cost, Instructions}
 use Rattle.line.specs.declared.Read.the-variants.{Line, Refused}
 use Rattle.line.specs.Read.{readLine}
 use Rattle.line.specs.Write.{writeChars}
@@ -50,10 +50,18 @@ case-I-read = refl
 case-I-written : map writeChars frames ≡ map printed lines
 case-I-written = refl
 
--- 6: kind 00, kind 07, a site without a line, a call with a value, a sync with a site, a cost of 0
+-- "A kind 07 line ... carries its instructions in the value": read, and written
+instructions-read : readLine (printed 0x0700000000000300000000) 0 ≡ Line 0 (Instructions 3)
+instructions-read = refl
+
+instructions-written : writeChars (Instructions 3) ≡ printed 0x0700000000000300000000
+instructions-written = refl
+
+-- 6: kind 00, kind 08, a site without a line, a call with a value, a sync with a site, a cost of 0, instructions of 0
+-- and with a site
 listed-nowhere : map (λ (x : ℕ). readLine (printed x) 0)
-    (0x0000000000000000000000 ∷ 0x0700000000000100000000 ∷ 0x0100010000000000010005 ∷ 0x0200010000000100000000 ∷ 0x0400010000000000000000 ∷ 0x0600000000000000000000 ∷ [])
-    ≡ Refused 6 0 ∷ Refused 6 0 ∷ Refused 6 0 ∷ Refused 6 0 ∷ Refused 6 0 ∷ Refused 6 0 ∷ []
+    (0x0000000000000000000000 ∷ 0x0800000000000100000000 ∷ 0x0100010000000000010005 ∷ 0x0200010000000100000000 ∷ 0x0400010000000000000000 ∷ 0x0600000000000000000000 ∷ 0x0700000000000000000000 ∷ 0x0700010000000100000000 ∷ [])
+    ≡ replicate 8 (Refused 6 0)
 listed-nowhere = refl
 
 -- 5: the neighbours `/` and `:`, `@` and `G`, a backquote and `g`, `[`, no line feed; before 6, as the kinds here are 00

@@ -4,7 +4,7 @@ use Prim.Native.Nat.{ℕ}
 use mathlib.Core.List.{List}
 use mathlib.Core.Path.{_≡_, refl, ap, _∙_, sym}
 use Rattle.line.specs.declared.Frame.{Frame}
-use Rattle.line.specs.declared.Frame.the-variants.{Site, Call, Spawn, Sync, Return, Cost}
+use Rattle.line.specs.declared.Frame.the-variants.{Site, Call, Spawn, Sync, Return, Cost, Instructions}
 use Rattle.line.specs.declared.Read.the-variants.{Line}
 use Rattle.line.specs.Table.{Fields, fieldsOf}
 use Rattle.line.specs.Read.{part, fields, lineAt, readAt}
@@ -24,6 +24,7 @@ low (Spawn s) = refl
 low Sync = refl
 low Return = refl
 low (Cost v) = refl
+low (Instructions v) = refl
 
 module _ (s : List ℕ) (n k : ℕ) (f : Frame) (e : readAt s n ≡ Line k f) where
   pub item : (kindAt s n ≡ fieldsOf f .kind) × (siteAt s n ≡ fieldsOf f .site) × (valueAt s n ≡ fieldsOf f .value)

@@ -12,9 +12,9 @@ use lib.Seq.{drop-cons}
 use Rattle.digits.specs.Digits.{allDigits, smallForm, number, digits}
 use Rattle.digits.proofs.Laws.{and-left, and-right, digits-good, digits-number, number-digits, number-below, small-append}
 use Rattle.line.specs.declared.Frame.{Frame}
-use Rattle.line.specs.declared.Frame.the-variants.{Site, Call, Spawn, Sync, Return, Cost}
+use Rattle.line.specs.declared.Frame.the-variants.{Site, Call, Spawn, Sync, Return, Cost, Instructions}
 use Rattle.line.specs.declared.Read.the-variants.{Line}
-use Rattle.line.specs.Table.{Fields, Entry, frame, none, only, table, fieldsOf}
+use Rattle.line.specs.Table.{Fields, Entry, frame, none, only, valueOnly, table, fieldsOf}
 use Rattle.line.specs.Read.{part, fields, wrong, tabled, readLine}
 use Rattle.line.specs.Write.{chars, narrow, isFrame, writable, writeChars}
 use Rattle.line.proofs.Lines.{part-length, parts, all-parts, read-tabled}
@@ -83,7 +83,8 @@ table-back (Call s) e = refl
 table-back (Spawn s) e = refl
 table-back Sync e = refl
 table-back Return e = refl
-table-back (Cost v) e = only-frame (leb 1 v && leb v 4294967295 && true && true) (Cost v) e
+table-back (Cost v) e = only-frame (valueOnly 0 v 0 0) (Cost v) e
+table-back (Instructions v) e = only-frame (valueOnly 0 v 0 0) (Instructions v) e
 
 -- "The line writer takes a frame and gives 23 characters", and the line reader gives the frame
 module _ (f : Frame) (w : writable f ≡ true) where
@@ -137,9 +138,9 @@ module _ (x : Fields) (f : Frame) where
   four : (k : ℕ) → k ≡ x .kind → (eqb (x .site) 0 && eqb (x .value) 0 && eqb (x .file) 0 && eqb (x .column) 0) ≡ true → record { kind = k; site = 0; value = 0; file = 0; column = 0 } ≡ x
   four k h b = let z = zeros4 (x .site) (x .value) (x .file) (x .column) b in same-fields h (z .0) (z .1) (z .2) (z .3)
 
-  cost : (k : ℕ) → k ≡ x .kind → (eqb (x .site) 0 && leb 1 (x .value) && leb (x .value) 4294967295 && eqb (x .file) 0 && eqb (x .column) 0) ≡ true
+  one : (k : ℕ) → k ≡ x .kind → valueOnly (x .site) (x .value) (x .file) (x .column) ≡ true
       → record { kind = k; site = 0; value = x .value; file = 0; column = 0 } ≡ x
-  cost k h b =
+  one k h b =
       let to-file = and-left (eqb (x .site) 0 && leb 1 (x .value) && leb (x .value) 4294967295 && eqb (x .file) 0) (eqb (x .column) 0) b in
       let to-most = and-left (eqb (x .site) 0 && leb 1 (x .value) && leb (x .value) 4294967295) (eqb (x .file) 0) to-file in
       let to-least = and-left (eqb (x .site) 0 && leb 1 (x .value)) (leb (x .value) 4294967295) to-most in
@@ -150,17 +151,18 @@ module _ (x : Fields) (f : Frame) where
       (sym (eqb-true (x .column) 0 (and-right (eqb (x .site) 0 && leb 1 (x .value) && leb (x .value) 4294967295 && eqb (x .file) 0) (eqb (x .column) 0) b)))
 
   pub table-fields : table x ≡ frame f → fieldsOf f ≡ x
-  table-fields = go (eqb (x .kind) 1) (eqb (x .kind) 2) (eqb (x .kind) 3) (eqb (x .kind) 4) (eqb (x .kind) 5) (eqb (x .kind) 6) refl refl refl refl refl refl
+  table-fields = go (eqb (x .kind) 1) (eqb (x .kind) 2) (eqb (x .kind) 3) (eqb (x .kind) 4) (eqb (x .kind) 5) (eqb (x .kind) 6) (eqb (x .kind) 7) refl refl refl refl refl refl refl
     where
-      go : (b1 b2 b3 b4 b5 b6 : Bool) → eqb (x .kind) 1 ≡ b1 → eqb (x .kind) 2 ≡ b2 → eqb (x .kind) 3 ≡ b3 → eqb (x .kind) 4 ≡ b4 → eqb (x .kind) 5 ≡ b5 → eqb (x .kind) 6 ≡ b6 → table x ≡ frame f → fieldsOf f ≡ x
-      go true b2 b3 b4 b5 b6 h1 h2 h3 h4 h5 h6 e =
+      go : (b1 b2 b3 b4 b5 b6 b7 : Bool) → eqb (x .kind) 1 ≡ b1 → eqb (x .kind) 2 ≡ b2 → eqb (x .kind) 3 ≡ b3 → eqb (x .kind) 4 ≡ b4 → eqb (x .kind) 5 ≡ b5 → eqb (x .kind) 6 ≡ b6 → eqb (x .kind) 7 ≡ b7 → table x ≡ frame f → fieldsOf f ≡ x
+      go true b2 b3 b4 b5 b6 b7 h1 h2 h3 h4 h5 h6 h7 e =
           line (leb 1 (x .value) && leb 1 (x .file) && leb 1 (x .column)) (Site (x .site) (record { file = x .file; line = x .value; column = x .column })) (simp h1) e (λ b. same-fields (is-kind 1 h1) refl refl refl refl)
-      go false true b3 b4 b5 b6 h1 h2 h3 h4 h5 h6 e = line _ (Call (x .site)) (simp (h1, h2)) e (three 2 (is-kind 2 h2))
-      go false false true b4 b5 b6 h1 h2 h3 h4 h5 h6 e = line _ (Spawn (x .site)) (simp (h1, h2, h3)) e (three 3 (is-kind 3 h3))
-      go false false false true b5 b6 h1 h2 h3 h4 h5 h6 e = line _ Sync (simp (h1, h2, h3, h4)) e (four 4 (is-kind 4 h4))
-      go false false false false true b6 h1 h2 h3 h4 h5 h6 e = line _ Return (simp (h1, h2, h3, h4, h5)) e (four 5 (is-kind 5 h5))
-      go false false false false false true h1 h2 h3 h4 h5 h6 e = line _ (Cost (x .value)) (simp (h1, h2, h3, h4, h5, h6)) e (cost 6 (is-kind 6 h6))
-      go false false false false false false h1 h2 h3 h4 h5 h6 e = absurd (let t : table x ≡ none = simp (h1, h2, h3, h4, h5, h6) in let z : _≡_ {A = ℕ} 0 1 = cc in omega arith)
+      go false true b3 b4 b5 b6 b7 h1 h2 h3 h4 h5 h6 h7 e = line _ (Call (x .site)) (simp (h1, h2)) e (three 2 (is-kind 2 h2))
+      go false false true b4 b5 b6 b7 h1 h2 h3 h4 h5 h6 h7 e = line _ (Spawn (x .site)) (simp (h1, h2, h3)) e (three 3 (is-kind 3 h3))
+      go false false false true b5 b6 b7 h1 h2 h3 h4 h5 h6 h7 e = line _ Sync (simp (h1, h2, h3, h4)) e (four 4 (is-kind 4 h4))
+      go false false false false true b6 b7 h1 h2 h3 h4 h5 h6 h7 e = line _ Return (simp (h1, h2, h3, h4, h5)) e (four 5 (is-kind 5 h5))
+      go false false false false false true b7 h1 h2 h3 h4 h5 h6 h7 e = line _ (Cost (x .value)) (simp (h1, h2, h3, h4, h5, h6)) e (one 6 (is-kind 6 h6))
+      go false false false false false false true h1 h2 h3 h4 h5 h6 h7 e = line _ (Instructions (x .value)) (simp (h1, h2, h3, h4, h5, h6, h7)) e (one 7 (is-kind 7 h7))
+      go false false false false false false false h1 h2 h3 h4 h5 h6 h7 e = absurd (let t : table x ≡ none = simp (h1, h2, h3, h4, h5, h6, h7) in let z : _≡_ {A = ℕ} 0 1 = cc in omega arith)
 
 -- 23 characters that are not wrong are the characters of their five fields
 module _ (s : List ℕ) (h : length s ≡ 23) (w : wrong s ≡ false) where

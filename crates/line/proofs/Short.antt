@@ -10,9 +10,10 @@ use borrow.Author.Tests.{le-leb}
 use Rattle.digits.specs.declared.read.Numeral.{Numeral}
 use Rattle.digits.specs.Read.{reading}
 use Rattle.digits.proofs.Laws.{and-left, and-right}
-use Rattle.line.specs.declared.Frame.the-variants.{Call, Spawn, Sync, Return, Cost}
+use Rattle.line.specs.declared.Frame.{Frame}
+use Rattle.line.specs.declared.Frame.the-variants.{Call, Spawn, Sync, Return}
 use Rattle.line.specs.declared.Read.the-variants.{Line}
-use Rattle.line.specs.Table.{table}
+use Rattle.line.specs.Table.{Entry, only, valueOnly, table}
 use Rattle.line.specs.Read.{part, tabled, readLine}
 use Rattle.line.specs.Zeros.{allZero}
 use Rattle.line.proofs.Lines.{part-length, part-more, good-line, numeral-below}
@@ -24,7 +25,7 @@ two (a ∷ []) h = absurd (omega arith)
 two (a ∷ b ∷ s) h = refl
 
 -- a numeral that was read well
-abbrev given : ℕ → Numeral
+abbrev pub given : ℕ → Numeral
 given v = record { good = true; value = v }
 
 module _ (s : List ℕ) (n : ℕ) (long : length s ≡ 23) (c d : ℕ) (c0 : getD s 0 0 ≡ 48) (c1 : getD s 1 0 ≡ c) (is : given d ≡ reading (48 ∷ c ∷ [])) (end : getD s 22 0 ≡ 10) where
@@ -47,11 +48,13 @@ module _ (s : List ℕ) (n : ℕ) (long : length s ≡ 23) (c d : ℕ) (c0 : get
       good-line {s = s} {kind = given d} {site = site} {value = value} {file = nought} {column = nought} (record { long = long; kind-is = kind-is; site-is = es; value-is = ev; file-is = r .0; column-is = r .1 }) n (simp (gs, gv, end))
 
 module _ (s : List ℕ) (n : ℕ) (long : length s ≡ 23) (c0 : getD s 0 0 ≡ 48) (end : getD s 22 0 ≡ 10) (rest : allZero (part s 14 8) ≡ true) where
-  pub cost-line : (value : Numeral) → getD s 1 0 ≡ 54 → allZero (part s 2 4) ≡ true → value ≡ reading (part s 6 8) → value .good ≡ true → 1 ≤ value .value → Line n (Cost (value .value)) ≡ readLine s n
-  cost-line value c1 zs ev gv v1 =
+  -- a kind with a value alone: its character, its number, its frames
+  pub value-line : (c k : ℕ) (f : ℕ → Frame) → given k ≡ reading (48 ∷ c ∷ []) → ((v : ℕ) → table (record { kind = k; site = 0; value = v; file = 0; column = 0 }) ≡ only (valueOnly 0 v 0 0) (f v))
+      → (value : Numeral) → getD s 1 0 ≡ c → allZero (part s 2 4) ≡ true → value ≡ reading (part s 6 8) → value .good ≡ true → 1 ≤ value .value → Line n (f (value .value)) ≡ readLine s n
+  value-line c k f is t value c1 zs ev gv v1 =
       let b = numeral-below s 6 8 (omega arith) (omega arith) value ev in
-      let h = line-is s n long 54 6 c0 c1 refl end nought value (part-zero s n long 54 6 c0 c1 refl end 2 4 (omega arith) (omega arith) zs) ev refl gv rest in
-      sym (simp (le-leb 1 (value .value) v1, le-leb (value .value) 4294967295 (omega arith))) ∙ h
+      let h = line-is s n long c k c0 c1 is end nought value (part-zero s n long c k c0 c1 is end 2 4 (omega arith) (omega arith) zs) ev refl gv rest in
+      sym (ap (λ (e : Entry). tabled e n) (t (value .value)) ∙ simp (le-leb 1 (value .value) v1, le-leb (value .value) 4294967295 (omega arith))) ∙ h
 
   module _ (site : Numeral) (es : site ≡ reading (part s 2 4)) (gs : site .good ≡ true) (zv : allZero (part s 6 8) ≡ true) where
     pub call-line : getD s 1 0 ≡ 50 → Line n (Call (site .value)) ≡ readLine s n

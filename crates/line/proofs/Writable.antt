@@ -6,10 +6,10 @@ use mathlib.Core.List.{List}
 use mathlib.Core.Path.{_≡_, refl, ap, _∙_, sym}
 use native.Mathlib.Omega.{arith}
 use borrow.Author.Tests.{lt-ltb, le-leb}
-use lib.Dec.{leb}
+use lib.Dec.{leb, ltb}
 use lib.ListN.{length, replicate}
 use Rattle.line.specs.declared.Frame.{Frame}
-use Rattle.line.specs.declared.Frame.the-variants.{Site, Call, Spawn, Cost}
+use Rattle.line.specs.declared.Frame.the-variants.{Site, Call, Spawn}
 use Rattle.line.specs.declared.Place.{Place}
 use Rattle.line.specs.declared.Wrote.{Wrote}
 use Rattle.line.specs.declared.Wrote.the-variants.{Chars, Refused}
@@ -29,8 +29,9 @@ writable-call s h = simp (lt-ltb s 65536 h)
 pub writable-spawn : (s : ℕ) → s < 65536 → writable (Spawn s) ≡ true
 writable-spawn s h = simp (lt-ltb s 65536 h)
 
-pub writable-cost : (v : ℕ) → v < 4294967296 → writable (Cost v) ≡ leb 1 v
-writable-cost v h = simp (lt-ltb v 4294967296 h, le-leb v 4294967295 (omega arith), and-true) (is-only _ _)
+-- a cost and its instructions, which differ in the kind alone
+pub writable-value : (f : Frame) (v : ℕ) → v < 4294967296 → (ltb v 4294967296 && true && true && isFrame (only (leb 1 v && leb v 4294967295 && true && true) f)) ≡ leb 1 v
+writable-value f v h = simp (lt-ltb v 4294967296 h, le-leb v 4294967295 (omega arith), and-true) (is-only _ _)
 
 -- the two halves of what is written, from one test
 pub writes : (f : Frame) (b : Bool) (a : Wrote) (l : List ℕ) → writable f ≡ b

@@ -13,7 +13,7 @@ use Rattle.line.specs.Read.{width, sitePart, valuePart, lineAt}
 abbrev pub wholeAt : List ℕ → ℕ → List ℕ
 wholeAt s n = cond (eqb (length (lineAt s n)) width) (lineAt s n) []
 
--- the kind in a line's characters, by its second digit alone: no kind is above 6; of no characters it is 0, as are
+-- the kind in a line's characters, by its second digit alone: no kind is above 7; of no characters it is 0, as are
 -- the site and the value
 abbrev pub kindIn : List ℕ → ℕ
 kindIn l = getD l 1 0 % 16

@@ -6,7 +6,7 @@ use lib.Dec.{eqb}
 use lib.ListN.{getD}
 use Rattle.digits.specs.Digits.{allDigits}
 use Rattle.line.specs.declared.Frame.{Frame}
-use Rattle.line.specs.declared.Frame.the-variants.{Site, Call, Spawn, Sync, Return, Cost}
+use Rattle.line.specs.declared.Frame.the-variants.{Site, Call, Spawn, Sync, Return, Cost, Instructions}
 use Rattle.line.specs.declared.Read.{Read}
 use Rattle.line.specs.declared.Read.the-variants.{Line, Refused}
 use Rattle.line.specs.declared.Sight.{Sight}
@@ -22,6 +22,7 @@ seenOf (Spawn s) = Seen (Spawn s)
 seenOf Sync = Seen Sync
 seenOf Return = Seen Return
 seenOf (Cost v) = Seen (Cost v)
+seenOf (Instructions v) = Seen (Instructions v)
 
 -- what is seen of a line that reads so
 abbrev pub glanced : Read → Sight
@@ -36,12 +37,12 @@ placePart s = part s 14 8
 abbrev pub around : List ℕ → Bool
 around s = eqb (getD s 0 0) 48 && allZero (placePart s) && eqb (getD s end 0) 10
 
--- a sync or a return, a call or a spawn, and a cost
+-- a sync or a return, a call or a spawn, and a cost or its instructions
 abbrev pub isBare : List ℕ → Bool
 isBare s = around s && allZero (sitePart s) && allZero (valuePart s)
 
 abbrev pub isMade : List ℕ → Bool
 isMade s = around s && allDigits (sitePart s) && allZero (valuePart s)
 
-abbrev pub isCost : List ℕ → Bool
-isCost s = around s && allZero (sitePart s) && allDigits (valuePart s) && not (allZero (valuePart s))
+abbrev pub isValued : List ℕ → Bool
+isValued s = around s && allZero (sitePart s) && allDigits (valuePart s) && not (allZero (valuePart s))

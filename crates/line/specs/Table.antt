@@ -3,7 +3,7 @@ use Prim.Native.Nat.{ℕ}
 use mathlib.Core.Bool.{Bool, cond, _&&_}
 use lib.Dec.{eqb, leb}
 use Rattle.line.specs.declared.Frame.{Frame}
-use Rattle.line.specs.declared.Frame.the-variants.{Site, Call, Spawn, Sync, Return, Cost}
+use Rattle.line.specs.declared.Frame.the-variants.{Site, Call, Spawn, Sync, Return, Cost, Instructions}
 
 -- "kind (2 digits), site (4), value (8), file (4), column (4)"
 pub record Fields : Type 0 where
@@ -22,6 +22,11 @@ pub data Entry : Type 0 where
 abbrev pub only : Bool → Frame → Entry
 only b f = cond b (frame f) none
 
+-- kind 06: "value, 1 to 4,294,967,295"; 02, request l: "A kind 07 line directly after a cost line carries its
+-- instructions in the value, at least 1"
+abbrev pub valueOnly : ℕ → ℕ → ℕ → ℕ → Bool
+valueOnly site value file column = eqb site 0 && leb 1 value && leb value 4294967295 && eqb file 0 && eqb column 0
+
 -- "kind | meaning | used fields", a line for each. "Unused fields are zero."
 abbrev pub table : Fields → Entry
 table x =
@@ -30,8 +35,9 @@ table x =
     (cond (eqb (x .kind) 3) (only (eqb (x .value) 0 && eqb (x .file) 0 && eqb (x .column) 0) (Spawn (x .site)))
     (cond (eqb (x .kind) 4) (only (eqb (x .site) 0 && eqb (x .value) 0 && eqb (x .file) 0 && eqb (x .column) 0) Sync)
     (cond (eqb (x .kind) 5) (only (eqb (x .site) 0 && eqb (x .value) 0 && eqb (x .file) 0 && eqb (x .column) 0) Return)
-    (cond (eqb (x .kind) 6) (only (eqb (x .site) 0 && leb 1 (x .value) && leb (x .value) 4294967295 && eqb (x .file) 0 && eqb (x .column) 0) (Cost (x .value)))
-    none)))))
+    (cond (eqb (x .kind) 6) (only (valueOnly (x .site) (x .value) (x .file) (x .column)) (Cost (x .value)))
+    (cond (eqb (x .kind) 7) (only (valueOnly (x .site) (x .value) (x .file) (x .column)) (Instructions (x .value)))
+    none))))))
 
 -- the five fields of a frame, the unused ones zero
 abbrev pub fieldsOf : Frame → Fields
@@ -41,3 +47,4 @@ fieldsOf (Spawn s) = record { kind = 3; site = s; value = 0; file = 0; column = 
 fieldsOf Sync = record { kind = 4; site = 0; value = 0; file = 0; column = 0 }
 fieldsOf Return = record { kind = 5; site = 0; value = 0; file = 0; column = 0 }
 fieldsOf (Cost v) = record { kind = 6; site = 0; value = v; file = 0; column = 0 }
+fieldsOf (Instructions v) = record { kind = 7; site = 0; value = v; file = 0; column = 0 }

@@ -5,14 +5,14 @@ ghost use Prim.Native.Nat.{ℕ};
 ghost use lib.ListN.{length, replicate};
 ghost use Rattle.digits.specs.Digits.{allDigits};
 ghost use Rattle.digits.specs.Word.{plainly};
-ghost use Rattle.line.specs.Table.{only, table};
+ghost use Rattle.line.specs.Table.{only, valueOnly, table};
 ghost use Rattle.line.specs.declared.Wrote.the-variants.{Chars, Refused};
 ghost use Rattle.line.specs.Write.{chars, writeAnswer, writeChars};
 ghost use Rattle.line.specs.Read.{width, tabled, readLine, readAt};
 ghost use Rattle.line.specs.At.{wholeAt, kindIn, siteIn, valueIn, kindAt, siteAt, valueAt};
 ghost use Rattle.line.specs.declared.Sight.the-variants.{Seen, Other};
 ghost use Rattle.line.specs.Zeros.{allZero};
-ghost use Rattle.line.specs.Seeing.{glanced, around, isBare, isMade, isCost};
+ghost use Rattle.line.specs.Seeing.{glanced, around, isBare, isMade, isValued};
 
 // "kind (2 digits), site (4), value (8), file (4), column (4)": where each begins after the kind, and where the line
 // feed stands.
@@ -44,6 +44,7 @@ pub enum Frame {
     Sync,
     Return,
     Cost(u32),
+    Instructions(u32),
 }
 
 // What reading a line gives: its number and its frame, or a refusal's number and line.
@@ -72,6 +73,13 @@ fn listed(fit: bool, f: Frame, n: usize) -> Read
         return Read::Line(n, f);
     }
     Read::Refused(6, n)
+}
+
+// Whether the fields are as a cost and its instructions have them: a value of at least 1 and no other field.
+fn value_only(site: u16, value: u32, file: u16, column: u16) -> bool
+    ensures { λ r. ⌜ r ≡ valueOnly site value file column ⌝ }
+{
+    (site == 0) & (1 <= value) & (file == 0) & (column == 0)
 }
 
 // The frame that five fields are by the table of kinds, else refusal 6.
@@ -112,9 +120,10 @@ pub fn framed(kind: u32, site: u16, value: u32, file: u16, column: u16, n: usize
             Frame::Return,
             n,
         ),
-        6 => listed(
-            (site == 0) & (1 <= value) & (file == 0) & (column == 0),
-            Frame::Cost(value),
+        6 => listed(value_only(site, value, file, column), Frame::Cost(value), n),
+        7 => listed(
+            value_only(site, value, file, column),
+            Frame::Instructions(value),
             n,
         ),
         _ => Read::Refused(6, n),
@@ -291,10 +300,10 @@ fn made(s: &[u8]) -> bool
     around(s) & site & value
 }
 
-// For a cost: no site, and a value of at least 1.
-fn cost(s: &[u8]) -> bool
+// For a cost or its instructions: no site, and a value of at least 1.
+fn valued(s: &[u8]) -> bool
     requires { ⌜ length (now s) ≡ width ⌝ }
-    ensures { λ r. ⌜ r ≡ isCost (now (s .entry)) ⌝ }
+    ensures { λ r. ⌜ r ≡ isValued (now (s .entry)) ⌝ }
 {
     let site = four_zeros(&s[SITE..VALUE]);
     let none = eight_zeros(&s[VALUE..FILE]);
@@ -319,7 +328,7 @@ fn glance_as(s: &[u8]) -> Sight
 {
     let kind = s[1];
     if kind == b'6' {
-        return seen(cost(s), Frame::Cost(value_of(s)));
+        return seen(valued(s), Frame::Cost(value_of(s)));
     }
     if kind == b'5' {
         return seen(bare(s), Frame::Return);
@@ -332,6 +341,9 @@ fn glance_as(s: &[u8]) -> Sight
     }
     if kind == b'2' {
         return seen(made(s), Frame::Call(site_of(s)));
+    }
+    if kind == b'7' {
+        return seen(valued(s), Frame::Instructions(value_of(s)));
     }
     Sight::Other
 }
@@ -422,5 +434,6 @@ pub fn write_line(f: Frame) -> Written
         Frame::Sync => put_fields(true, 4, 0, 0, 0, 0),
         Frame::Return => put_fields(true, 5, 0, 0, 0, 0),
         Frame::Cost(value) => put_fields(1 <= value, 6, 0, value, 0, 0),
+        Frame::Instructions(value) => put_fields(1 <= value, 7, 0, value, 0, 0),
     }
 }

@@ -42,7 +42,7 @@ kept-on n a e m m₁ m₂ l x y j o = y j o ∙ x j (λ p q. o p (omega arith))
 module _ (how : Weigh) (s : List ℕ) (deep : ℕ) where
   -- the loop has come from z₀ to z: what is left of the body, and what it comes to, are as from z₀ on
   abbrev Turns : (z₀ : Zones) (m₀ rows₀ : List ℕ) (z : Zones) (m rows : List ℕ) → Type 0
-  Turns z₀ m₀ rows₀ z m rows = (b : Body) (n : ℕ) (k₀ : Chains) → Reads how s (z₀ .own .at) (z₀ .row) b → z₀ .own ≡ numbers (z₀ .own .at) (z₀ .own .work) k₀ → Shows n m₀ z₀ k₀
+  Turns z₀ m₀ rows₀ z m rows = (b : Body) (n : ℕ) (k₀ : Chains) → Reads how s (z₀ .own .at) (z₀ .row) b → z₀ .own ≡ numbers (z₀ .own .at) (z₀ .own .work .0) k₀ → Shows n m₀ z₀ k₀
       → (l : Body) × (k : Chains) × Turn how s (z₀ .row) (z₀ .own) rows₀ b k₀ (z .own) rows l k × Shows n m z k × Kept n (z .own .at) m₀ m
 
   turns-start : (z : Zones) (m rows : List ℕ) → Turns z m rows z m rows
@@ -73,7 +73,7 @@ module _ (how : Weigh) (s : List ℕ) (deep : ℕ) where
             room = l .room;
             n = l .n;
             k = itemChains (z .own .at) (z .row) b (l .k);
-            weighs = own-numbers (r .own) (z .own .at + itemSize b) (z .own .work + itemWork b) (itemChains (z .own .at) (z .row) b (l .k)) (left .done .numbers-are);
+            weighs = own-numbers (r .own) (z .own .at + itemSize b) (z .own .work .0 + itemWork b) (itemChains (z .own .at) (z .row) b (l .k)) (left .done .numbers-are);
             shows = left .shows;
           }
 
@@ -90,7 +90,7 @@ module _ (how : Weigh) (s : List ℕ) (deep : ℕ) where
           )
 
     turns-done : (z₀ : Zones) (m₀ rows₀ : List ℕ) → length rows ≡ length rows₀ → Turns z₀ m₀ rows₀ z m rows → kind ≡ 5 → (b : Body) (n : ℕ) (k₀ : Chains) → Reads how s (z₀ .own .at) (z₀ .row) b
-        → z₀ .own ≡ numbers (z₀ .own .at) (z₀ .own .work) k₀ → Shows n m₀ z₀ k₀ → ItemsLeft n b k₀ z₀ m₀ rows₀ z m rows
+        → z₀ .own ≡ numbers (z₀ .own .at) (z₀ .own .work .0) k₀ → Shows n m₀ z₀ k₀ → ItemsLeft n b k₀ z₀ m₀ rows₀ z m rows
     turns-done z₀ m₀ rows₀ len turns k5 b n k₀ h e sh =
         let u = turns b n k₀ h e sh in
         let q = is-done how s (z .own .at) (z₀ .row) kind says (u .0) (u .2 .reads) k5 in

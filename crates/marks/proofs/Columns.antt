@@ -1,30 +1,33 @@
 -- The second reading, with no code in sight.
 use mathlib.Core.Path.{_≡_, refl, ap, _∙_, sym, subst}
-use mathlib.Core.Bool.{Bool, true, false, cond}
+use mathlib.Core.Logic.{_⊎_}
+use mathlib.Core.Bool.{Bool, cond}
 use mathlib.Core.List.{List, [], _∷_}
-use Prim.Native.Nat.{ℕ, suc, _+_, _-_, _≤_, _<_}
+use Prim.Native.Nat.{ℕ, suc, _+_, _-_, _^_, _≤_, _<_}
 use native.Mathlib.Omega.{arith}
 use lib.Dec.{eqb}
 use lib.ListN.{length, getD, set, length-set}
 use lib.Seq.{getD-set-same, getD-set-other, set-getD, set-set}
 use borrow.Author.Tests.{eq-eqb, ne-eqb}
 use Rattle.line.specs.At.{kindAt, siteAt, valueAt}
-use Rattle.trace.specs.Column.{Column, slot}
-use Rattle.trace.specs.Tree.{Leaf, spend, sync, note, leafWork, Body, done, leaf, child, size}
+use Rattle.trace.specs.Column.{Column, nth, slot}
+use Rattle.trace.specs.Tree.{Leaf, spend, sync, note, leafWork, leafInstructions, Body, done, leaf, child, ahead, size}
 use Rattle.trace.proofs.Basics.{cond-same}
+use Rattle.trace.proofs.Slots.{slot-apart}
 use Rattle.weigh.specs.Weighed.{Weigh}
 use Rattle.walk.specs.Stands.{Says, kindOf}
+use Rattle.walk.specs.Weight.{instructionsAt}
 use Rattle.walk.specs.Reads.{Reads}
 use Rattle.walk.specs.Gain.{ColumnFits, one, Grown}
 use Rattle.walk.proofs.Items.{size-some}
-use Rattle.walk.proofs.Lines.{is-more, is-done, is-sync, is-note}
+use Rattle.walk.proofs.Lines.{is-more, is-done, is-sync, is-note, instructions-ahead}
 use Rattle.walk.proofs.Says.{kind-says, site-says, value-says}
-use Rattle.walk.proofs.Rows.{one-same, grown-one}
+use Rattle.walk.proofs.Rows.{one-same, one-other, grown-one}
 use Rattle.walk.proofs.Room.{lines-in}
 use Rattle.walk.proofs.Child.{cost-is, child-is}
 use Rattle.marks.specs.declared.Present.{Present}
 use Rattle.marks.specs.Park.{Zero}
-use Rattle.marks.specs.Column.{marked, onGain, Left, left, AllRead, linesLeft, onLeft, AllWithin, behind, onLine, stacked, Held, HeldAfter, root, entered, Returned, OnLent, LineAsks, LineLeaves, ColumnAsks, ColumnLeaves}
+use Rattle.marks.specs.Column.{marked, markedGain, onGain, Left, left, AllRead, linesLeft, onLeft, AllWithin, behind, onLine, stacked, Held, HeldAfter, root, entered, Returned, OnFits, OnLent, LineAsks, LineLeaves, ColumnAsks, ColumnLeaves}
 
 -- a mark decides
 pub marked-on : (x v : ℕ) → x ≡ 1 → marked x v ≡ v
@@ -33,18 +36,57 @@ marked-on x v e = ap (λ (b : Bool). cond b v 0) (eq-eqb x 1 e)
 marked-off : (x v : ℕ) → (x ≡ 1 → ⊥) → marked x v ≡ 0
 marked-off x v e = ap (λ (b : Bool). cond b v 0) (ne-eqb x 1 e)
 
-pub grown-on : (rows rows′ : List ℕ) (j x v : ℕ) → x ≡ 1 → rows′ ≡ set rows j (getD rows j 0 + v) → Grown rows (one j (marked x v)) rows′
-grown-on rows rows′ j x v e h i l = ap (λ (y : List ℕ). getD y i 0) h ∙ grown-one rows j v i l ∙ ap (λ (y : ℕ). getD rows i 0 + one j y i) (sym (marked-on x v e))
+-- nothing counts nothing
+marked-none : (x v : ℕ) → v ≡ 0 → marked x v ≡ 0
+marked-none x v e = ap (marked x) e ∙ cond-same (eqb x 1)
 
-pub grown-off : (rows : List ℕ) (j x v : ℕ) → (x ≡ 1 → ⊥) → Grown rows (one j (marked x v)) rows
-grown-off rows j x v e i l = omega (arith, ap (λ (y : ℕ). one j y i) (marked-off x v e), one-none j i)
-  where
-    one-none : (j i : ℕ) → one j 0 i ≡ 0
-    one-none j i = go (eqb j i)
-      where
-        go : (b : Bool) → _≡_ {A = ℕ} (cond b 0 0) 0
-        go true = refl
-        go false = refl
+-- columns 5 and 7 of a row stand apart
+on-apart : (s v r : ℕ) → one (slot s Column.onSpan) v (slot r Column.ionSpan) ≡ 0
+on-apart s v r = one-other (slot s Column.onSpan) v (slot r Column.ionSpan) (λ e. let q = ap nth (slot-apart s r Column.onSpan Column.ionSpan e .1) in omega arith)
+
+ion-apart : (s v r : ℕ) → one (slot s Column.ionSpan) v (slot r Column.onSpan) ≡ 0
+ion-apart s v r = one-other (slot s Column.ionSpan) v (slot r Column.onSpan) (λ e. let q = ap nth (slot-apart s r Column.ionSpan Column.onSpan e .1) in omega arith)
+
+-- what a marked cost of v with w instructions adds to either
+pub gain-on : (s x v w r : ℕ) → markedGain s x v w (slot r Column.onSpan) ≡ one (slot s Column.onSpan) (marked x v) (slot r Column.onSpan)
+gain-on s x v w r = omega (arith, ion-apart s (marked x w) r)
+
+pub gain-ion : (s x v w r : ℕ) → markedGain s x v w (slot r Column.ionSpan) ≡ one (slot s Column.ionSpan) (marked x w) (slot r Column.ionSpan)
+gain-ion s x v w r = omega (arith, on-apart s (marked x v) r)
+
+-- where nothing counts nothing is added
+gain-none : (s x v w : ℕ) → marked x v ≡ 0 → marked x w ≡ 0 → (i : ℕ) → markedGain s x v w i ≡ 0
+gain-none s x v w e h i =
+    let j = slot s Column.onSpan in
+    let k = slot s Column.ionSpan in
+    omega (arith, ap (λ (y : ℕ). one j y i) e, ap (λ (y : ℕ). one k y i) h, cond-same (eqb j i), cond-same (eqb k i))
+
+-- the line is marked: both numbers were added to, one after the other
+module _ (rows rows₁ : List ℕ) (s x v w : ℕ) (e : x ≡ 1) (h₁ : rows₁ ≡ set rows (slot s Column.onSpan) (getD rows (slot s Column.onSpan) 0 + v)) where
+  long : length rows₁ ≡ length rows
+  long = ap length h₁ ∙ length-set rows (slot s Column.onSpan) (getD rows (slot s Column.onSpan) 0 + v)
+
+  first : Grown rows (one (slot s Column.onSpan) v) rows₁
+  first i l = ap (λ (y : List ℕ). getD y i 0) h₁ ∙ grown-one rows (slot s Column.onSpan) v i l
+
+  -- the second stays as it was at the first
+  pub fits-then : ColumnFits rows s Column.ionSpan (marked x w) → (slot s Column.ionSpan < length rows₁) × (getD rows₁ (slot s Column.ionSpan) 0 + w < 2 ^ 64)
+  fits-then f = (omega (arith, f .0, long), omega (arith, f .1, marked-on x w e, first (slot s Column.ionSpan) (f .0), on-apart s v s))
+
+  pub grown-on : (rows₂ : List ℕ) → rows₂ ≡ set rows₁ (slot s Column.ionSpan) (getD rows₁ (slot s Column.ionSpan) 0 + w) → Grown rows (markedGain s x v w) rows₂
+  grown-on rows₂ h₂ i l =
+      let k = slot s Column.ionSpan in
+      omega (
+        arith,
+        ap (λ (y : List ℕ). getD y i 0) h₂,
+        grown-one rows₁ k w i (omega (arith, long)),
+        first i l,
+        ap (λ (y : ℕ). one (slot s Column.onSpan) y i) (marked-on x v e),
+        ap (λ (y : ℕ). one k y i) (marked-on x w e),
+      )
+
+pub grown-off : (rows : List ℕ) (s x v w : ℕ) → (x ≡ 1 → ⊥) → Grown rows (markedGain s x v w) rows
+grown-off rows s x v w e i l = omega (arith, gain-none s x v w (marked-off x v e) (marked-off x w e) i)
 
 -- What one line does to the open invocations.
 
@@ -168,19 +210,20 @@ module _ {how : Weigh} {s : List ℕ} {n : ℕ} {a : Present} {t m rows : List �
   grown-none : Grown rows (λ i. 0) rows
   grown-none i l = omega arith
 
-  -- a leaf that weighs nothing
-  weightless : (q : LineAsks how s n a t m rows) (l : Leaf) (r : Body) → leafWork l ≡ 0 → q .body ≡ leaf l r → Leaves (q .z) (q .row) (q .around) a t rows (q .body)
-  weightless q l r z e =
+  -- a leaf that weighs nothing and has no instructions
+  weightless : (q : LineAsks how s n a t m rows) (l : Leaf) (r : Body) → leafWork l ≡ 0 → leafInstructions l r ≡ 0 → q .body ≡ leaf l r → Leaves (q .z) (q .row) (q .around) a t rows (q .body)
+  weightless q l r z o e =
+      let x = getD m n 0 in
       subst (Leaves (q .z) (q .row) (q .around) a t rows) (sym e)
-      (q .lent .held, λ i h. omega (arith, cond-same (eqb (slot (q .row) Column.onSpan) i), ap (λ (x : ℕ). one (slot (q .row) Column.onSpan) x i) (ap (marked (getD m n 0)) z ∙ cond-same (eqb (getD m n 0) 1))))
+      (q .lent .held, λ i h. omega (arith, gain-none (q .row) x (leafWork l) (leafInstructions l r) (marked-none x (leafWork l) z) (marked-none x (leafInstructions l r) o) i))
 
   -- a sync
   pub sync-leaves : kind ≡ 4 → LineLeaves how s n a t m rows a t rows
-  sync-leaves k4 q = let e = is-sync how s n (q .row) kind says (q .body) (q .lent .reads .0) k4 in weightless q sync (e .0) refl (e .1)
+  sync-leaves k4 q = let e = is-sync how s n (q .row) kind says (q .body) (q .lent .reads .0) k4 in weightless q sync (e .0) refl refl (e .1)
 
   -- a line that weighs nothing and joins nothing
-  pub note-leaves : kind ≡ 1 → LineLeaves how s n a t m rows a t rows
-  note-leaves k1 q = let e = is-note how s n (q .row) kind says (q .body) (q .lent .reads .0) k1 in weightless q (note (e .0)) (e .1) refl (e .2)
+  pub note-leaves : (kind ≡ 1) ⊎ (kind ≡ 7) → LineLeaves how s n a t m rows a t rows
+  note-leaves k q = let e = is-note how s n (q .row) kind says (q .body) (q .lent .reads .0) k in weightless q (note (e .0)) (e .1) refl refl (e .2)
 
   -- a return
   pub return-leaves : kind ≡ 5 → (r : Present) (t′ : List ℕ) → Returned t a r t′ → LineLeaves how s n a t m rows r t′ rows
@@ -189,38 +232,61 @@ module _ {how : Weigh} {s : List ℕ} {n : ℕ} {a : Present} {t m rows : List �
       let e = is-done how s n (q .row) kind says (q .body) (l .reads .0) k5 in
       subst (Leaves (q .z) (q .row) (q .around) r t′ rows) (sym e) (held-left (q .z) (l .zero) (q .around) a r t t′ (rows-fit q) (l .held .1) (l .held .2) x, grown-none)
 
-  -- a cost of v
+  -- a cost of v with w instructions, whose mark is x
   module _ (k6 : kind ≡ 6) where
     abbrev v : ℕ
     v = how n (a .row) (valueAt s n)
 
-    -- what is left of the innermost invocation begins with it
-    spend-is : (q : LineAsks how s n a t m rows) → (r : Body) × (q .body ≡ leaf (spend v) r)
-    spend-is q =
-        let weighs = ap (λ (x : ℕ). how n x (valueAt s n)) (q .lent .held .0) in
-        cost-is how s n (q .row) kind says (valueAt s n) v (value-says s n n (valueAt s n) refl refl) weighs k6 (q .body) (q .lent .reads .0)
+    abbrev w : ℕ
+    w = instructionsAt s n
 
-    pub add-asks : (n < length m) × ColumnFits rows (a .row) Column.onSpan (marked (getD m n 0) v)
+    abbrev x : ℕ
+    x = getD m n 0
+
+    -- what is left of the innermost invocation begins with it
+    spend-is : (q : LineAsks how s n a t m rows) → (r : Body) × (q .body ≡ leaf (spend v) r) × (w ≡ ahead r)
+    spend-is q =
+        let weighs = ap (λ (y : ℕ). how n y (valueAt s n)) (q .lent .held .0) in
+        let e = cost-is how s n (q .row) kind says (valueAt s n) v (value-says s n n (valueAt s n) refl refl) weighs k6 (q .body) (q .lent .reads .0) in
+        (e .0, e .1, instructions-ahead how s (q .row) n (e .0) (subst (Reads how s n (q .row)) (e .1) (q .lent .reads .0) .1))
+
+    -- what it adds, of whatever is left
+    line-gain : (q : LineAsks how s n a t m rows) (i : ℕ) → onLine m n (q .row) (q .body) i ≡ markedGain (q .row) x v w i
+    line-gain q i =
+        let e = spend-is q in
+        ap (λ (y : Body). onLine m n (q .row) y i) (e .1) ∙ ap (λ (y : ℕ). markedGain (q .row) x v y i) (sym (e .2))
+
+    -- both columns have room
+    column-fits : (c : Column) (y : ℕ) → OnFits c (p .lent .sites) m n (left (p .row) (p .body) ∷ p .around) rows → markedGain (p .row) x v w (slot (p .row) c) ≡ one (slot (p .row) c) y (slot (p .row) c) → slot (p .row) c < length rows
+        → ColumnFits rows (a .row) c y
+    column-fits c y fits gain there =
+        let l = p .lent in
+        let j = slot (p .row) c in
+        subst (λ (r : ℕ). ColumnFits rows r c y) (sym (l .held .0))
+        (there, omega (arith, fits (p .row) (l .within .0), on-behind m n (p .row) (p .body) (p .around) j, line-gain p j, gain, one-same j y))
+
+    pub add-asks : (n < length m) × ColumnFits rows (a .row) Column.onSpan (marked x v) × ColumnFits rows (a .row) Column.ionSpan (marked x w)
     add-asks =
         let l = p .lent in
-        let e = spend-is p in
-        let f = l .fits (p .row) (l .within .0) in (
+        let r = p .row in (
           mark-in p,
-          subst (λ (x : ℕ). ColumnFits rows x Column.onSpan (marked (getD m n 0) v)) (sym (l .held .0))
-              (omega (arith, l .within .0, l .rows-long), omega (arith, f, ap (λ (x : Body). onGain m n (p .row) x (slot (p .row) Column.onSpan)) (e .1), one-same (slot (p .row) Column.onSpan) (marked (getD m n 0) v))),
+          column-fits Column.onSpan (marked x v) (l .fits) (gain-on r x v w r) (omega (arith, l .within .0, l .rows-long)),
+          column-fits Column.ionSpan (marked x w) (l .ifits) (gain-ion r x v w r) (omega (arith, l .within .0, l .rows-long)),
         )
 
-    pub cost-leaves : (rows′ : List ℕ) → Grown rows (one (slot (a .row) Column.onSpan) (marked (getD m n 0) v)) rows′ → LineLeaves how s n a t m rows a t rows′
+    pub cost-leaves : (rows′ : List ℕ) → Grown rows (markedGain (a .row) x v w) rows′ → LineLeaves how s n a t m rows a t rows′
     cost-leaves rows′ grown q =
         let l = q .lent in
-        let e = spend-is q in
-        subst (Leaves (q .z) (q .row) (q .around) a t rows′) (sym (e .1)) (l .held, subst (λ (x : ℕ). Grown rows (one (slot x Column.onSpan) (marked (getD m n 0) v)) rows′) (l .held .0) grown)
+        let e = spend-is q in (
+          subst (λ (b : Body). HeldAfter (q .z) (behind (q .row) b (q .around)) a a t) (sym (e .1)) (l .held),
+          λ i h. grown i h ∙ ap (λ (r : ℕ). getD rows i 0 + markedGain r x v w i) (l .held .0) ∙ ap (λ (y : ℕ). getD rows i 0 + y) (sym (line-gain q i)),
+        )
 
   -- a call or a spawn of site
-  module _ (site : ℕ) (sited : site ≡ siteAt s n) (k6 : kind ≡ 6 → ⊥) (k5 : kind ≡ 5 → ⊥) (k4 : kind ≡ 4 → ⊥) (k1 : kind ≡ 1 → ⊥) where
+  module _ (site : ℕ) (sited : site ≡ siteAt s n) (k6 : kind ≡ 6 → ⊥) (k5 : kind ≡ 5 → ⊥) (k4 : kind ≡ 4 → ⊥) (k7 : kind ≡ 7 → ⊥) (k1 : kind ≡ 1 → ⊥) where
     pub child-leaves : (r : Present) (t′ : List ℕ) → r ≡ entered site a → t′ ≡ set t (a .around) (a .row) → LineLeaves how s n a t m rows r t′ rows
     child-leaves r t′ er et q =
-        let c = child-is how s n (q .row) kind site says (site-says s n n site refl sited) k6 k4 k1 (q .body) (q .lent .reads .0) (is-more how s n (q .row) kind says (q .body) (q .lent .reads .0) k5) in
+        let c = child-is how s n (q .row) kind site says (site-says s n n site refl sited) k6 k4 k1 k7 (q .body) (q .lent .reads .0) (is-more how s n (q .row) kind says (q .body) (q .lent .reads .0) k5) in
         subst (Leaves (q .z) (q .row) (q .around) r t′ rows) (sym (c .is)) (held-entered (q .z) (q .around) a r t t′ (q .row) site (c .r) (c .g) (q .lent .held) er et, grown-none)
 
 -- The loop.
@@ -278,6 +344,7 @@ module _ {how : Weigh} {s : List ℕ} {lines : ℕ} {z m rows₀ : List ℕ} {n 
                   rows-long = omega (arith, l .rows-long, len);
                   lines = l .lines;
                   fits = λ j h. omega (arith, l .fits j h, on-behind m n (y .row) b k (slot j Column.onSpan), d .1 (slot j Column.onSpan) (omega (arith, l .rows-long)));
+                  ifits = λ j h. omega (arith, l .ifits j h, on-behind m n (y .row) b k (slot j Column.ionSpan), d .1 (slot j Column.ionSpan) (omega (arith, l .rows-long)));
                 };
             same-rows = λ i h. omega (arith, w i h, on-behind m n (y .row) b k i, d .1 i (omega (arith, x .rows-long)));
           }

@@ -1,5 +1,6 @@
 -- The item reader: what each kind of item asks for and comes to, with no code in sight.
 use mathlib.Core.Path.{_≡_, refl, ap, _∙_, sym, subst}
+use mathlib.Core.Logic.{_⊎_}
 use mathlib.Core.List.{List}
 use Prim.Native.Nat.{ℕ, _+_, _-_, _^_, _≤_, _<_}
 use native.Mathlib.Omega.{arith}
@@ -7,20 +8,21 @@ use lib.ListN.{length}
 use Rattle.line.specs.At.{kindAt, siteAt, valueAt}
 use Rattle.chain.specs.Plan.{weight}
 use Rattle.trace.specs.Column.{Column, slot}
-use Rattle.trace.specs.Tree.{call, spawn, spend, sync, note, Body, leaf, child as nested, workOf}
+use Rattle.trace.specs.Tree.{call, spawn, spend, sync, note, Body, leaf, child as nested, ahead, workOf}
 use Rattle.trace.specs.Fold.{Chains, nothing, called, spawned, chainOf}
 use Rattle.weigh.specs.Weighed.{Weigh}
 use Rattle.walk.specs.declared.Open.{Open}
 use Rattle.walk.specs.declared.Credit.{Credit}
 use Rattle.walk.specs.Stands.{Says, kindOf, siteOf}
+use Rattle.walk.specs.Weight.{instructionsAt}
 use Rattle.walk.specs.Reads.{Reads}
 use Rattle.walk.specs.Numbers.{numbers}
-use Rattle.walk.specs.Gain.{ColumnFits, creditOf, ReturnFits, one, Returned, Grown}
+use Rattle.walk.specs.Gain.{ColumnFits, creditOf, ReturnFits, costGain, Returned, Grown}
 use Rattle.walk.specs.Item.{itemChains}
 use Rattle.walk.specs.Reader.{ItemDone}
 use Rattle.walk.proofs.Items.{size-some, chain-le}
 use Rattle.walk.proofs.Reader.{weightless}
-use Rattle.walk.proofs.Lines.{is-sync, is-note}
+use Rattle.walk.proofs.Lines.{is-sync, is-note, instructions-ahead}
 use Rattle.walk.proofs.Says.{kind-says, site-says, value-says}
 use Rattle.walk.proofs.Room.{lines-in}
 use Rattle.walk.proofs.Child.{cost-is, call-is, spawn-is, Child, child-is, cost-fits, child-work, deeper as child-deeper, child-row, child-ready, count-fits as child-fits, ChildDone, child-done}
@@ -54,7 +56,7 @@ module _ {how : Weigh} {s : List ℕ} {deep : ℕ} {z : Zones} {t m rows : List 
   line-in = omega (arith, l .lines, lines-in how s (z .own .at) (z .row) (l .ready .body) (l .ready .reads), size-some (l .ready .body))
 
   -- whatever fits the chains
-  step-asks : (v : ℕ) (m₁ : List ℕ) → length m₁ ≡ length m → z .own .prefix + (z .own .longest + z .own .since) + v < 2 ^ 64 → Fits m₁ z v
+  step-asks : (v : ℕ) (m₁ : List ℕ) → length m₁ ≡ length m → z .own .prefix .0 + (z .own .longest .0 + z .own .since .0) + v < 2 ^ 64 → Fits m₁ z v
   step-asks v m₁ lm h = record { order = (l .shows .then, l .shows .ends); room = omega (arith, line-in, lm); load = h }
 
   pub line-fits : z .own .at + 1 < 2 ^ 64
@@ -69,44 +71,51 @@ module _ {how : Weigh} {s : List ℕ} {deep : ℕ} {z : Zones} {t m rows : List 
       let q = is-sync how s (z .own .at) (z .row) kind (kind-says s (z .own .at) (z .own .at) kind refl reads) b h k4 in
       let d = j n k e sh in
       subst (λ (x : Body). ItemLeft n x k z m rows r m′ rows) (sym (q .1))
-      (left-is n (z .own .at + 1) (z .own .work) (leaf sync (q .0)) k z m rows r m′ rows d (weightless (z .row) (z .own) rows sync (q .0) k (r .own) refl (d .numbers-are)))
+      (left-is n (z .own .at + 1) (z .own .work .0) (leaf sync (q .0)) k z m rows r m′ rows d (weightless (z .row) (z .own) rows sync (q .0) k (r .own) refl refl (d .numbers-are)))
 
   -- a line that weighs nothing and joins nothing
-  pub note-leaves : (kind : ℕ) → kind ≡ kindAt s (z .own .at) → kind ≡ 1 → (r : Zones) (m′ : List ℕ) → Passed m z r m′ → ItemLeaves how s z m rows r m′ rows
-  note-leaves kind reads k1 r m′ j b n k more h e sh =
-      let q = is-note how s (z .own .at) (z .row) kind (kind-says s (z .own .at) (z .own .at) kind refl reads) b h k1 in
+  pub note-leaves : (kind : ℕ) → kind ≡ kindAt s (z .own .at) → (kind ≡ 1) ⊎ (kind ≡ 7) → (r : Zones) (m′ : List ℕ) → Passed m z r m′ → ItemLeaves how s z m rows r m′ rows
+  note-leaves kind reads passed r m′ j b n k more h e sh =
+      let q = is-note how s (z .own .at) (z .row) kind (kind-says s (z .own .at) (z .own .at) kind refl reads) b h passed in
       let d = j n k e sh in
       subst (λ (x : Body). ItemLeft n x k z m rows r m′ rows) (sym (q .2))
-      (left-is n (z .own .at + 1) (z .own .work) (leaf (note (q .0)) (q .1)) k z m rows r m′ rows d (weightless (z .row) (z .own) rows (note (q .0)) (q .1) k (r .own) refl (d .numbers-are)))
+      (left-is n (z .own .at + 1) (z .own .work .0) (leaf (note (q .0)) (q .1)) k z m rows r m′ rows d (weightless (z .row) (z .own) rows (note (q .0)) (q .1) k (r .own) refl refl (d .numbers-are)))
 
--- the item is a cost of v
-pub record Costs (how : Weigh) (s : List ℕ) (deep : ℕ) (z : Zones) (t m rows : List ℕ) (kind v : ℕ) : Type 0 where
+-- the item is a cost of v with w instructions
+pub record Costs (how : Weigh) (s : List ℕ) (deep : ℕ) (z : Zones) (t m rows : List ℕ) (kind v w : ℕ) : Type 0 where
   pub asks : ItemAsks how s kind deep z t m rows
   pub weight-is : v ≡ how (z .own .at) (z .row) (valueAt s (z .own .at))
+  pub instructions-are : w ≡ instructionsAt s (z .own .at)
   pub cost : kind ≡ 6
 
-module _ {how : Weigh} {s : List ℕ} {deep : ℕ} {z : Zones} {t m rows : List ℕ} {kind v : ℕ} (h : Costs how s deep z t m rows kind v) where
-  spend-is : (b : Body) → Reads how s (z .own .at) (z .row) b → (r : Body) × (b ≡ leaf (spend v) r)
-  spend-is = cost-is how s (z .own .at) (z .row) kind (kind-says s (z .own .at) (z .own .at) kind refl (h .asks .kind-is)) (valueAt s (z .own .at)) v (value-says s (z .own .at) (z .own .at) (valueAt s (z .own .at)) refl refl) (h .weight-is) (h .cost)
+module _ {how : Weigh} {s : List ℕ} {deep : ℕ} {z : Zones} {t m rows : List ℕ} {kind v w : ℕ} (h : Costs how s deep z t m rows kind v w) where
+  line-is : (b : Body) → Reads how s (z .own .at) (z .row) b → (r : Body) × (b ≡ leaf (spend v) r)
+  line-is = cost-is how s (z .own .at) (z .row) kind (kind-says s (z .own .at) (z .own .at) kind refl (h .asks .kind-is)) (valueAt s (z .own .at)) v (value-says s (z .own .at) (z .own .at) (valueAt s (z .own .at)) refl refl) (h .weight-is) (h .cost)
 
-  fit : ColumnFits rows (z .row) Column.local v × ((z .own .work + v < 2 ^ 64) × (z .own .prefix + (z .own .longest + z .own .since) + v < 2 ^ 64))
+  spend-is : (b : Body) → Reads how s (z .own .at) (z .row) b → (r : Body) × (b ≡ leaf (spend v) r) × (w ≡ ahead r)
+  spend-is b st =
+      let q = line-is b st in
+      (q .0, q .1, h .instructions-are ∙ instructions-ahead how s (z .row) (z .own .at) (q .0) (subst (Reads how s (z .own .at) (z .row)) (q .1) st .1))
+
+  fit : (ColumnFits rows (z .row) Column.local v × ColumnFits rows (z .row) Column.ilocal w) × ((z .own .work .0 + v < 2 ^ 64) × (z .own .prefix .0 + (z .own .longest .0 + z .own .since .0) + v < 2 ^ 64))
   fit =
       let y = h .asks .lent .ready in
       let q = spend-is (y .body) (y .reads) in
-      cost-fits how s (z .row) (h .asks .lent .sites) deep (z .own) rows y v (q .0) (q .1)
+      let f = cost-fits how s (z .row) (h .asks .lent .sites) deep (z .own) rows y v (q .0) (q .1) in
+      ((f .0 .0, subst (ColumnFits rows (z .row) Column.ilocal) (sym (q .2)) (f .0 .1)), f .1)
 
-  pub rows-asks : ColumnFits rows (z .row) Column.local v
+  pub rows-asks : ColumnFits rows (z .row) Column.local v × ColumnFits rows (z .row) Column.ilocal w
   rows-asks = fit .0
 
-  pub spend-asks : Fits m z v × (z .own .work + v < 2 ^ 64)
+  pub spend-asks : Fits m z v × (z .own .work .0 + v < 2 ^ 64)
   spend-asks = (step-asks (h .asks .lent) v m refl (fit .1 .1), fit .1 .0)
 
-  pub cost-leaves : (r : Zones) (m′ rows′ : List ℕ) → Grown rows (one (slot (z .row) Column.local) v) rows′ → Spent v m z r m′ → ItemLeaves how s z m rows r m′ rows′
+  pub cost-leaves : (r : Zones) (m′ rows′ : List ℕ) → Grown rows (costGain (z .row) v w) rows′ → Spent v m z r m′ → ItemLeaves how s z m rows r m′ rows′
   cost-leaves r m′ rows′ grown sp b n k more st e sh =
       let q = spend-is b st in
-      let d = sp n k e sh in
+      let d = sp (ahead (q .0)) n k e sh in
       subst (λ (x : Body). ItemLeft n x k z m rows r m′ rows′) (sym (q .1))
-      (left-is n (z .own .at + 1) (z .own .work + v) (leaf (spend v) (q .0)) k z m rows r m′ rows′ d (record { numbers-are = d .numbers-are; rows-are = grown }))
+      (left-is n (z .own .at + 1) (z .own .work .0 + v) (leaf (spend v) (q .0)) k z m rows r m′ rows′ d (record { numbers-are = d .numbers-are; rows-are = subst (λ (x : ℕ). Grown rows (costGain (z .row) v x) rows′) (q .2) grown }))
 
 -- the item is a call or a spawn of site
 pub record Calls (how : Weigh) (s : List ℕ) (deep : ℕ) (z : Zones) (t m rows : List ℕ) (kind site : ℕ) : Type 0 where
@@ -114,6 +123,7 @@ pub record Calls (how : Weigh) (s : List ℕ) (deep : ℕ) (z : Zones) (t m rows
   pub site-is : site ≡ siteAt s (z .own .at)
   pub no-cost : kind ≡ 6 → ⊥
   pub no-sync : kind ≡ 4 → ⊥
+  pub no-instructions : kind ≡ 7 → ⊥
   pub no-note : kind ≡ 1 → ⊥
 
 module _ {how : Weigh} {s : List ℕ} {deep : ℕ} {z : Zones} {t m rows : List ℕ} {kind site : ℕ} (h : Calls how s deep z t m rows kind site) where
@@ -127,7 +137,7 @@ module _ {how : Weigh} {s : List ℕ} {deep : ℕ} {z : Zones} {t m rows : List 
   sited = site-says s (z .own .at) (z .own .at) site refl (h .site-is)
 
   abbrev child : Child how s (z .own .at) site (l .ready .body)
-  child = child-is how s (z .own .at) (z .row) kind site says sited (h .no-cost) (h .no-sync) (h .no-note) (l .ready .body) (l .ready .reads) (h .asks .more)
+  child = child-is how s (z .own .at) (z .row) kind site says sited (h .no-cost) (h .no-sync) (h .no-note) (h .no-instructions) (l .ready .body) (l .ready .reads) (h .asks .more)
 
   pub deeper : 1 ≤ deep
   deeper = child-deeper how s (z .row) (l .sites) deep (z .own) rows (l .ready) site child
@@ -165,29 +175,29 @@ module _ {how : Weigh} {s : List ℕ} {deep : ℕ} {z : Zones} {t m rows : List 
     left : BodyLeft (z .own .at + 1) site (child .g) m rows c m₁ rows₁
     left = u .leaves (child .g) (child .reads)
 
-    pub count-asks : ReturnFits before rows₁ site (c .work) (c .prefix)
+    pub count-asks : ReturnFits before rows₁ site (c .work .0) (c .prefix .0)
     count-asks = child-fits how s (z .row) (l .sites) deep (z .own) rows (l .ready) site child before c rows₁ (u .taken) (u .rows-long) (left .done)
 
-    both : (z .own .work + workOf (child .g) < 2 ^ 64) × (z .own .prefix + (z .own .longest + z .own .since) + workOf (child .g) < 2 ^ 64)
+    both : (z .own .work .0 + workOf (child .g) < 2 ^ 64) × (z .own .prefix .0 + (z .own .longest .0 + z .own .since .0) + workOf (child .g) < 2 ^ 64)
     both = child-work how s (z .row) (l .sites) deep (z .own) rows (l .ready) site child
 
-    pub called-asks : Fits m₁ z (c .prefix) × (z .own .work + c .work < 2 ^ 64)
+    pub called-asks : Fits m₁ z (c .prefix .0) × (z .own .work .0 + c .work .0 < 2 ^ 64)
     called-asks = (
-      step-asks l (c .prefix) m₁ (u .marks-long) (omega (arith, both .1, ap (λ (x : Open). x .prefix) (left .done .numbers-are), chain-le (child .g) (z .own .at + 1) site)),
-      omega (arith, both .0, ap (λ (x : Open). x .work) (left .done .numbers-are)),
+      step-asks l (c .prefix .0) m₁ (u .marks-long) (omega (arith, both .1, ap (λ (x : Open). x .prefix .0) (left .done .numbers-are), chain-le (child .g) (z .own .at + 1) site)),
+      omega (arith, both .0, ap (λ (x : Open). x .work .0) (left .done .numbers-are)),
     )
 
-    pub spawned-asks : Fits m₁ z (c .prefix) × ((z .own .work + c .work < 2 ^ 64) × ((z .own .at < c .at) × (c .at ≤ length m₁)))
+    pub spawned-asks : Fits m₁ z (c .prefix .0) × ((z .own .work .0 + c .work .0 < 2 ^ 64) × ((z .own .at < c .at) × (c .at ≤ length m₁)))
     spawned-asks =
         let at = ap (λ (x : Open). x .at) (left .done .numbers-are) in
         (called-asks .0, (called-asks .1, (omega (arith, at), omega (arith, at, u .marks-long, l .lines, lines-in how s (z .own .at + 1) site (child .g) (child .reads)))))
 
     -- it was counted, and the step left r and the marks m₂
-    module _ {rows₂ : List ℕ} (counts : Returned before site (c .work) (c .prefix) rows₁ rows₂) (r : Zones) (m₂ : List ℕ) where
+    module _ {rows₂ : List ℕ} (counts : Returned before site (c .work .0) (c .prefix .0) rows₁ rows₂) (r : Zones) (m₂ : List ℕ) where
       -- the child's body is g: what the step asks for and leaves, as the item's
       behind : (n : ℕ) (k : Chains) (g b : Body) (x : Chains) → Reads how s (z .own .at + 1) site g → Shows n m z k
-          → (weight (chainOf (z .own .at + 1) site g) ≡ c .prefix → Shows n m₁ z k → z .own .at < c .at → Zone m₁ (z .own .at + 1) (c .at) (chainOf (z .own .at + 1) site g) → At n (c .at) (z .own .work + c .work) x m₁ z r m₂)
-          → (ChildDone (z .own) site rows g c rows₂ → r .own ≡ numbers (c .at) (z .own .work + c .work) x → ItemDone (z .row) (z .own) rows b k (r .own) rows₂)
+          → (weight (chainOf (z .own .at + 1) site g) ≡ c .prefix .0 → Shows n m₁ z k → z .own .at < c .at → Zone m₁ (z .own .at + 1) (c .at) (chainOf (z .own .at + 1) site g) → At n (c .at) (z .own .work .0 + c .work .0) x m₁ z r m₂)
+          → (ChildDone (z .own) site rows g c rows₂ → r .own ≡ numbers (c .at) (z .own .work .0 + c .work .0) x → ItemDone (z .row) (z .own) rows b k (r .own) rows₂)
           → x ≡ itemChains (z .own .at) (z .row) b k → ItemLeft n b k z m rows r m₂ rows₂
       behind n k g b x st sh step item e =
           let d = u .leaves g st in
@@ -211,7 +221,7 @@ module _ {how : Weigh} {s : List ℕ} {deep : ℕ} {z : Zones} {t m rows : List 
 
       pub spawn-leaves : (kind ≡ 2 → ⊥) → Spawned m₁ z c r m₂ → ItemLeaves how s z m rows r m₂ rows₂
       spawn-leaves k2 step b n k more st e sh =
-          let q = spawn-is how s (z .own .at) (z .row) kind says site sited (h .no-cost) (h .no-sync) (h .no-note) b st more k2 in
+          let q = spawn-is how s (z .own .at) (z .row) kind says site sited (h .no-cost) (h .no-sync) (h .no-note) (h .no-instructions) b st more k2 in
           let g = chainOf (z .own .at + 1) site (q .0) in
           subst (λ (x : Body). ItemLeft n x k z m rows r m₂ rows₂) (sym (q .2))
           (behind n k (q .0) (nested spawn site (q .0) (q .1)) (spawned g k) (q .3) sh (step n k g e) (λ v w. record { numbers-are = w ∙ v .numbers-are (spawned g k); rows-are = v .rows-are }) refl)

@@ -67,8 +67,8 @@ pub zone-none : (m : List ℕ) (a : ℕ) → Zone m a a []
 zone-none m a = zone-gone m a a (λ i l r. absurd (omega arith))
 
 -- a cost line that is marked
-pub zone-cost : (m : List ℕ) (n s v : ℕ) → getD m n 0 ≡ 1 → Zone m n (n + 1) (costAt n s v ∷ [])
-zone-cost m n s v h =
+pub zone-cost : (m : List ℕ) (n s v j : ℕ) → getD m n 0 ≡ 1 → Zone m n (n + 1) (costAt n s v j ∷ [])
+zone-cost m n s v j h =
     record {
       marks-are = λ i l r. let e : i ≡ n = omega arith in rw e (h ∙ ap (λ (b : Bool). cond (b || false) 1 0) (sym (eq-eqb n n refl)));
       inside = ((omega arith, omega arith), tt);

@@ -50,10 +50,10 @@ module _ (m : List ℕ) (z : Zones) (v : ℕ) where
 
 module _ (m : List ℕ) (z : Zones) (room : z .own .at < length m) where
   pub spent-done : (v : ℕ) → Spent v m z (record { own = spentN v (z .own); row = z .row; child = z .child; after = z .after }) (set m (z .own .at) 1)
-  spent-done v n k e s =
+  spent-done v i n k e s =
       let b = before m z 1 n k s in
       record {
-        numbers-are = ap (spentN v) e ∙ spent-numbers (z .own .at) (z .own .work) (z .row) v k;
+        numbers-are = ap (spentN v) e ∙ spent-numbers (z .own .at) (z .own .work .0) (z .row) v i k;
         same-row = refl;
         shows = record {
           begins = s .begins;
@@ -61,7 +61,7 @@ module _ (m : List ℕ) (z : Zones) (room : z .own .at < length m) where
           ends = omega (arith, s .ends);
           P = b .P;
           L = b .L;
-          C = zone-append (stored m z 1) (z .after) (z .own .at) (z .own .at + 1) (k .c) (costAt (z .own .at) (z .row) v ∷ []) (s .ends) (omega arith) (b .C) (zone-cost (stored m z 1) (z .own .at) (z .row) v (here m z 1 room));
+          C = zone-append (stored m z 1) (z .after) (z .own .at) (z .own .at + 1) (k .c) (costAt (z .own .at) (z .row) v i ∷ []) (s .ends) (omega arith) (b .C) (zone-cost (stored m z 1) (z .own .at) (z .row) v i (here m z 1 room));
         };
         kept = λ j o. other m z 1 j (λ q. o (omega (arith, s .begins, s .then, s .ends)) (omega arith));
       }
@@ -89,8 +89,8 @@ module _ (m : List ℕ) (z : Zones) (room : z .own .at < length m) where
     joinedZ later = allPrefix (joinedN later (z .own)) (z .row)
 
     -- all is the prefix's zone
-    join-done : (b : Bool) → b ≡ laterHeavier (z .own) → (n : ℕ) (k : Chains) → z .own ≡ numbers (z .own .at) (z .own .work) k → n ≤ z .own .at → Zone m′ n (z .own .at + 1) (joined k .p) → Kept n (z .own .at + 1) m m′
-        → At n (z .own .at + 1) (z .own .work) (joined k) m z (joinedZ b) m′
+    join-done : (b : Bool) → b ≡ laterHeavier (z .own) → (n : ℕ) (k : Chains) → z .own ≡ numbers (z .own .at) (z .own .work .0) k → n ≤ z .own .at → Zone m′ n (z .own .at + 1) (joined k .p) → Kept n (z .own .at + 1) m m′
+        → At n (z .own .at + 1) (z .own .work .0) (joined k) m z (joinedZ b) m′
     join-done b q n k e l P kept =
         record {
           numbers-are = joined-numbers (z .own) k e b q;
@@ -143,7 +143,7 @@ module _ (m : List ℕ) (z : Zones) (room : z .own .at < length m) where
     called-done n k g e v s l G =
         let b = before m z 0 n k s in
         record {
-          numbers-are = ap (calledN c) e ∙ called-numbers (z .own .at) (z .own .work) k c g v;
+          numbers-are = ap (calledN c) e ∙ called-numbers (z .own .at) (z .own .work .0) k c g v;
           same-row = refl;
           shows = record {
             begins = s .begins;

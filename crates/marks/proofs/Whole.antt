@@ -2,7 +2,7 @@
 use mathlib.Core.Path.{_≡_, refl, ap, _∙_, sym, subst}
 use mathlib.Core.Bool.{cond}
 use mathlib.Core.List.{List, [], _∷_}
-use Prim.Native.Nat.{ℕ, _+_, _*_, _-_, _≤_, _<_}
+use Prim.Native.Nat.{ℕ, _+_, _*_, _-_, _^_, _≤_, _<_}
 use native.Mathlib.Decide.{decLt}
 use native.Mathlib.Omega.{arith}
 use lib.ListN.{length, getD, replicate, length-replicate, List·getD-eq-default}
@@ -17,7 +17,7 @@ use Rattle.trace.specs.Refusals.{verdict}
 use Rattle.trace.specs.Promise.{marks, Lent, enough, scratchRoom, rowsRoom, marksRoom, Profile, Promise}
 use Rattle.trace.specs.ByTree.{cell, ProfileBy}
 use Rattle.trace.specs.Tree.{Body, size, Within, workOf, spanOf}
-use Rattle.trace.specs.Fold.{nothing, chainOf, onRow}
+use Rattle.trace.specs.Fold.{nothing, itsCycles, itsInstructions, chainOf, onRow}
 use Rattle.trace.proofs.Slots.{slot-in, is-column}
 use Rattle.trace.proofs.Scan.{accepted-is, accepted-same}
 use Rattle.admit.specs.declared.Verdict.the-variants as Verdict
@@ -35,12 +35,12 @@ use Rattle.walk.specs.Profiled.{Profiled}
 use Rattle.walk.proofs.Weight.{weight-plain}
 use Rattle.walk.proofs.Profiled.{kept-refused, text-refused, plain-promise}
 use Rattle.walk.proofs.Zeros.{zeros-at}
-use Rattle.walk.proofs.Accepted.{limits, rooms, rows-room, cleared, row-there, trace, root, body, lines-are, within, small, reads, ready, profiled, work-is, span-is, count-fits, cells, none-on, rest}
+use Rattle.walk.proofs.Accepted.{limits, rooms, rows-room, cleared, row-there, trace, root, body, lines-are, within, small, reads, ready, profiled, work-is, span-is, count-fits, cells, none-on, none-ion, rest}
 use Rattle.marks.specs.Reader.{BodyAsks, BodyLeft, BodyLeaves}
 use Rattle.marks.specs.Column.{onGain, ColumnAsks, ColumnLeaves}
 use Rattle.marks.specs.Root.{lent, Admitted}
 use Rattle.marks.proofs.Bodies.{shows-begun}
-use Rattle.marks.proofs.OnSpan.{on-cross, on-out, on-le, on-row}
+use Rattle.marks.proofs.OnSpan.{on-cross, on-out, on-le, on-row, ion-row}
 
 module _ {s : List ℕ} {D M : ℕ} {x : Lent} {count lines : ℕ} (a : Admitted s D M x count lines) where
   abbrev t : List Frame
@@ -126,11 +126,22 @@ module _ {s : List ℕ} {D M : ℕ} {x : Lent} {count lines : ℕ} (a : Admitted
       at-is : c .at ≡ 0 + size b
       at-is = ap (λ (y : Open). y .at) (left .done .numbers-are)
 
-      pub count-asks : ReturnFits before rows₁ 0 (c .work) (c .prefix)
+      pub count-asks : ReturnFits before rows₁ 0 (c .work .0) (c .prefix .0)
       count-asks = count-fits marks s D M x t (a .is) count (a .count-is) how tabled before took c rows₁ (u .rows-same) (left .done)
 
       -- the root was counted
-      module _ (rows₂ : List ℕ) (counts : Returned before 0 (c .work) (c .prefix) rows₁ rows₂) (lr₂ : length rows₂ ≡ length (x .rows)) where
+      module _ (rows₂ : List ℕ) (counts : Returned before 0 (c .work .0) (c .prefix .0) rows₁ rows₂) (lr₂ : length rows₂ ≡ length (x .rows)) where
+        -- columns 5 and 7 are still zero
+        no-on : (k : ℕ) → k ≤ count → getD rows₂ (slot k Column.onSpan) 0 ≡ 0
+        no-on = none-on marks s D M x t (a .is) count (a .count-is) how tabled before took c rows₁ (u .rows-same) (left .done) rows₂ counts
+
+        no-ion : (k : ℕ) → k ≤ count → getD rows₂ (slot k Column.ionSpan) 0 ≡ 0
+        no-ion = none-ion marks s D M x t (a .is) count (a .count-is) how tabled before took c rows₁ (u .rows-same) (left .done) rows₂ counts
+
+        -- and a column that is has room
+        room-in : (j : Column) → ((k : ℕ) → k ≤ count → getD rows₂ (slot k j) 0 ≡ 0) → (k : ℕ) → k ≤ count → getD rows₂ (slot k j) 0 + (onGain m₂ 0 0 b (slot k j) + 0) < 2 ^ 64
+        room-in j none k l = omega (arith, none k l, on-le m₂ (slot k j) b 0 0, small marks s D M x t (a .is) count (a .count-is) how tabled)
+
         -- the second reading
         pub on-asks : ColumnAsks how s lines t₂ m₂ rows₂
         on-asks =
@@ -148,20 +159,15 @@ module _ {s : List ℕ} {D M : ℕ} {x : Lent} {count lines : ℕ} (a : Admitted
                     held = (refl, refl, refl);
                     rows-long = omega (arith, lr₂, rows-in);
                     lines = omega (arith, text-in, u .marks-same);
-                    fits = λ j l.
-                        omega (
-                          arith,
-                          none-on marks s D M x t (a .is) count (a .count-is) how tabled before took c rows₁ (u .rows-same) (left .done) rows₂ counts j l,
-                          on-le m₂ (slot j Column.onSpan) b 0 0,
-                          small marks s D M x t (a .is) count (a .count-is) how tabled,
-                        );
+                    fits = room-in Column.onSpan no-on;
+                    ifits = room-in Column.ionSpan no-ion;
                   };
             }
 
         -- what it left
         module _ (t₃ rows₃ : List ℕ) (on : ColumnLeaves how s lines t₂ m₂ rows₂ rows₃) (same : t₃ ≡ t₂) (lr₃ : length rows₃ ≡ length (x .rows)) where
           abbrev answer : Answer
-          answer = Accepted (c .work) (c .prefix) count lines
+          answer = Accepted (c .work .0) (c .prefix .0) count lines
 
           grown : (i : ℕ) → i < length (x .rows) → getD rows₃ i 0 ≡ getD rows₂ i 0 + onGain m₂ 0 0 b i
           unfolding on-asks
@@ -170,19 +176,23 @@ module _ {s : List ℕ} {D M : ℕ} {x : Lent} {count lines : ℕ} (a : Admitted
           shown : (i : ℕ) → 0 ≤ i → i < 0 + size b → getD m₂ i 0 ≡ cond (has i (linesIn (chainOf 0 0 b))) 1 0
           shown i l r = left .zone .marks-are i l (omega (arith, at-is))
 
-          on-is : (k : ℕ) → onGain m₂ 0 0 b (slot k Column.onSpan) ≡ onRow k (chainOf 0 0 b)
+          on-is : (k : ℕ) → onGain m₂ 0 0 b (slot k Column.onSpan) ≡ onRow itsCycles k (chainOf 0 0 b)
           on-is k = on-row D (trace marks s D M x t (a .is) count (a .count-is) how tabled) (root marks s D M x t (a .is) count (a .count-is) how tabled) m₂ k shown
 
+          ion-is : (k : ℕ) → onGain m₂ 0 0 b (slot k Column.ionSpan) ≡ onRow itsInstructions k (chainOf 0 0 b)
+          ion-is k = ion-row D (trace marks s D M x t (a .is) count (a .count-is) how tabled) (root marks s D M x t (a .is) count (a .count-is) how tabled) m₂ k shown
+
           cells-are : (k : ℕ) (j : Column) → k ≤ count → getD rows₃ (slot k j) 0 ≡ cell b k j
-          cells-are k j h = go (is-column j Column.onSpan)
+          cells-are k j h = go (is-column j Column.onSpan) (is-column j Column.ionSpan)
             where
               in-rows : slot k j < length (x .rows)
               in-rows = omega (arith, slot-in count k j h, rows-in)
 
-              go : Dec (j ≡ Column.onSpan) → getD rows₃ (slot k j) 0 ≡ cell b k j
-              go (no q) = omega (arith, grown (slot k j) in-rows, on-cross m₂ j k q b 0 0, cells marks s D M x t (a .is) count (a .count-is) how tabled before took c rows₁ (u .rows-same) (left .done) rows₂ counts k j h q)
-              go (yes e) =
-                  rw e (omega (arith, grown (slot k Column.onSpan) (omega (arith, rows-in)), none-on marks s D M x t (a .is) count (a .count-is) how tabled before took c rows₁ (u .rows-same) (left .done) rows₂ counts k h, on-is k))
+              go : Dec (j ≡ Column.onSpan) → Dec (j ≡ Column.ionSpan) → getD rows₃ (slot k j) 0 ≡ cell b k j
+              go (no q) (no w) =
+                  omega (arith, grown (slot k j) in-rows, on-cross m₂ j k q w b 0 0, cells marks s D M x t (a .is) count (a .count-is) how tabled before took c rows₁ (u .rows-same) (left .done) rows₂ counts k j h q w)
+              go (no q) (yes e) = rw e (omega (arith, grown (slot k Column.ionSpan) (omega (arith, rows-in)), no-ion k h, ion-is k))
+              go (yes e) d = rw e (omega (arith, grown (slot k Column.onSpan) (omega (arith, rows-in)), no-on k h, on-is k))
 
           rest-is : (i : ℕ) → columns * (count + 1) ≤ i → getD rows₃ i 0 ≡ getD (x .rows) i 0
           rest-is i h = go (decLt i (length (x .rows)))
@@ -194,7 +204,7 @@ module _ {s : List ℕ} {D M : ℕ} {x : Lent} {count lines : ℕ} (a : Admitted
           by-tree : ProfileBy marks count b x answer (lent t₃ m₂ rows₃)
           by-tree =
               record {
-                answer = ap (λ (y : ℕ). Accepted y (c .prefix) count lines) (work-is marks s D M x t (a .is) count (a .count-is) how tabled before took c rows₁ (u .rows-same) (left .done)) ∙ ap (λ (y : ℕ). Accepted (workOf b) y count lines) (span-is marks s D M x t (a .is) count (a .count-is) how tabled before took c rows₁ (u .rows-same) (left .done)) ∙ ap (Accepted (workOf b) (spanOf b) count) ends;
+                answer = ap (λ (y : ℕ). Accepted y (c .prefix .0) count lines) (work-is marks s D M x t (a .is) count (a .count-is) how tabled before took c rows₁ (u .rows-same) (left .done)) ∙ ap (λ (y : ℕ). Accepted (workOf b) y count lines) (span-is marks s D M x t (a .is) count (a .count-is) how tabled before took c rows₁ (u .rows-same) (left .done)) ∙ ap (Accepted (workOf b) (spanOf b) count) ends;
                 rows = record { same-length = lr₃; cells = cells-are; rest = rest-is };
                 scratch = same ∙ u .zero;
                 marked = record { same-length = u .marks-same; marks-are = λ k l. shown k (omega arith) (omega arith); rest = λ k l. left .kept k (λ v w. omega (arith, at-is)) };

@@ -1,4 +1,4 @@
--- For proofs and engines, not for the reader of document 01: what the second reading, for the on-span column, asks
+-- For proofs and engines, not for the reader of document 01: what the second reading, for the on-span columns, asks
 -- for and leaves. m are the marks, and how is what a cost line weighs.
 use Prim.Native.Nat.{ℕ, _+_, _*_, _^_, _≤_, _<_}
 use mathlib.Core.Path.{_≡_}
@@ -9,7 +9,7 @@ use lib.ListN.{length, getD, set}
 use Rattle.line.specs.Read.{width}
 use Rattle.trace.specs.Rows.{columns}
 use Rattle.trace.specs.Column.{Column, slot}
-use Rattle.trace.specs.Tree.{leafWork, Body, done, leaf, child, size, Within}
+use Rattle.trace.specs.Tree.{leafWork, leafInstructions, Body, done, leaf, child, size, Within}
 use Rattle.weigh.specs.Weighed.{Weigh}
 use Rattle.walk.specs.Reads.{Reads}
 use Rattle.walk.specs.Gain.{one, Grown}
@@ -20,11 +20,15 @@ use Rattle.marks.specs.Park.{Zero}
 abbrev pub marked : ℕ → ℕ → ℕ
 marked x v = cond (eqb x 1) v 0
 
+-- columns 5 and 7 of row s: a cost of v with j instructions whose mark is x
+abbrev pub markedGain : ℕ → ℕ → ℕ → ℕ → ℕ → ℕ
+markedGain s x v j i = one (slot s Column.onSpan) (marked x v) i + one (slot s Column.ionSpan) (marked x j) i
+
 -- by how much row number i grows over the body of an invocation of row s whose first line is n: each marked cost in
 -- its own row
 abbrev pub onGain : List ℕ → ℕ → ℕ → Body → ℕ → ℕ
 onGain m n s done i = 0
-onGain m n s (leaf l r) i = one (slot s Column.onSpan) (marked (getD m n 0) (leafWork l)) i + onGain m (n + 1) s r i
+onGain m n s (leaf l r) i = markedGain s (getD m n 0) (leafWork l) (leafInstructions l r) i + onGain m (n + 1) s r i
 onGain m n s (child w j g r) i = onGain m (n + 1) j g i + onGain m (n + (1 + size g)) s r i
 
 -- an open invocation: its row, and what is left of its body
@@ -66,7 +70,7 @@ behind s (child w j g r) k = left j g ∷ (left s r ∷ k)
 -- by how much row number i grows over this line
 abbrev pub onLine : List ℕ → ℕ → ℕ → Body → ℕ → ℕ
 onLine m n s done i = 0
-onLine m n s (leaf l r) i = one (slot s Column.onSpan) (marked (getD m n 0) (leafWork l)) i
+onLine m n s (leaf l r) i = markedGain s (getD m n 0) (leafWork l) (leafInstructions l r) i
 onLine m n s (child w j g r) i = 0
 
 -- the scratch z with the rows of open invocations at its front, the outermost's first
@@ -98,6 +102,10 @@ pub record Returned (t : List ℕ) (a r : Present) (t′ : List ℕ) : Type 0 wh
   pub last : a .around ≡ 0 → (r ≡ a) × (t′ ≡ t)
   pub inner : (d : ℕ) → a .around ≡ d + 1 → (r ≡ record { row = getD t d 0; around = d }) × (t′ ≡ set t d 0)
 
+-- column c of each row has room for what is left to add
+abbrev pub OnFits : Column → ℕ → List ℕ → ℕ → List Left → List ℕ → Type 0
+OnFits c sites m n k rows = (j : ℕ) → j ≤ sites → getD rows (slot j c) 0 + onLeft m n k (slot j c) < 2 ^ 64
+
 -- What is left of the open invocations k is read from line n on, and each line of the text has a mark. z is the
 -- scratch where none is open: it is zero, and has room for all rows. The on-span numbers fit.
 pub record OnLent (how : Weigh) (s : List ℕ) (n : ℕ) (k : List Left) (z : List ℕ) (a : Present) (t m rows : List ℕ) : Type 0 where
@@ -110,7 +118,8 @@ pub record OnLent (how : Weigh) (s : List ℕ) (n : ℕ) (k : List Left) (z : Li
   pub held : Held z k a t
   pub rows-long : columns * (sites + 1) ≤ length rows
   pub lines : length s ≤ width * length m
-  pub fits : (j : ℕ) → j ≤ sites → getD rows (slot j Column.onSpan) 0 + onLeft m n k (slot j Column.onSpan) < 2 ^ 64
+  pub fits : OnFits Column.onSpan sites m n k rows
+  pub ifits : OnFits Column.ionSpan sites m n k rows
 
 -- a line: at least one invocation is open
 pub record LineAsks (how : Weigh) (s : List ℕ) (n : ℕ) (a : Present) (t m rows : List ℕ) : Type 0 where

@@ -28,7 +28,7 @@ pub record Lent (how : Weigh) (s : List ℕ) (deep : ℕ) (z : Zones) (t m rows 
   pub room : 8 + deep * 8 ≤ length t
   pub n : ℕ
   pub k : Chains
-  pub weighs : z .own ≡ numbers (z .own .at) (z .own .work) k
+  pub weighs : z .own ≡ numbers (z .own .at) (z .own .work .0) k
   pub shows : Shows n m z k
 
 -- the item reader: there is an item, whose first line is of this kind
@@ -46,7 +46,7 @@ pub record ItemLeft (n : ℕ) (b : Body) (k : Chains) (z : Zones) (m rows : List
 
 -- whatever body stands here, wherever its invocation began and whatever chains it has come to
 abbrev pub ItemLeaves : (how : Weigh) (s : List ℕ) (z : Zones) (m rows : List ℕ) (r : Zones) (m′ rows′ : List ℕ) → Type 0
-ItemLeaves how s z m rows r m′ rows′ = (b : Body) (n : ℕ) (k : Chains) → More b → Reads how s (z .own .at) (z .row) b → z .own ≡ numbers (z .own .at) (z .own .work) k → Shows n m z k
+ItemLeaves how s z m rows r m′ rows′ = (b : Body) (n : ℕ) (k : Chains) → More b → Reads how s (z .own .at) (z .row) b → z .own ≡ numbers (z .own .at) (z .own .work .0) k → Shows n m z k
     → ItemLeft n b k z m rows r m′ rows′
 
 -- at the return of b, of an invocation that began at line n and had come to the chains k
@@ -60,7 +60,7 @@ pub record ItemsLeft (n : ℕ) (b : Body) (k : Chains) (z : Zones) (m rows : Lis
 pub record ItemsLeave (how : Weigh) (s : List ℕ) (deep : ℕ) (z : Zones) (t m rows : List ℕ) (r : Zones) (m′ rows′ : List ℕ) : Type 0 where
   pub lent : Lent how s deep r t m′ rows′
   pub same-row : r .row ≡ z .row
-  pub leaves : (b : Body) (n : ℕ) (k : Chains) → Reads how s (z .own .at) (z .row) b → z .own ≡ numbers (z .own .at) (z .own .work) k → Shows n m z k → ItemsLeft n b k z m rows r m′ rows′
+  pub leaves : (b : Body) (n : ℕ) (k : Chains) → Reads how s (z .own .at) (z .row) b → z .own ≡ numbers (z .own .at) (z .own .work .0) k → Shows n m z k → ItemsLeft n b k z m rows r m′ rows′
 
 -- an invocation of a row whose body begins at a line
 abbrev pub begun : ℕ → ℕ → Zones

@@ -1,20 +1,20 @@
 // The marks engine. A mark is a byte a line. The lines of an open invocation are three zones: the prefix's, the
 // longest child's and the continuation's. The marks of each zone show its chain, and where a zone loses, its marks
-// are cleared. A second reading takes column 5 from the marks.
+// are cleared. A second reading takes columns 5 and 7 from the marks.
 ghost use mathlib.Core.Path.{_≡_};
 ghost use Prim.Native.Nat.{_+_, _*_, _^_, _≤_, _<_};
 ghost use lib.ListN.{length, getD, set, replicate};
-ghost use Rattle.trace.specs.Column.{Column, slot};
+ghost use Rattle.trace.specs.Column.{Column};
 ghost use Rattle.trace.specs.Promise.{Engine, Promise};
 ghost use Rattle.forecast.specs.OfList.{ForecastOf};
-ghost use Rattle.walk.specs.Weight.{byFactors, Factors, weightAt};
+ghost use Rattle.walk.specs.Weight.{byFactors, Factors, weightAt, instructionsAt};
 ghost use Rattle.walk.specs.Profiled.{Profiled};
-ghost use Rattle.walk.specs.Gain.{ColumnFits, one, Grown};
+ghost use Rattle.walk.specs.Gain.{ColumnFits, Grown};
 ghost use Rattle.marks.specs.Shown.{allPrefix, Wiped};
 ghost use Rattle.marks.specs.Steps.{Fits, Spent, Passed, Joined, Called, Spawned};
 ghost use Rattle.marks.specs.Park.{park, parked, blank};
 ghost use Rattle.marks.specs.Reader.{Lent, ItemAsks, ItemLeaves, ItemsLeave, BodyAsks, BodyLeaves};
-ghost use Rattle.marks.specs.Column.{marked, entered, Returned, LineAsks, LineLeaves, ColumnAsks, ColumnLeaves};
+ghost use Rattle.marks.specs.Column.{marked, markedGain, entered, Returned, LineAsks, LineLeaves, ColumnAsks, ColumnLeaves};
 ghost use Rattle.marks.specs.Root.{lent, Admitted};
 
 // An open invocation: its numbers, its row, and the lines at which the zones of its longest child and of its
@@ -60,10 +60,10 @@ fn wipe_lines(marks: &mut [u8], a: usize, e: usize)
 }
 
 // A cost of v: its line is marked.
-fn spend(marks: &mut [u8], z: Zones, v: u64) -> Zones
-    requires { ⌜ Fits (now marks) z v ⌝ }
-    requires { ⌜ z .own .work + v < 2 ^ 64 ⌝ }
-    ensures { λ r. ⌜ Spent v (now (marks .entry)) z r (now (marks .exit)) ⌝ }
+fn spend(marks: &mut [u8], z: Zones, v: walk::Cycles) -> Zones
+    requires { ⌜ Fits (now marks) z (v .0) ⌝ }
+    requires { ⌜ z .own .work .0 + v .0 < 2 ^ 64 ⌝ }
+    ensures { λ r. ⌜ Spent (v .0) (now (marks .entry)) z r (now (marks .exit)) ⌝ }
 {
     let own = z.own;
     let at = own.at;
@@ -115,8 +115,8 @@ fn join(marks: &mut [u8], z: Zones) -> Zones
 
 // A called child has returned: its zone is the continuation's.
 fn called(marks: &mut [u8], z: Zones, c: walk::Open) -> Zones
-    requires { ⌜ Fits (now marks) z (c .prefix) ⌝ }
-    requires { ⌜ z .own .work + c .work < 2 ^ 64 ⌝ }
+    requires { ⌜ Fits (now marks) z (c .prefix .0) ⌝ }
+    requires { ⌜ z .own .work .0 + c .work .0 < 2 ^ 64 ⌝ }
     ensures { λ r. ⌜ Called (now (marks .entry)) z c r (now (marks .exit)) ⌝ }
 {
     let own = z.own;
@@ -133,8 +133,8 @@ fn called(marks: &mut [u8], z: Zones, c: walk::Open) -> Zones
 // A spawned child has returned: where it is longer, it is the longest from now on and the one before it is cleared;
 // else it is cleared itself.
 fn spawned(marks: &mut [u8], z: Zones, c: walk::Open) -> Zones
-    requires { ⌜ Fits (now marks) z (c .prefix) ⌝ }
-    requires { ⌜ (z .own .work + c .work < 2 ^ 64) × ((z .own .at < c .at) × (c .at ≤ length (now marks))) ⌝ }
+    requires { ⌜ Fits (now marks) z (c .prefix .0) ⌝ }
+    requires { ⌜ (z .own .work .0 + c .work .0 < 2 ^ 64) × ((z .own .at < c .at) × (c .at ≤ length (now marks))) ⌝ }
     ensures { λ r. ⌜ Spawned (now (marks .entry)) z c r (now (marks .exit)) ⌝ }
 {
     let own = z.own;
@@ -169,10 +169,10 @@ fn store(t: &mut [u64], z: Zones)
 {
     let own = z.own;
     t[0] = own.at as u64;
-    t[1] = own.work;
-    t[2] = own.prefix;
-    t[3] = own.longest;
-    t[4] = own.since;
+    t[1] = own.work.0;
+    t[2] = own.prefix.0;
+    t[3] = own.longest.0;
+    t[4] = own.since.0;
     t[5] = z.row as u64;
     t[6] = z.child as u64;
     t[7] = z.after as u64;
@@ -186,10 +186,10 @@ fn load(t: &mut [u64]) -> Zones
 {
     let own = walk::Open {
         at: t[0] as usize,
-        work: t[1],
-        prefix: t[2],
-        longest: t[3],
-        since: t[4],
+        work: walk::Cycles(t[1]),
+        prefix: walk::Cycles(t[2]),
+        longest: walk::Cycles(t[3]),
+        since: walk::Cycles(t[4]),
     };
     let z = Zones {
         own,
@@ -281,11 +281,14 @@ fn item(
     let at = z.own.at;
     if kind == 6 {
         let v = walk::weight_at(trace, at, z.row, factors);
-        walk::spend(rows, z.row, v);
+        walk::spend(rows, z.row, v, walk::instructions_at(trace, at));
         return spend(marks, z, v);
     }
     if kind == 4 {
         return join(marks, z);
+    }
+    if kind == 7 {
+        return pass(marks, z);
     }
     if kind == 1 {
         return pass(marks, z);
@@ -311,18 +314,27 @@ fn item(
     spawned(marks, back, c)
 }
 
-// Column 5 of a row: what a cost line of it weighs, where the line is marked.
+// Columns 5 and 7 of a row: what a cost line of it weighs, and its instructions, where the line is marked.
 fn add_marked(trace: &[u8], at: usize, row: usize, marks: &[u8], rows: &mut [u64], factors: &[u64])
-    requires { ⌜ (at < length (now marks)) × ColumnFits (now rows) row Column.onSpan
+    requires { ⌜ at < length (now marks) ⌝ }
+    requires { ⌜ ColumnFits (now rows) row Column.onSpan
         (marked (getD (now marks) at 0) (weightAt (now factors) (now trace) at row)) ⌝ }
-    ensures { λ _. ⌜ Grown (now (rows .entry)) (one (slot row Column.onSpan) (marked (getD (now (marks .entry)) at 0)
-        (weightAt (now (factors .entry)) (now (trace .entry)) at row))) (now (rows .exit)) ⌝ }
+    requires { ⌜ ColumnFits (now rows) row Column.ionSpan
+        (marked (getD (now marks) at 0) (instructionsAt (now trace) at)) ⌝ }
+    ensures { λ _. ⌜ Grown (now (rows .entry)) (markedGain row (getD (now (marks .entry)) at 0)
+        (weightAt (now (factors .entry)) (now (trace .entry)) at row) (instructionsAt (now (trace .entry)) at))
+        (now (rows .exit)) ⌝ }
 {
     if marks[at] == 1 {
         walk::add(
             rows,
             trace::COLUMNS * row + trace::ON_SPAN,
             walk::weight_at(trace, at, row, factors),
+        );
+        walk::add_instructions(
+            rows,
+            trace::COLUMNS * row + trace::ION_SPAN,
+            walk::instructions_at(trace, at),
         );
     }
 }
@@ -362,7 +374,7 @@ fn leave(t: &mut [u64], a: Present) -> Present
     Present { row, around: d }
 }
 
-// Reads a line once more: a marked cost is added to column 5 of the present row.
+// Reads a line once more: a marked cost is added to column 5 of the present row, and its instructions to column 7.
 fn on_line(
     trace: &[u8],
     at: usize,
@@ -387,13 +399,16 @@ fn on_line(
     if kind == 4 {
         return a;
     }
+    if kind == 7 {
+        return a;
+    }
     if kind == 1 {
         return a;
     }
     enter(t, a, line::site_at(trace, at) as usize)
 }
 
-// Reads the root's lines once more: each marked cost is added to column 5 of the row that it stands in.
+// Reads the root's lines once more: each marked cost is added to columns 5 and 7 of the row that it stands in.
 fn column(
     trace: &[u8],
     lines: usize,
@@ -416,7 +431,7 @@ fn column(
 }
 
 // An accepted trace of count sites and lines lines, each cost weighed by its row's factor: the room is cleared, and the
-// root is read twice, once for all and once for column 5.
+// root is read twice, once for all and once for columns 5 and 7.
 fn accepted(
     text: &[u8],
     depth: usize,
@@ -440,7 +455,7 @@ fn accepted(
     let f = body(text, 0, 0, depth - 1, scratch, marks, rows, factors);
     walk::returned(rows, 0, f.work, f.prefix, before);
     column(text, lines, scratch, marks, rows, factors);
-    trace::Answer::Accepted(f.work, f.prefix, count, lines)
+    trace::Answer::Accepted(f.work.0, f.prefix.0, count, lines)
 }
 
 // The marks engine: any text, any limits and any room.

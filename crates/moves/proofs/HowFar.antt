@@ -20,7 +20,8 @@ use Rattle.trace.proofs.Chains.{is-length}
 use Rattle.trace.proofs.Parse.{accepted-parts}
 use Rattle.trace.proofs.Root.{root-span}
 use Rattle.weigh.specs.Raised.{raised, lowered}
-use Rattle.weigh.proofs.OneLine.{one-length, one-sites, total-raised}
+use Rattle.weigh.proofs.Less.{ilocal-alike, ion-span-alike}
+use Rattle.weigh.proofs.OneLine.{one-alike, one-length, one-sites, total-raised}
 use Rattle.agree.specs.Demand.{Run, Ran, HasRoom}
 use Rattle.agree.proofs.Demand.{accepts}
 use Rattle.moves.specs.Moves.{OnSomeHeaviest, Falls}
@@ -45,6 +46,8 @@ how-far s D M room t k v d a h =
       raised-span = spanOf (accepted-parts (withCost s k (v + d)) D M room (raised t k d) b .body);
       is-raised-span = root-span D (raised t k d) (accepted-parts (withCost s k (v + d)) D M room (raised t k d) b);
       moves = λ F m n x y. span-moves t k v d (h .cost-line) F m n x y (omega arith);
+      same-ilocal = λ i. sym (ilocal-alike t (raised t k d) (one-alike (λ x. x + d) t k) i);
+      same-ion-span = λ c i. sym (ion-span-alike t (raised t k d) (one-alike (λ x. x + d) t k) c i);
     }
 
 -- LAW: and the other way, with the value still at least 1

@@ -14,7 +14,7 @@ use Rattle.line.specs.declared.Frame.the-variants.{Cost}
 use Rattle.line.specs.declared.Read.the-variants.{Line}
 use Rattle.line.specs.Read.{readLine, lineAt, readAt}
 use Rattle.line.specs.Write.{writable, writeChars}
-use Rattle.line.proofs.Writable.{writable-cost, chars-length}
+use Rattle.line.proofs.Writable.{writable-value, chars-length}
 use Rattle.line.proofs.RoundTrip.{write-read}
 use Rattle.trace.specs.Shape.{Is}
 use Rattle.trace.specs.Refusals.{lineCount, readsFrom, accepted, verdict}
@@ -101,7 +101,7 @@ module _ (g : ℕ → ℕ) (s : List ℕ) (D M : ℕ) (room : Bool) (t : List Fr
 
   module _ (low : 1 ≤ g v) (high : g v ≤ 4294967295) where
     can : writable (Cost (g v)) ≡ true
-    can = writable-cost (g v) (omega arith) ∙ le-leb 1 (g v) low
+    can = writable-value (Cost (g v)) (g v) (omega arith) ∙ le-leb 1 (g v) low
 
     read-line : (j : ℕ) (f : Frame) → Is u j f → readAt z j ≡ Line j f
     read-line j f h = elim (same-or-not j k) [

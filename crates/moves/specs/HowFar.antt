@@ -9,7 +9,7 @@ use Rattle.line.specs.declared.Frame.the-variants.{Cost}
 use Rattle.trace.specs.declared.Answer.the-variants.{Accepted}
 use Rattle.trace.specs.Shape.{Is, root, sites}
 use Rattle.trace.specs.Series.{Span}
-use Rattle.trace.specs.Rows.{total}
+use Rattle.trace.specs.Rows.{total, ilocal, ionSpan}
 use Rattle.trace.specs.Refusals.{accepted, verdict}
 use Rattle.trace.specs.Promise.{Engine}
 use Rattle.weigh.specs.Raised.{raised}
@@ -34,6 +34,9 @@ pub record AfterRaise (s : List ℕ) (D M : ℕ) (room : Bool) (t : List Frame) 
   pub is-raised-span : Span (raised t k d) root raised-span
   -- "The span then grows by at most d and never falls ...": the root's, and that of any other invocation
   pub moves : (F m n : ℕ) → Span t F m → Span (raised t k d) F n → Moves t F k d m n
+  -- 02, request l: "Cycles and instructions are separate measures": instructions stay as they are, local and on any chain
+  pub same-ilocal : (i : ℕ) → ilocal (raised t k d) i ≡ ilocal t i
+  pub same-ion-span : (c : List ℕ) (i : ℕ) → ionSpan (raised t k d) c i ≡ ionSpan t c i
 
 -- "State it for the definition": of every accepted trace
 abbrev pub HowFar : Type 0

@@ -67,6 +67,7 @@ fn fields_of(f: Frame) -> [u64; FIELDS]
         Frame::Sync => [4, 0, 0, 0, 0],
         Frame::Return => [5, 0, 0, 0, 0],
         Frame::Cost(value) => [6, 0, value as u64, 0, 0],
+        Frame::Instructions(value) => [7, 0, value as u64, 0, 0],
     }
 }
 

@@ -31,7 +31,7 @@ abbrev t : List Frame
 t = linesOf body
 
 abbrev rows : List ℕ
-rows = 1 ∷ 10 ∷ 9 ∷ 2 ∷ 2 ∷ 1 ∷ 8 ∷ 7 ∷ 1 ∷ 0 ∷ 1 ∷ 7 ∷ 7 ∷ 7 ∷ 7 ∷ []
+rows = 1 ∷ 10 ∷ 9 ∷ 2 ∷ 2 ∷ 0 ∷ 0 ∷ 1 ∷ 8 ∷ 7 ∷ 1 ∷ 0 ∷ 0 ∷ 0 ∷ 1 ∷ 7 ∷ 7 ∷ 7 ∷ 7 ∷ 0 ∷ 0 ∷ []
 
 is-accepted : verdict input 32 31 true ≡ accepted t
 is-accepted = refl
@@ -50,9 +50,9 @@ chosen = subst (λ (b : Body). Chosen t (linesIn (chainOf 0 0 b))) same (root-ch
 
 rows-are : (s : ℕ) → s ≤ 2 → Row t (linesIn (chainOf 0 0 body)) rows s
 unfolding choose
-rows-are zero l = record { calls-is = refl; work-is = refl; span-is = spans 0; local-is = refl; on-span-is = refl }
-rows-are (suc zero) l = record { calls-is = refl; work-is = refl; span-is = spans 1; local-is = refl; on-span-is = refl }
-rows-are (suc (suc zero)) l = record { calls-is = refl; work-is = refl; span-is = spans 2; local-is = refl; on-span-is = refl }
+rows-are zero l = record { calls-is = refl; work-is = refl; span-is = spans 0; local-is = refl; on-span-is = refl; ilocal-is = refl; ion-span-is = refl }
+rows-are (suc zero) l = record { calls-is = refl; work-is = refl; span-is = spans 1; local-is = refl; on-span-is = refl; ilocal-is = refl; ion-span-is = refl }
+rows-are (suc (suc zero)) l = record { calls-is = refl; work-is = refl; span-is = spans 2; local-is = refl; on-span-is = refl; ilocal-is = refl; ion-span-is = refl }
 rows-are (suc (suc (suc s))) l = absurd (omega arith)
 
 printed : Prints (ruling input) output

@@ -28,6 +28,8 @@ module _ (t : List Frame) (c x y : List ℕ) (s : ℕ) (p : Row t c x s) (q : Ro
   cell-same Column.span = spans-unique t s _ _ (p .span-is) (q .span-is)
   cell-same Column.local = p .local-is ∙ sym (q .local-is)
   cell-same Column.onSpan = p .on-span-is ∙ sym (q .on-span-is)
+  cell-same Column.ilocal = p .ilocal-is ∙ sym (q .ilocal-is)
+  cell-same Column.ionSpan = p .ion-span-is ∙ sym (q .ion-span-is)
 
   row-same : columns * (s + 1) ≤ length x → columns * (s + 1) ≤ length y → numbersOf x s ≡ numbersOf y s
   row-same l m =

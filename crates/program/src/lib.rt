@@ -56,7 +56,7 @@ pub fn print(input: &[u8], out: &mut [u8; ROOM]) -> usize
     if MOST < input.len() {
         return print_refusal(3, 0, out);
     }
-    let mut scratch = [0u64; 4 * DEPTH * (SITES + 3)];
+    let mut scratch = [0u64; trace::SCRATCH * DEPTH * (SITES + 3)];
     let mut rows = [0u64; trace::COLUMNS * (SITES + 1)];
     match tables::profile(input, DEPTH, SITES, &mut scratch, &mut rows) {
         Answer::Accepted(_, _, count, _) => print_report(&rows, count, out),

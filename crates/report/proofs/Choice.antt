@@ -53,7 +53,7 @@ module _ (idle : Bool) (rows : List ℕ) where
       go true = line-length r (numbersOf rows r) (row-length rows r h)
       go false = refl
 
-  -- 85 characters for each row that is printed
+  -- a line's characters for each row that is printed
   pub pieces-length : (n : ℕ) → columns * n ≤ length rows → length (pieces idle rows n) ≡ width * length (picked (asked idle rows) (first n))
   pieces-length zero h = ap length (flatMap-none (piece idle rows))
   pieces-length (suc n) h =

@@ -36,7 +36,7 @@ row-length rows r h = length-take-le columns (drop (columns * r) rows) (simp len
 pub column-at : (rows : List ℕ) (r : ℕ) (k : Column) → getD (numbersOf rows r) (nth k) 0 ≡ getD rows (slot r k) 0
 column-at rows r k = getD-take columns (drop (columns * r) rows) (nth k) 0 (nth-in k) ∙ getD-drop (columns * r) rows (nth k) 0
 
--- "85 characters"
+-- "A report line ... is 117 characters"
 pub line-length : (r : ℕ) (numbers : List ℕ) → length numbers ≡ columns → length (lineOf r numbers) ≡ width
 unfolding lineOf
 line-length r numbers l =
@@ -76,7 +76,7 @@ module _ (f : ℕ → List ℕ) where
       go (inl e) g = omega (arith, all, ap (λ (k : ℕ). length (flatMap f (first k)) + length (f k)) e)
       go (inr l) g = omega (arith, all, g l)
 
--- 85 characters for each row
+-- a line's characters for each row
 lines-even : (rows : List ℕ) (n : ℕ) → columns * n ≤ length rows → Even (rowLine rows) width (first n)
 lines-even rows n h k l =
     let below : k < n = rw first-length at l in

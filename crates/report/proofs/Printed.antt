@@ -89,7 +89,7 @@ module _ (rows : List ℕ) (count : ℕ) (given : Rows rows count) where
   those : Picks (isPrinted rows) (count + 1) (printed rows count)
   those = picks (isPrinted rows) (count + 1)
 
-  -- 85 characters for each row printed
+  -- a line's characters for each row printed
   pub printed-even : Even (rowLine rows) width (printed rows count)
   printed-even k h = line-length (getD (printed rows count) k 0) _ (row-length rows (getD (printed rows count) k 0) (omega (arith, those .below k h, given .enough)))
 

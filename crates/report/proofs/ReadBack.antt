@@ -47,7 +47,7 @@ pub record Rows (rows : List ℕ) (count : ℕ) : Type 0 where
   pub small : (i : ℕ) → getD rows i 0 < 2 ^ 64
 
 module _ (rows : List ℕ) (count : ℕ) (given : Rows rows count) where
-  -- 85 characters a row
+  -- a line's characters a row
   pub text-length : length (fullText rows count) ≡ width * (count + 1)
   text-length = lines-length rows (count + 1) (given .enough)
 
@@ -55,7 +55,7 @@ module _ (rows : List ℕ) (count : ℕ) (given : Rows rows count) where
   pub line-is : (r : ℕ) → r ≤ count → lineAt (fullText rows count) r ≡ rowLine rows r
   line-is r h = ap (λ (s : List ℕ). lineAt s r) (sym (append-nil (fullText rows count))) ∙ line-at rows [] (count + 1) r (given .enough) (omega arith)
 
-  -- each of 85 characters
+  -- each as long as a line
   pub line-long : (r : ℕ) → r ≤ count → length (rowLine rows r) ≡ width
   line-long r h = line-length r (numbersOf rows r) (row-length rows r (omega (arith, given .enough)))
 

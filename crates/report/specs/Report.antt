@@ -19,7 +19,8 @@ abbrev pub linesOf : List ℕ → List ℕ → List ℕ
 linesOf rows which = flatMap (rowLine rows) which
 
 -- "refusal 1 for a count above 255, then 4 where rows are shorter than 5·(count+1) or output shorter than" the
--- characters that are asked for. "Both come with line 0". Otherwise the text s is written.
+-- characters that are asked for; 02, request l: "every row room with five reads seven". "Both come with line 0".
+-- Otherwise the text s is written.
 abbrev pub reporting : List ℕ → ℕ → ℕ → List ℕ → ℕ → Decision
 reporting rows count asked s room =
     cond (ltb 255 count) (refuse 1 0)
@@ -30,7 +31,8 @@ reporting rows count asked s room =
 abbrev pub fullText : List ℕ → ℕ → List ℕ
 fullText rows count = linesOf rows (first (count + 1))
 
--- "output shorter than 85·(count+1)"
+-- "output shorter than 85·(count+1)"; 02, request l: "A report line, and the room for one, is 117 characters in
+-- both reports"
 abbrev pub fullReport : List ℕ → ℕ → ℕ → Decision
 fullReport rows count room = reporting rows count (width * (count + 1)) (fullText rows count) room
 
@@ -51,6 +53,7 @@ printed rows count = picked (isPrinted rows) (first (count + 1))
 abbrev pub text : List ℕ → ℕ → List ℕ
 text rows count = linesOf rows (printed rows count)
 
--- "The room asked for is 85 characters for each row printed." "4 reads with that length."
+-- "The room asked for is 85 characters for each row printed." "4 reads with that length." Request l: "117
+-- characters in both reports".
 abbrev pub report : List ℕ → ℕ → ℕ → Decision
 report rows count room = reporting rows count (width * length (printed rows count)) (text rows count) room

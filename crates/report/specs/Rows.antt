@@ -9,7 +9,8 @@ use Rattle.trace.specs.Rows.{columns}
 abbrev pub numbersOf : List ℕ → ℕ → List ℕ
 numbersOf rows r = take columns (drop (columns * r) rows)
 
--- "row (4 digits), the five numbers (16 digits each), a line feed, all in hexadecimal with small letters"
+-- "row (4 digits), the five numbers (16 digits each), a line feed, all in hexadecimal with small letters"; 02, request l:
+-- "rows are seven long"
 unfoldable pub lineOf : ℕ → List ℕ → List ℕ
 lineOf r numbers = digits 4 r ++ (flatMap (digits 16) numbers ++ 10 ∷ [])
 
@@ -17,6 +18,6 @@ lineOf r numbers = digits 4 r ++ (flatMap (digits 16) numbers ++ 10 ∷ [])
 abbrev pub rowLine : List ℕ → ℕ → List ℕ
 rowLine rows r = lineOf r (numbersOf rows r)
 
--- the line's length: "85 characters"
+-- the line's length: "A report line, and the room for one, is 117 characters in both reports"
 abbrev pub width : ℕ
 width = 4 + 16 * columns + 1

@@ -16,7 +16,8 @@ ghost use Rattle.report.specs.Report.{report, fullReport};
 ghost use Rattle.report.specs.Pieces.{asked, piece, pieces, decided};
 ghost use Rattle.report.specs.Refusal.{refusalText, printRefusal};
 
-// A row's line: 4 digits, 16 for each number, and a line feed.
+// A row's line: 4 digits, 16 for each number, and a line feed. "A report line, and the room for one, is 117 characters
+// in both reports".
 pub const WIDTH: usize = 4 + 16 * COLUMNS + 1;
 
 // A row's line, which is built whole before it goes out.

@@ -11,7 +11,7 @@ one-name-each = refl
 
 -- the table of names in the code, each but the first behind a comma
 abbrev pub table : List ℕ
-table = codes "row,calls,work,span,local,onspan"
+table = codes "row,calls,work,span,local,onspan,ilocal,ionspan"
 
 pub names-joined : table ≡ rowName ++ flatMap follows columnNames
 unfolding flatMap

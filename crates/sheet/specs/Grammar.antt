@@ -93,7 +93,8 @@ abbrev pub nextNumerals : ℕ → List ℕ → Found (List ℕ)
 nextNumerals zero s = noMore (lineEnd s)
 nextNumerals (suc n) s = then (nextNumeral s) (λ v u. also v (nextNumerals n u))
 
--- "records of six decimal fields, rows 0, 1, 2 and on": the record of row r, and the numbers that it holds
+-- "records of six decimal fields, rows 0, 1, 2 and on", eight with request l: "Spreadsheets gain `ilocal,ionspan`". The
+-- record of row r, and the numbers that it holds
 unfoldable pub recordOf : ℕ → List ℕ → Found (List ℕ)
 recordOf r s = then (numeral s) (λ v u. cond (eqb v r) (nextNumerals columns u) none)
 

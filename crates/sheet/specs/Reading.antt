@@ -16,7 +16,7 @@ pub data Taken : Type 0 where
   refuse : ℕ → ℕ → Taken
 
 -- "15 with the number of the first record (the header is 0) that isn't good or is missing, then 16 room below five
--- numbers a row, line 0"
+-- numbers a row, line 0"; 02, request l: "every row room with five reads seven"
 abbrev pub taken : Sheet → ℕ → Taken
 taken (sheet n numbers) room = cond (ltb room (columns * n)) (refuse 16 0) (fill (n - 1) numbers)
 taken (bad k) room = refuse 15 k

@@ -25,12 +25,13 @@ abbrev pub codes : String → List ℕ
 codes string.[] = []
 codes (string._∷_ c s) = code c ∷ codes s
 
--- "a header record `row,calls,work,span,local,onspan`": the name of the first field, and a name for each number of a row
+-- "a header record `row,calls,work,span,local,onspan`"; 02, request l: "Spreadsheets gain `ilocal,ionspan`": the name of
+-- the first field, and a name for each number of a row
 abbrev pub rowName : List ℕ
 rowName = codes "row"
 
 abbrev pub columnNames : List (List ℕ)
-columnNames = codes "calls" ∷ codes "work" ∷ codes "span" ∷ codes "local" ∷ codes "onspan" ∷ []
+columnNames = codes "calls" ∷ codes "work" ∷ codes "span" ∷ codes "local" ∷ codes "onspan" ∷ codes "ilocal" ∷ codes "ionspan" ∷ []
 
 -- the header's fields
 abbrev pub names : List (List ℕ)

@@ -110,7 +110,10 @@ lays-record at row numbers before {one = one} h a l b c =
     c)
 
 -- the header is its names and the line end
-pub header-length : length headerText ≡ 34
+abbrev pub headerSize : ℕ
+headerSize = length table + length lineEnds
+
+pub header-length : length headerText ≡ headerSize
 unfolding headerText flatMap
 header-length = refl
 

@@ -1,12 +1,12 @@
 -- The body reader: what its loop keeps from item to item, with no code in sight.
 use mathlib.Core.Path.{_≡_, refl, ap, _∙_, sym, subst}
 use mathlib.Core.List.{List, [], _++_}
-use Prim.Native.Nat.{ℕ, _+_, _-_, _<_}
+use Prim.Native.Nat.{ℕ, _+_, _-_, _≤_, _<_}
 use native.Mathlib.Omega.{arith}
 use lib.ListN.{length}
 use Rattle.line.specs.At.{kindAt}
-use Rattle.chain.specs.Plan.{CostLine}
-use Rattle.trace.specs.Tree.{Body, workOf}
+use Rattle.chain.specs.Plan.{CostLine, weight}
+use Rattle.trace.specs.Tree.{spend, sync, note, Body, done, leaf, child, Within, workOf, instructionsOf}
 use Rattle.trace.specs.Fold.{Chains, nothing, run, chainOf}
 use Rattle.weigh.specs.Weighed.{Weigh}
 use Rattle.walk.specs.declared.Open.{Open}
@@ -15,7 +15,7 @@ use Rattle.walk.specs.Reads.{Reads}
 use Rattle.walk.specs.Numbers.{numbers}
 use Rattle.walk.specs.Item.{More, rest, itemSize, itemWork, itemChains}
 use Rattle.walk.specs.Reader.{ItemDone, ItemsDone, Turn}
-use Rattle.walk.proofs.Items.{size-some, work-item, load-item}
+use Rattle.walk.proofs.Items.{size-some, work-item, instructions-item, load-item, iload-item}
 use Rattle.walk.proofs.Says.{kind-says}
 use Rattle.walk.proofs.Lines.{is-more, is-done}
 use Rattle.walk.proofs.Reader.{own-numbers, farther, ready-again, again-body, turn-start, turn-again, turn-done, body-done}
@@ -23,10 +23,18 @@ use Rattle.tables.specs.Blocks.{Holds, behind, Joined}
 use Rattle.tables.specs.Reader.{Lent, ItemAsks, ItemLeaves, ItemsLeave, BodyAsks, BodyLeaves}
 use Rattle.tables.proofs.Held.{opens, alone-shows}
 
+-- where the first item of a body leaves a child the longest, it made it, or one was before
+longest-made : (b : Body) (m D d deep n s : ℕ) (k : Chains) → Within m D d b → d + deep ≡ D → ((weight (k .l) ≡ 0 → ⊥) → 1 ≤ deep) → (weight (itemChains n s b k .l) ≡ 0 → ⊥) → 1 ≤ deep
+longest-made done m D d deep n s k h e before = before
+longest-made (leaf (spend v) r) m D d deep n s k h e before = before
+longest-made (leaf sync r) m D d deep n s k h e before = λ z. absurd (z refl)
+longest-made (leaf (note x) r) m D d deep n s k h e before = before
+longest-made (child w j g r) m D d deep n s k h e before = λ z. omega (arith, h .2)
+
 module _ (how : Weigh) (s : List ℕ) (row deep n w : ℕ) where
   -- the loop has come from f₀ to f: what is left of the body, and what it comes to, are as from f₀ on
   abbrev Turns : (f₀ : Open) (t₀ rows₀ : List ℕ) (f : Open) (t rows : List ℕ) → Type 0
-  Turns f₀ t₀ rows₀ f t rows = (b : Body) (q : List CostLine) (k₀ : Chains) → Reads how s (f₀ .at) row b → f₀ ≡ numbers (f₀ .at) (f₀ .work) k₀ → Holds n w t₀ (behind q k₀) []
+  Turns f₀ t₀ rows₀ f t rows = (b : Body) (q : List CostLine) (k₀ : Chains) → Reads how s (f₀ .at) row b → f₀ ≡ numbers (f₀ .at) (f₀ .work .0) k₀ → Holds n w t₀ (behind q k₀) []
       → (l : Body) × (k : Chains) × Turn how s row f₀ rows₀ b k₀ f rows l k × Holds n w t (behind q k) []
 
   turns-start : (f : Open) (t rows : List ℕ) → Turns f t rows f t rows
@@ -51,14 +59,19 @@ module _ (how : Weigh) (s : List ℕ) (row deep n w : ℕ) where
             m = l .m;
             ready = ready-again how s row (l .m) deep f rows (l .ready) (more k5 l) (l .k) (l .weighs) r rows′ lr (left .0);
             blocks = l .blocks;
+            even = l .even;
             wide = l .wide;
             few = l .few;
             room = omega (arith, l .room, lt);
+            opened = λ x.
+                longest-made b (l .m) (l .ready .D) (l .ready .d) deep (f .at) row (l .k) (l .ready .within) (l .ready .depth) (λ y. l .opened (λ z. y (sym (ap (λ (o : Open). o .longest .0) (l .weighs)) ∙ z)))
+                (λ y. x (ap (λ (o : Open). o .longest .0) (left .0 .numbers-are) ∙ y));
             q = l .q;
             k = itemChains (f .at) row b (l .k);
-            weighs = own-numbers r (f .at + itemSize b) (f .work + itemWork b) (itemChains (f .at) row b (l .k)) (left .0 .numbers-are);
+            weighs = own-numbers r (f .at + itemSize b) (f .work .0 + itemWork b) (itemChains (f .at) row b (l .k)) (left .0 .numbers-are);
             holds = left .1;
             fits = omega (arith, l .fits, load-item b (f .at) row (l .k), work-item b, ap workOf (again-body how s row (l .m) deep f rows (l .ready) (more k5 l) (l .k) (l .weighs) r rows′ lr (left .0)));
+            ifits = omega (arith, l .ifits, iload-item b (f .at) row (l .k), instructions-item b, ap instructionsOf (again-body how s row (l .m) deep f rows (l .ready) (more k5 l) (l .k) (l .weighs) r rows′ lr (left .0)));
           }
 
       turns-again : (f₀ : Open) (t₀ rows₀ : List ℕ) → length rows ≡ length rows₀ → Turns f₀ t₀ rows₀ f t rows → Turns f₀ t₀ rows₀ r t′ rows′
@@ -69,7 +82,7 @@ module _ (how : Weigh) (s : List ℕ) (row deep n w : ℕ) where
           (rest (u .0), itemChains (f .at) row (u .0) (u .1), turn-again how s row f₀ rows₀ b k₀ f rows (u .0) (u .1) (u .2) len r rows′ m (d .0), d .1)
 
     turns-done : (f₀ : Open) (t₀ rows₀ : List ℕ) → length rows ≡ length rows₀ → Turns f₀ t₀ rows₀ f t rows → kind ≡ 5 → (b : Body) (q : List CostLine) (k₀ : Chains) → Reads how s (f₀ .at) row b
-        → f₀ ≡ numbers (f₀ .at) (f₀ .work) k₀ → Holds n w t₀ (behind q k₀) [] → ItemsDone row f₀ rows₀ b k₀ f rows × Holds n w t (behind q (run (f₀ .at) row b k₀)) []
+        → f₀ ≡ numbers (f₀ .at) (f₀ .work .0) k₀ → Holds n w t₀ (behind q k₀) [] → ItemsDone row f₀ rows₀ b k₀ f rows × Holds n w t (behind q (run (f₀ .at) row b k₀)) []
     turns-done f₀ t₀ rows₀ len turns k5 b q k₀ h e sh =
         let u = turns b q k₀ h e sh in
         let z = is-done how s (f .at) row kind says (u .0) (u .2 .reads) k5 in

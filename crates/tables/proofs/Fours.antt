@@ -1,158 +1,201 @@
--- Four numbers side by side, read and stored at once; and four rows that are taken so.
+-- Rows that stand side by side, read and stored at once: one row, and four; and rows that are taken so.
 use mathlib.Core.Path.{_≡_, refl, ap, _∙_, sym}
 use mathlib.Core.List.{List}
 use Prim.Native.Nat.{ℕ, zero, suc, _+_, _-_, _^_, _≤_, _<_}
+use native.Mathlib.Decide.{decLt}
 use native.Mathlib.Omega.{arith}
 use lib.ListN.{length, getD, set, length-set}
 use lib.Seq.{getD-set-same, getD-set-other}
+use Rattle.tables.specs.declared.Pair.{Pair}
 use Rattle.tables.specs.declared.Four.{Four}
-use Rattle.tables.specs.Walks.{Out, Apart, SumsFit, Taken, fourAt, laid, zeros, sumsOf}
+use Rattle.tables.specs.Walks.{Out, Apart, PairFits, FourFits, SumsFit, Taken, noPair, pairAt, pairSum, paired, noFour, fourAt, fourSum, laid}
 
--- the number of the four at a place
-abbrev nth : Four → ℕ → ℕ
-nth x zero = x .a
-nth x (suc zero) = x .b
-nth x (suc (suc zero)) = x .c
-nth x (suc (suc (suc k))) = x .d
+-- the numbers x are stored from number i on, m of them
+pub record Laid (m i : ℕ) (x : ℕ → ℕ) (t t′ : List ℕ) : Type 0 where
+  pub here : (k : ℕ) → k < m → getD t′ (i + k) 0 ≡ x k
+  pub off : (j : ℕ) → Out i m j → getD t′ j 0 ≡ getD t j 0
 
--- what holds at each of the four places
-by-place : (P : ℕ → Type 0) → P 0 → P 1 → P 2 → P 3 → (k : ℕ) → k < 4 → P k
-by-place P a b c d zero h = a
-by-place P a b c d (suc zero) h = b
-by-place P a b c d (suc (suc zero)) h = c
-by-place P a b c d (suc (suc (suc zero))) h = d
-by-place P a b c d (suc (suc (suc (suc k)))) h = absurd (omega arith)
+-- some numbers and then more behind them
+laid-two : {m p i : ℕ} {x y : ℕ → ℕ} {t t₁ t₂ : List ℕ} (z : ℕ → ℕ) → ((k : ℕ) → k < m → z k ≡ x k) → ((k : ℕ) → k < p → z (m + k) ≡ y k) → Laid m i x t t₁ → Laid p (i + m) y t₁ t₂ → Laid (m + p) i z t t₂
+laid-two {m} {p} {i} {x} {y} {t} {t₁} {t₂} z first second a b =
+    record {
+      here = λ k l. go k l (decLt k m);
+      off = λ j o. b .off j (λ u v. o (omega arith) (omega arith)) ∙ a .off j (λ u v. o (omega arith) (omega arith));
+    }
+  where
+    go : (k : ℕ) → k < m + p → Dec (k < m) → getD t₂ (i + k) 0 ≡ z k
+    go k l (yes d) = b .off (i + k) (λ u v. omega arith) ∙ a .here k d ∙ sym (first k d)
+    go k l (no d) =
+        let e : i + k ≡ i + m + (k - m) = omega arith in
+        let f : m + (k - m) ≡ k = omega arith in
+        ap (λ (j : ℕ). getD t₂ j 0) e ∙ b .here (k - m) (omega arith) ∙ sym (second (k - m) (omega arith)) ∙ ap z f
 
-four-is : (t : List ℕ) (i k : ℕ) → k < 4 → nth (fourAt t i) k ≡ getD t (i + k) 0
-four-is t i = by-place (λ k. nth (fourAt t i) k ≡ getD t (i + k) 0) (let e : i ≡ i + 0 = omega arith in ap (λ (j : ℕ). getD t j 0) e) refl refl refl
+-- the numbers of a row
+abbrev pub ofPair : Pair → ℕ → ℕ
+ofPair x zero = x .cycles .0
+ofPair x (suc k) = x .instructions .0
 
-sums-are : (x y : Four) (k : ℕ) → k < 4 → nth (sumsOf x y) k ≡ nth x k + nth y k
-sums-are x y = by-place (λ k. nth (sumsOf x y) k ≡ nth x k + nth y k) refl refl refl refl
+-- what holds at both places of a row
+pub by-two : (P : ℕ → Type 0) → P 0 → P 1 → (k : ℕ) → k < 2 → P k
+by-two P a b zero h = a
+by-two P a b (suc zero) h = b
+by-two P a b (suc (suc k)) h = absurd (omega arith)
 
-none-are : (k : ℕ) → k < 4 → nth zeros k ≡ 0
-none-are = by-place (λ k. nth zeros k ≡ 0) refl refl refl refl
+pub pair-laid : (t : List ℕ) (i : ℕ) (x : Pair) → i + 2 ≤ length t → Laid 2 i (ofPair x) t (paired t i x)
+pair-laid t i x room =
+    record {
+      here = by-two (λ k. getD (paired t i x) (i + k) 0 ≡ ofPair x k) first (getD-set-same (set t i (x .cycles .0)) (i + 1) (x .instructions .0) 0 (simp length-set (omega arith)));
+      off = λ j o. getD-set-other (set t i (x .cycles .0)) (i + 1) j (x .instructions .0) 0 (λ q. o (omega arith) (omega arith)) ∙ getD-set-other t i j (x .cycles .0) 0 (λ q. o (omega arith) (omega arith));
+    }
+  where
+    first : getD (paired t i x) (i + 0) 0 ≡ x .cycles .0
+    first =
+        let e : i + 0 ≡ i = omega arith in
+        ap (λ (j : ℕ). getD (paired t i x) j 0) e
+        ∙ getD-set-other (set t i (x .cycles .0)) (i + 1) i (x .instructions .0) 0 (λ q. omega arith)
+        ∙ getD-set-same t i (x .cycles .0) 0 (omega arith)
 
--- four numbers are stored from number i on
-module _ (t : List ℕ) (i : ℕ) (x : Four) where
-  abbrev t₁ : List ℕ
-  t₁ = set t i (x .a)
+pair-is : (t : List ℕ) (i k : ℕ) → k < 2 → ofPair (pairAt t i) k ≡ getD t (i + k) 0
+pair-is t i = by-two (λ k. ofPair (pairAt t i) k ≡ getD t (i + k) 0) (let e : i ≡ i + 0 = omega arith in ap (λ (j : ℕ). getD t j 0) e) refl
 
-  abbrev t₂ : List ℕ
-  t₂ = set t₁ (i + 1) (x .b)
+-- the numbers of four rows
+abbrev ofFour : Four → ℕ → ℕ
+ofFour x zero = x .a .cycles .0
+ofFour x (suc zero) = x .a .instructions .0
+ofFour x (suc (suc zero)) = x .b .cycles .0
+ofFour x (suc (suc (suc zero))) = x .b .instructions .0
+ofFour x (suc (suc (suc (suc zero)))) = x .c .cycles .0
+ofFour x (suc (suc (suc (suc (suc zero))))) = x .c .instructions .0
+ofFour x (suc (suc (suc (suc (suc (suc zero)))))) = x .d .cycles .0
+ofFour x (suc (suc (suc (suc (suc (suc (suc k))))))) = x .d .instructions .0
 
-  abbrev t₃ : List ℕ
-  t₃ = set t₂ (i + 2) (x .c)
+-- what holds at both places of each
+by-eight : (P : ℕ → Type 0) → P 0 → P 1 → P 2 → P 3 → P 4 → P 5 → P 6 → P 7 → (k : ℕ) → k < 8 → P k
+by-eight P a b c d e f g h zero l = a
+by-eight P a b c d e f g h (suc zero) l = b
+by-eight P a b c d e f g h (suc (suc zero)) l = c
+by-eight P a b c d e f g h (suc (suc (suc zero))) l = d
+by-eight P a b c d e f g h (suc (suc (suc (suc zero)))) l = e
+by-eight P a b c d e f g h (suc (suc (suc (suc (suc zero))))) l = f
+by-eight P a b c d e f g h (suc (suc (suc (suc (suc (suc zero)))))) l = g
+by-eight P a b c d e f g h (suc (suc (suc (suc (suc (suc (suc zero))))))) l = h
+by-eight P a b c d e f g h (suc (suc (suc (suc (suc (suc (suc (suc k)))))))) l = absurd (omega arith)
 
-  laid-off : (j : ℕ) → Out i 4 j → getD (laid t i x) j 0 ≡ getD t j 0
-  laid-off j o =
-      getD-set-other t₃ (i + 3) j (x .d) 0 (λ q. o (omega arith) (omega arith))
-      ∙ getD-set-other t₂ (i + 2) j (x .c) 0 (λ q. o (omega arith) (omega arith))
-      ∙ getD-set-other t₁ (i + 1) j (x .b) 0 (λ q. o (omega arith) (omega arith))
-      ∙ getD-set-other t i j (x .a) 0 (λ q. o (omega arith) (omega arith))
+four-laid : (t : List ℕ) (i : ℕ) (x : Four) → i + 8 ≤ length t → Laid 8 i (ofFour x) t (laid t i x)
+four-laid t i x room =
+    let t₁ = paired t i (x .a) in
+    let t₂ = paired t₁ (i + 2) (x .b) in
+    let t₃ = paired t₂ (i + 4) (x .c) in
+    let two = laid-two {x = ofPair (x .a)} {y = ofPair (x .b)} (ofFour x) (by-two (λ k. ofFour x k ≡ ofPair (x .a) k) refl refl) (by-two (λ k. ofFour x (2 + k) ≡ ofPair (x .b) k) refl refl) (pair-laid t i (x .a) (omega arith)) (pair-laid t₁ (i + 2) (x .b) (simp length-set (omega arith))) in
+    let three = laid-two {x = ofFour x} {y = ofPair (x .c)} (ofFour x) (λ k l. refl) (by-two (λ k. ofFour x (4 + k) ≡ ofPair (x .c) k) refl refl) two (pair-laid t₂ (i + 4) (x .c) (simp length-set (omega arith))) in
+    laid-two {x = ofFour x} {y = ofPair (x .d)} (ofFour x) (λ k l. refl) (by-two (λ k. ofFour x (6 + k) ≡ ofPair (x .d) k) refl refl) three (pair-laid t₃ (i + 6) (x .d) (simp length-set (omega arith)))
 
-  laid-here : i + 4 ≤ length t → (k : ℕ) → k < 4 → getD (laid t i x) (i + k) 0 ≡ nth x k
-  laid-here room = by-place (λ k. getD (laid t i x) (i + k) 0 ≡ nth x k) first second third fourth
-    where
-      first : getD (laid t i x) (i + 0) 0 ≡ x .a
-      first =
-          let e : i + 0 ≡ i = omega arith in
-          ap (λ (j : ℕ). getD (laid t i x) j 0) e
-          ∙ getD-set-other t₃ (i + 3) i (x .d) 0 (λ q. omega arith)
-          ∙ getD-set-other t₂ (i + 2) i (x .c) 0 (λ q. omega arith)
-          ∙ getD-set-other t₁ (i + 1) i (x .b) 0 (λ q. omega arith)
-          ∙ getD-set-same t i (x .a) 0 (omega arith)
+-- four rows are stored one behind the other
+pub laid-so : (t : List ℕ) (i : ℕ) (x : Four) (t₁ : List ℕ) → t₁ ≡ paired t i (x .a) → (t₂ : List ℕ) → t₂ ≡ paired t₁ (i + 2) (x .b) → (t₃ : List ℕ) → t₃ ≡ paired t₂ (i + 4) (x .c) → (t₄ : List ℕ) → t₄ ≡ paired t₃ (i + 6) (x .d) → t₄ ≡ laid t i x
+laid-so t i x t₁ e₁ t₂ e₂ t₃ e₃ t₄ e₄ = rw (e₄, e₃, e₂, e₁)
 
-      second : getD (laid t i x) (i + 1) 0 ≡ x .b
-      second =
-          getD-set-other t₃ (i + 3) (i + 1) (x .d) 0 (λ q. omega arith)
-          ∙ getD-set-other t₂ (i + 2) (i + 1) (x .c) 0 (λ q. omega arith)
-          ∙ getD-set-same t₁ (i + 1) (x .b) 0 (simp length-set (omega arith))
+four-is : (t : List ℕ) (i k : ℕ) → k < 8 → ofFour (fourAt t i) k ≡ getD t (i + k) 0
+four-is t i = by-eight (λ k. ofFour (fourAt t i) k ≡ getD t (i + k) 0) (at (omega arith)) refl refl (at (omega arith)) refl (at (omega arith)) refl (at (omega arith))
+  where
+    at : {j k : ℕ} → j ≡ k → getD t j 0 ≡ getD t k 0
+    at e = ap (λ (j : ℕ). getD t j 0) e
 
-      third : getD (laid t i x) (i + 2) 0 ≡ x .c
-      third = getD-set-other t₃ (i + 3) (i + 2) (x .d) 0 (λ q. omega arith) ∙ getD-set-same t₂ (i + 2) (x .c) 0 (simp length-set (omega arith))
-
-      fourth : getD (laid t i x) (i + 3) 0 ≡ x .d
-      fourth = getD-set-same t₃ (i + 3) (x .d) 0 (simp length-set (omega arith))
-
--- the rows from to from + 3 of four blocks
-module _ (b e g from : ℕ) (t : List ℕ) (a : Apart (from + 4) b e g t) where
-  abbrev x : Four
-  x = fourAt t (b + from)
-
-  abbrev y : Four
-  y = fourAt t (g + from)
-
-  abbrev s : Four
-  s = sumsOf (fourAt t from) x
-
-  abbrev u₁ : List ℕ
-  u₁ = laid t from s
-
-  abbrev u₂ : List ℕ
-  u₂ = laid u₁ (b + from) zeros
-
-  abbrev u₃ : List ℕ
-  u₃ = laid u₂ (e + from) y
-
-  abbrev u₄ : List ℕ
-  u₄ = laid u₃ (g + from) zeros
-
-  -- a row of a block, by its place among the four
+-- m numbers from number from on of four blocks
+module _ (m b e g from : ℕ) (t : List ℕ) (a : Apart (from + m) b e g t) where
+  -- a number of a block, by its place among them
   at : (t : List ℕ) (c i : ℕ) → from ≤ i → getD t (c + i) 0 ≡ getD t (c + from + (i - from)) 0
   at t c i f = let z : c + i ≡ c + from + (i - from) = omega arith in ap (λ (j : ℕ). getD t j 0) z
 
-  -- the rows of b and those of e
-  b-off : (i : ℕ) → i < from + 4 → Out (e + from) 4 (b + i)
+  own : (t : List ℕ) (i : ℕ) → from ≤ i → getD t i 0 ≡ getD t (from + (i - from)) 0
+  own t i f = let z : i ≡ from + (i - from) = omega arith in ap (λ (j : ℕ). getD t j 0) z
+
+  -- the numbers of b and those of e
+  b-off : (i : ℕ) → i < from + m → Out (e + from) m (b + i)
   b-off i h p q = a .b-e i (b + i - e) h (omega arith) (omega arith)
 
-  e-off : (i : ℕ) → i < from + 4 → Out (b + from) 4 (e + i)
-  e-off i h p q = a .b-e (e + i - b) i (omega arith) h (omega arith)
-
-  fours-taken : Taken b e g (from + 4) from (from + 4) t u₄
-  fours-taken =
+  -- the sums s are stored in the prefix's block, and y, what was in the block at g, in the block at e
+  rows-taken : {u₁ u₂ u₃ u₄ : List ℕ} (s y : ℕ → ℕ) → ((k : ℕ) → k < m → s k ≡ getD t (from + k) 0 + getD t (b + from + k) 0) → ((k : ℕ) → k < m → y k ≡ getD t (g + from + k) 0)
+      → Laid m from s t u₁ → Laid m (b + from) (λ k. 0) u₁ u₂ → Laid m (e + from) y u₂ u₃ → Laid m (g + from) (λ k. 0) u₃ u₄ → Taken b e g (from + m) from (from + m) t u₄
+  rows-taken {u₁} {u₂} {u₃} {u₄} s y sums moves l₁ l₂ l₃ l₄ =
       record {
         sums = λ i f h w.
-            let z : i ≡ from + (i - from) = omega arith in
-            laid-off u₃ (g + from) zeros i (λ p q. omega (arith, a .at-b, a .b-g))
-            ∙ laid-off u₂ (e + from) y i (λ p q. omega (arith, a .at-e))
-            ∙ laid-off u₁ (b + from) zeros i (λ p q. omega (arith, a .at-b))
-            ∙ ap (λ (j : ℕ). getD u₁ j 0) z
-            ∙ laid-here t from s (omega (arith, a .at-b, a .b-g, a .room)) (i - from) (omega arith)
-            ∙ omega (arith, sums-are (fourAt t from) x (i - from) (omega arith), four-is t from (i - from) (omega arith), four-is t (b + from) (i - from) (omega arith), ap (λ (j : ℕ). getD t j 0) z, at t b i f);
+            l₄ .off i (λ p q. omega (arith, a .at-b, a .b-g))
+            ∙ l₃ .off i (λ p q. omega (arith, a .at-e))
+            ∙ l₂ .off i (λ p q. omega (arith, a .at-b))
+            ∙ own u₁ i f
+            ∙ l₁ .here (i - from) (omega arith)
+            ∙ omega (arith, sums (i - from) (omega arith), own t i f, at t b i f);
         gone = λ i f h w.
-            laid-off u₃ (g + from) zeros (b + i) (λ p q. omega (arith, a .b-g))
-            ∙ laid-off u₂ (e + from) y (b + i) (b-off i w)
+            l₄ .off (b + i) (λ p q. omega (arith, a .b-g))
+            ∙ l₃ .off (b + i) (b-off i w)
             ∙ at u₂ b i f
-            ∙ laid-here u₁ (b + from) zeros (simp length-set (omega (arith, a .b-g, a .room))) (i - from) (omega arith)
-            ∙ none-are (i - from) (omega arith);
+            ∙ l₂ .here (i - from) (omega arith);
         comes = λ i f h w.
-            laid-off u₃ (g + from) zeros (e + i) (λ p q. omega (arith, a .e-g))
+            l₄ .off (e + i) (λ p q. omega (arith, a .e-g))
             ∙ at u₃ e i f
-            ∙ laid-here u₂ (e + from) y (simp length-set (omega (arith, a .e-g, a .room))) (i - from) (omega arith)
-            ∙ four-is t (g + from) (i - from) (omega arith)
+            ∙ l₃ .here (i - from) (omega arith)
+            ∙ moves (i - from) (omega arith)
             ∙ sym (at t g i f);
-        free = λ i f h w. at u₄ g i f ∙ laid-here u₃ (g + from) zeros (simp length-set (omega (arith, a .room))) (i - from) (omega arith) ∙ none-are (i - from) (omega arith);
+        free = λ i f h w. at u₄ g i f ∙ l₄ .here (i - from) (omega arith);
         rest = λ j o.
-            laid-off u₃ (g + from) zeros j (λ p q. o (j - g) (omega arith) (omega arith) (omega arith) .not-g (omega arith))
-            ∙ laid-off u₂ (e + from) y j (λ p q. o (j - e) (omega arith) (omega arith) (omega arith) .not-e (omega arith))
-            ∙ laid-off u₁ (b + from) zeros j (λ p q. o (j - b) (omega arith) (omega arith) (omega arith) .not-b (omega arith))
-            ∙ laid-off t from s j (λ p q. o j p q q .not-p refl);
+            l₄ .off j (λ p q. o (j - g) (omega arith) (omega arith) (omega arith) .not-g (omega arith))
+            ∙ l₃ .off j (λ p q. o (j - e) (omega arith) (omega arith) (omega arith) .not-e (omega arith))
+            ∙ l₂ .off j (λ p q. o (j - b) (omega arith) (omega arith) (omega arith) .not-b (omega arith))
+            ∙ l₁ .off j (λ p q. o j p q q .not-p refl);
       }
 
-  -- whatever they go by
-  pub taken-so : (p : Four) → p ≡ fourAt t from → (q : Four) → q ≡ x → (r : Four) → r ≡ y → (v : Four) → v ≡ sumsOf p q → (v₁ : List ℕ) → v₁ ≡ laid t from v → (v₂ : List ℕ) → v₂ ≡ laid v₁ (b + from) zeros → (v₃ : List ℕ) → v₃ ≡ laid v₂ (e + from) r
-      → (v₄ : List ℕ) → v₄ ≡ laid v₃ (g + from) zeros → Taken b e g (from + 4) from (from + 4) t v₄
-  taken-so p ep q eq r er v ev v₁ e₁ v₂ e₂ v₃ e₃ v₄ e₄ = rw (e₄, e₃, e₂, e₁, ev, ep, eq, er) fours-taken
+  -- a sum of them fits
+  fit : SumsFit (from + m) b t → (k : ℕ) → k < m → getD t (from + k) 0 + getD t (b + from + k) 0 < 2 ^ 64
+  fit f k h = let e : b + from + k ≡ b + (from + k) = omega arith in omega (arith, f (from + k) (omega arith), ap (λ (j : ℕ). getD t j 0) e)
 
-  -- the sums fit
-  pub four-fit : SumsFit (from + 4) b t → (p : Four) → p ≡ fourAt t from → (z : Four) → z ≡ x → (p .a + z .a < 2 ^ 64) × ((p .b + z .b < 2 ^ 64) × ((p .c + z .c < 2 ^ 64) × (p .d + z .d < 2 ^ 64)))
-  four-fit f p ep z ez =
-      rw (ep, ez) (
-        let e : b + from ≡ b + (from + 0) = omega arith in
-            let e₀ : from ≡ from + 0 = omega arith in
-            omega (arith, f (from + 0) (omega arith), ap (λ (j : ℕ). getD t j 0) e, ap (λ (j : ℕ). getD t j 0) e₀),
-        (fit 1 (omega arith), (fit 2 (omega arith), fit 3 (omega arith))),
-      )
+-- one row is taken so, and the sums fit
+module _ (b e g from : ℕ) (t : List ℕ) (a : Apart (from + 2) b e g t) where
+  none-stored : {i : ℕ} {t t′ : List ℕ} → Laid 2 i (ofPair noPair) t t′ → Laid 2 i (λ k. 0) t t′
+  none-stored l = record { here = λ k h. l .here k h ∙ by-two (λ k. ofPair noPair k ≡ 0) refl refl k h; off = l .off }
+
+  pub row-taken : (q : Pair) → q ≡ pairAt t (b + from) → (r : Pair) → r ≡ pairAt t (g + from) → (p : Pair) → p ≡ pairAt t from → (v : Pair) → v ≡ pairSum p q → (v₁ : List ℕ) → v₁ ≡ paired t from v
+      → (z₂ : Pair) → z₂ ≡ noPair → (v₂ : List ℕ) → v₂ ≡ paired v₁ (b + from) z₂ → (v₃ : List ℕ) → v₃ ≡ paired v₂ (e + from) r → (z₄ : Pair) → z₄ ≡ noPair → (v₄ : List ℕ) → v₄ ≡ paired v₃ (g + from) z₄
+      → Taken b e g (from + 2) from (from + 2) t v₄
+  row-taken q eq r er p ep v ev v₁ e₁ z₂ f₂ v₂ e₂ v₃ e₃ z₄ f₄ v₄ e₄ =
+      let s = pairSum (pairAt t from) (pairAt t (b + from)) in
+      let u₁ = paired t from s in
+      let u₂ = paired u₁ (b + from) noPair in
+      let u₃ = paired u₂ (e + from) (pairAt t (g + from)) in
+      rw (e₄, e₃, e₂, e₁, f₂, f₄, ev, ep, eq, er)
+      (rows-taken 2 b e g from t a (ofPair s) (ofPair (pairAt t (g + from))) (by-two (λ k. ofPair s k ≡ getD t (from + k) 0 + getD t (b + from + k) 0) (omega (arith, pair-is t from 0 (omega arith), pair-is t (b + from) 0 (omega arith))) refl) (pair-is t (g + from))
+      (pair-laid t from s (omega (arith, a .at-b, a .b-g, a .room)))
+      (none-stored (pair-laid u₁ (b + from) noPair (simp length-set (omega (arith, a .b-g, a .room)))))
+      (pair-laid u₂ (e + from) (pairAt t (g + from)) (simp length-set (omega (arith, a .e-g, a .room))))
+      (none-stored (pair-laid u₃ (g + from) noPair (simp length-set (omega (arith, a .room))))))
+
+  pub row-fit : SumsFit (from + 2) b t → (p : Pair) → p ≡ pairAt t from → (q : Pair) → q ≡ pairAt t (b + from) → PairFits p q
+  row-fit f p ep q eq = rw (ep, eq) (omega (arith, fit 2 b e g from t a f 0 (omega arith), pair-is t from 0 (omega arith), pair-is t (b + from) 0 (omega arith)), fit 2 b e g from t a f 1 (omega arith))
+
+-- four rows are
+module _ (b e g from : ℕ) (t : List ℕ) (a : Apart (from + 8) b e g t) where
+  nones-stored : {i : ℕ} {t t′ : List ℕ} → Laid 8 i (ofFour noFour) t t′ → Laid 8 i (λ k. 0) t t′
+  nones-stored l = record { here = λ k h. l .here k h ∙ by-eight (λ k. ofFour noFour k ≡ 0) refl refl refl refl refl refl refl refl k h; off = l .off }
+
+  sums-are : (x y : Four) (k : ℕ) → k < 8 → ofFour (fourSum x y) k ≡ ofFour x k + ofFour y k
+  sums-are x y = by-eight (λ k. ofFour (fourSum x y) k ≡ ofFour x k + ofFour y k) refl refl refl refl refl refl refl refl
+
+  pub four-taken : (q : Four) → q ≡ fourAt t (b + from) → (r : Four) → r ≡ fourAt t (g + from) → (p : Four) → p ≡ fourAt t from → (v : Four) → v ≡ fourSum p q → (v₁ : List ℕ) → v₁ ≡ laid t from v
+      → (z₂ : Four) → z₂ ≡ noFour → (v₂ : List ℕ) → v₂ ≡ laid v₁ (b + from) z₂ → (v₃ : List ℕ) → v₃ ≡ laid v₂ (e + from) r → (z₄ : Four) → z₄ ≡ noFour → (v₄ : List ℕ) → v₄ ≡ laid v₃ (g + from) z₄
+      → Taken b e g (from + 8) from (from + 8) t v₄
+  four-taken q eq r er p ep v ev v₁ e₁ z₂ f₂ v₂ e₂ v₃ e₃ z₄ f₄ v₄ e₄ =
+      let s = fourSum (fourAt t from) (fourAt t (b + from)) in
+      let u₁ = laid t from s in
+      let u₂ = laid u₁ (b + from) noFour in
+      let u₃ = laid u₂ (e + from) (fourAt t (g + from)) in
+      rw (e₄, e₃, e₂, e₁, f₂, f₄, ev, ep, eq, er)
+      (rows-taken 8 b e g from t a (ofFour s) (ofFour (fourAt t (g + from))) (λ k h. omega (arith, sums-are (fourAt t from) (fourAt t (b + from)) k h, four-is t from k h, four-is t (b + from) k h)) (four-is t (g + from))
+      (four-laid t from s (omega (arith, a .at-b, a .b-g, a .room)))
+      (nones-stored (four-laid u₁ (b + from) noFour (simp length-set (omega (arith, a .b-g, a .room)))))
+      (four-laid u₂ (e + from) (fourAt t (g + from)) (simp length-set (omega (arith, a .e-g, a .room))))
+      (nones-stored (four-laid u₃ (g + from) noFour (simp length-set (omega (arith, a .room))))))
+
+  pub four-fit : SumsFit (from + 8) b t → (p : Four) → p ≡ fourAt t from → (q : Four) → q ≡ fourAt t (b + from) → FourFits p q
+  four-fit f p ep q eq = rw (ep, eq) ((sum 0 (omega arith), sum 1 (omega arith)), (sum 2 (omega arith), sum 3 (omega arith)), (sum 4 (omega arith), sum 5 (omega arith)), (sum 6 (omega arith), sum 7 (omega arith)))
     where
-      fit : (k : ℕ) → k < 4 → getD t (from + k) 0 + getD t (b + from + k) 0 < 2 ^ 64
-      fit k h = let e : b + from + k ≡ b + (from + k) = omega arith in omega (arith, f (from + k) (omega arith), ap (λ (j : ℕ). getD t j 0) e)
+      sum : (k : ℕ) → k < 8 → ofFour (fourAt t from) k + ofFour (fourAt t (b + from)) k < 2 ^ 64
+      sum k h = omega (arith, fit 8 b e g from t a f k h, four-is t from k h, four-is t (b + from) k h)

@@ -21,10 +21,10 @@ pub since-later : (n v : ℕ) → (v ≡ 0 → ⊥) → sinceAt n v ≡ 2 * n
 since-later n v e = ap (λ (b : Bool). cond b 0 (2 * n)) (ne-eqb v 0 e)
 
 pub part-first : (n v : ℕ) → v ≡ 0 → partAt n v ≡ n
-part-first n v e = ap (λ (b : Bool). cond b n (4 * n)) (eq-eqb v 0 e)
+part-first n v e = ap (λ (b : Bool). cond b n (3 * n)) (eq-eqb v 0 e)
 
-pub part-later : (n v : ℕ) → (v ≡ 0 → ⊥) → partAt n v ≡ 4 * n
-part-later n v e = ap (λ (b : Bool). cond b n (4 * n)) (ne-eqb v 0 e)
+pub part-later : (n v : ℕ) → (v ≡ 0 → ⊥) → partAt n v ≡ 3 * n
+part-later n v e = ap (λ (b : Bool). cond b n (3 * n)) (ne-eqb v 0 e)
 
 pub child-called : (kind n v : ℕ) → kind ≡ 2 → childAt kind n v ≡ sinceAt n v
 child-called kind n v e = ap (λ (b : Bool). cond b (sinceAt n v) (partAt n v)) (eq-eqb kind 2 e)
@@ -44,11 +44,11 @@ behind-spawned q g k = go (ltb (weight (k .l)) (weight (k .c) + weight g))
     go false = refl
 
 -- an open invocation's numbers say whether a child is the longest
-pub none-longest : (f : Open) (k : Chains) → f ≡ numbers (f .at) (f .work) k → f .longest ≡ 0 → weight (k .l) ≡ 0
-none-longest f k e z = sym (ap (λ (x : Open). x .longest) e) ∙ z
+pub none-longest : (f : Open) (k : Chains) → f ≡ numbers (f .at) (f .work .0) k → f .longest .0 ≡ 0 → weight (k .l) ≡ 0
+none-longest f k e z = sym (ap (λ (x : Open). x .longest .0) e) ∙ z
 
-pub some-longest : (f : Open) (k : Chains) → f ≡ numbers (f .at) (f .work) k → (f .longest ≡ 0 → ⊥) → weight (k .l) ≡ 0 → ⊥
-some-longest f k e m z = m (ap (λ (x : Open). x .longest) e ∙ z)
+pub some-longest : (f : Open) (k : Chains) → f ≡ numbers (f .at) (f .work .0) k → (f .longest .0 ≡ 0 → ⊥) → weight (k .l) ≡ 0 → ⊥
+some-longest f k e m z = m (ap (λ (x : Open). x .longest .0) e ∙ z)
 
 module _ (n w : ℕ) (t : List ℕ) where
   -- a longest child that weighs nothing is none

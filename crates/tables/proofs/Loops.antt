@@ -1,12 +1,12 @@
--- What the loops over the rows do: nothing, one row, rows that are zero, and some rows and then more.
+-- What the loops over the numbers of tables do: nothing, numbers that are zero, and some numbers and then more.
 use mathlib.Core.Path.{_≡_, refl, _∙_, sym}
 use mathlib.Core.List.{List}
-use Prim.Native.Nat.{ℕ, _+_, _≤_, _<_}
+use Prim.Native.Nat.{ℕ, _+_, _^_, _≤_, _<_}
 use native.Mathlib.Decide.{decLt}
 use native.Mathlib.Omega.{arith}
 use lib.ListN.{length, getD, set, length-set}
 use lib.Seq.{getD-set-same, getD-set-other}
-use Rattle.tables.specs.Walks.{Apart, Off, Taken, Cleared}
+use Rattle.tables.specs.Walks.{Apart, SumsFit, Off, Taken, Cleared}
 
 -- fewer numbers of the blocks lie apart too
 pub fewer : {w b e g : ℕ} {t : List ℕ} (v : ℕ) → v ≤ w → Apart w b e g t → Apart v b e g t
@@ -25,7 +25,7 @@ pub apart-in : {w b e g : ℕ} {t : List ℕ} (t′ : List ℕ) → length t′ 
 apart-in t′ h a = record { at-b = a .at-b; at-e = a .at-e; b-g = a .b-g; e-g = a .e-g; b-e = a .b-e; room = omega (arith, a .room) }
 
 module _ {w b e g : ℕ} {t : List ℕ} (a : Apart w b e g t) where
-  -- row i of each of the four blocks is no other row of any
+  -- number i of each of the four blocks is no other number of any
   pub off-p : (i k : ℕ) → i < w → k < w → (i ≡ k → ⊥) → Off b e g k i
   off-p i k h l d = record { not-p = d; not-b = λ q. omega (arith, a .at-b); not-e = λ q. omega (arith, a .at-e); not-g = λ q. omega (arith, a .at-b, a .b-g) }
 
@@ -38,11 +38,11 @@ module _ {w b e g : ℕ} {t : List ℕ} (a : Apart w b e g t) where
   pub off-g : (i k : ℕ) → i < w → k < w → (i ≡ k → ⊥) → Off b e g k (g + i)
   off-g i k h l d = record { not-p = λ q. omega (arith, a .at-b, a .b-g); not-b = λ q. omega (arith, a .b-g); not-e = λ q. omega (arith, a .e-g); not-g = λ q. d (omega arith) }
 
-  -- no row is taken
+  -- no number is taken
   pub taken-none : (from : ℕ) → Taken b e g w from from t t
   taken-none from = record { sums = λ i x y z. absurd (omega arith); gone = λ i x y z. absurd (omega arith); comes = λ i x y z. absurd (omega arith); free = λ i x y z. absurd (omega arith); rest = λ j h. refl }
 
-  -- rows that are zero in the three blocks are taken by themselves
+  -- numbers that are zero in the three blocks are taken by themselves
   pub taken-zero : (from stop : ℕ) → ((i : ℕ) → from ≤ i → i < stop → i < w → (getD t (b + i) 0 ≡ 0) × (getD t (e + i) 0 ≡ 0) × (getD t (g + i) 0 ≡ 0)) → Taken b e g w from stop t t
   taken-zero from stop z =
       record {
@@ -53,14 +53,14 @@ module _ {w b e g : ℕ} {t : List ℕ} (a : Apart w b e g t) where
         rest = λ j h. refl;
       }
 
-  -- a row that is not among those taken is as it was
-  pub taken-off : (from stop : ℕ) (t′ : List ℕ) → Taken b e g w from stop t t′ → (i : ℕ) → i < w → (i < stop → ⊥)
+  -- a number that is not among those taken is as it was
+  pub taken-off : (from stop : ℕ) (t′ : List ℕ) → Taken b e g w from stop t t′ → (i : ℕ) → i < w → (from ≤ i → i < stop → ⊥)
       → (getD t′ i 0 ≡ getD t i 0) × (getD t′ (b + i) 0 ≡ getD t (b + i) 0) × (getD t′ (e + i) 0 ≡ getD t (e + i) 0) × (getD t′ (g + i) 0 ≡ getD t (g + i) 0)
   taken-off from stop t′ x i h o = (
-    x .rest i (λ k p q r. off-p i k h r (λ z. o (omega arith))),
-    x .rest (b + i) (λ k p q r. off-b i k h r (λ z. o (omega arith))),
-    x .rest (e + i) (λ k p q r. off-e i k h r (λ z. o (omega arith))),
-    x .rest (g + i) (λ k p q r. off-g i k h r (λ z. o (omega arith))),
+    x .rest i (λ k p q r. off-p i k h r (λ z. o (omega arith) (omega arith))),
+    x .rest (b + i) (λ k p q r. off-b i k h r (λ z. o (omega arith) (omega arith))),
+    x .rest (e + i) (λ k p q r. off-e i k h r (λ z. o (omega arith) (omega arith))),
+    x .rest (g + i) (λ k p q r. off-g i k h r (λ z. o (omega arith) (omega arith))),
   )
 
   -- number i of each of the four blocks is stored
@@ -96,30 +96,7 @@ module _ {w b e g : ℕ} {t : List ℕ} (a : Apart w b e g t) where
     pub stored-g : getD stored (g + i) 0 ≡ 0
     stored-g = getD-set-same (set (set (set t i v) (b + i) 0) (e + i) y) (g + i) 0 0 (simp length-set (omega (arith, a .room)))
 
-  -- one row
-  module _ (i : ℕ) (h : i < w) where
-    abbrev sum : ℕ
-    sum = getD t i 0 + getD t (b + i) 0
-
-    abbrev next : ℕ
-    next = getD (set (set t i sum) (b + i) 0) (g + i) 0
-
-    next-is : next ≡ getD t (g + i) 0
-    next-is =
-        getD-set-other (set t i sum) (b + i) (g + i) 0 0 (λ q. omega (arith, a .b-g))
-        ∙ getD-set-other t i (g + i) sum 0 (λ q. omega (arith, a .at-b, a .b-g))
-
-    pub taken-one : Taken b e g w i (i + 1) t (stored i sum next h)
-    taken-one =
-        record {
-          sums = λ k x y l. let z : k ≡ i = omega arith in rw z (stored-p i sum next h);
-          gone = λ k x y l. let z : k ≡ i = omega arith in rw z (stored-b i sum next h);
-          comes = λ k x y l. let z : k ≡ i = omega arith in rw z (stored-e i sum next h ∙ next-is);
-          free = λ k x y l. let z : k ≡ i = omega arith in rw z (stored-g i sum next h);
-          rest = λ j o. stored-off i sum next h j (o i (omega arith) (omega arith) h);
-        }
-
--- some rows and then more
+-- some numbers and then more
 pub taken-then : {w b e g : ℕ} {t : List ℕ} → Apart w b e g t → (from mid stop : ℕ) → from ≤ mid → mid ≤ stop → (t₁ t₂ : List ℕ) → Taken b e g w from mid t t₁ → Taken b e g w mid stop t₁ t₂ → Taken b e g w from stop t t₂
 taken-then {w} {b} {e} {g} {t} a from mid stop fm ms t₁ t₂ x y =
     record {
@@ -146,7 +123,7 @@ taken-then {w} {b} {e} {g} {t} a from mid stop fm ms t₁ t₂ x y =
     free′ i f s l (yes d) = y .rest (g + i) (λ k p q r. off-g a i k l r (λ z. omega arith)) ∙ x .free i f d l
     free′ i f s l (no d) = y .free i (omega arith) s l
 
--- the same rows, said otherwise
+-- the same numbers, said otherwise
 pub taken-same : {b e g w from stop : ℕ} {t t′ : List ℕ} (w′ stop′ : ℕ) → ((i : ℕ) → from ≤ i → i < stop′ → i < w′ → (i < stop) × (i < w)) → ((i : ℕ) → from ≤ i → i < stop → i < w → (i < stop′) × (i < w′))
     → Taken b e g w from stop t t′ → Taken b e g w′ from stop′ t t′
 taken-same w′ stop′ in′ out x =
@@ -157,6 +134,18 @@ taken-same w′ stop′ in′ out x =
       free = λ i f s l. let z = in′ i f s l in x .free i f (z .0) (z .1);
       rest = λ j o. x .rest j (λ i f s l. let z = out i f s l in o i f (z .0) (z .1));
     }
+
+-- behind some numbers that are taken, the sums of all fit as before
+pub sums-fit : {w b e g : ℕ} {t₀ : List ℕ} → Apart w b e g t₀ → SumsFit w b t₀ → (from m : ℕ) (t : List ℕ) → Taken b e g w from m t₀ t → SumsFit w b t
+sums-fit {w} {b} {e} {g} {t₀} a f from m t x i l = go (decLt i m) (decLt i from)
+  where
+    left : (from ≤ i → i < m → ⊥) → getD t i 0 + getD t (b + i) 0 < 2 ^ 64
+    left out = let o = taken-off a from m t x i l out in omega (arith, o .0, o .1, f i l)
+
+    go : Dec (i < m) → Dec (i < from) → getD t i 0 + getD t (b + i) 0 < 2 ^ 64
+    go (yes d) (no h) = omega (arith, x .sums i (omega arith) d l, x .gone i (omega arith) d l, f i l)
+    go (yes d) (yes h) = left (λ p q. omega arith)
+    go (no d) h = left (λ p q. omega arith)
 
 -- the same of one block that is cleared
 module _ (a w : ℕ) (t : List ℕ) where

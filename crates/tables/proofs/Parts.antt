@@ -1,9 +1,9 @@
 -- A part of the scratch from a place on, as it is lent and as it comes back; and what its tables then are.
 use mathlib.Core.Path.{_≡_, refl, ap, _∙_, sym, subst}
 use mathlib.Core.Bool.{Bool, true, false, cond}
-use mathlib.Core.Logic.{_⊎_, inl, inr}
 use mathlib.Core.List.{List, [], _++_, append-nil, append-assoc}
-use Prim.Native.Nat.{ℕ, _+_, _*_, _-_, _≤_, _<_}
+use Prim.Native.Nat.{ℕ, suc, _+_, _*_, _-_, _≤_, _<_}
+use native.Mathlib.Nat.{suc-mul}
 use native.Mathlib.Decide.{decLt}
 use native.Mathlib.Omega.{arith}
 use lib.Dec.{eqb}
@@ -12,12 +12,11 @@ use lib.Seq.{take-length, drop-length, length-take-le, getD-take, getD-drop, get
 use borrow.Author.Tests.{eqb-true, eqb-false, eq-eqb, ne-eqb}
 use borrow.Rule.Slice.PartMut.{putMid, same-len-mid}
 use Rattle.chain.specs.Plan.{CostLine, weight}
-use Rattle.chain.proofs.Lists.{weight-append}
 use Rattle.trace.specs.Fold.{Chains, nothing, called}
-use Rattle.walk.specs.Numbers.{load}
+use Rattle.walk.specs.Numbers.{loadBy}
 use Rattle.walk.specs.Reader.{alone}
 use Rattle.tables.specs.Blocks.{Shows, sinceAt, partAt, childAt, Holds}
-use Rattle.tables.specs.Walks.{Table, Out}
+use Rattle.tables.specs.Walks.{Table}
 use Rattle.tables.proofs.Held.{since-first, since-later, part-first, part-later}
 
 -- the part from o on, as it is lent and as it comes back
@@ -45,29 +44,18 @@ module _ (o : ℕ) (t : List ℕ) (h : o ≤ length t) where
   pub part-at : (j : ℕ) → getD (take (length t - o) (drop o t)) j 0 ≡ getD t (o + j) 0
   part-at j = ap (λ (z : List ℕ). getD z j 0) part-is ∙ getD-drop o t j 0
 
--- j is number index of the w numbers from a on
-pub record In (a w j : ℕ) : Type 0 where
-  pub index : ℕ
-  pub below : index < w
-  pub is : j ≡ a + index
-
-pub in-or-out : (a w j : ℕ) → Out a w j ⊎ In a w j
-in-or-out a w j = go (decLt j a) (decLt j (a + w))
-  where
-    go : Dec (j < a) → Dec (j < a + w) → Out a w j ⊎ In a w j
-    go (yes l) d = inl (λ x y. omega arith)
-    go (no l) (yes d) = inr (record { index = j - a; below = omega arith; is = omega arith })
-    go (no l) (no d) = inl (λ x y. omega arith)
-
 -- where an invocation has come to one chain, all but that chain's table is zero
-pub own-only : (n w : ℕ) → n ≡ w + 1 → (t : List ℕ) (c : List CostLine) → Shows n w t (alone c) [] → (j : ℕ) → Out 0 n j → getD t j 0 ≡ 0
-own-only n w wn t c s j o = go (in-or-out n n j) (in-or-out (2 * n) n j) (in-or-out (4 * n) n j)
+pub own-only : (n w : ℕ) → n ≡ w + 1 → (t : List ℕ) (c : List CostLine) → Shows n w t (alone c) [] → (j : ℕ) → n ≤ j → getD t j 0 ≡ 0
+own-only n w wn t c s j h = go (decLt j (2 * n)) (decLt j (3 * n)) (decLt j (4 * n))
   where
-    go : (Out n n j ⊎ In n n j) → (Out (2 * n) n j ⊎ In (2 * n) n j) → (Out (4 * n) n j ⊎ In (4 * n) n j) → getD t j 0 ≡ 0
-    go (inr q) x g = ap (λ (i : ℕ). getD t i 0) (q .is) ∙ s .L (q .index) (omega (arith, q .below))
-    go (inl l) (inr q) g = ap (λ (i : ℕ). getD t i 0) (q .is) ∙ s .C (q .index) (omega (arith, q .below))
-    go (inl l) (inl x) (inr q) = ap (λ (i : ℕ). getD t i 0) (q .is) ∙ s .G (q .index) (omega (arith, q .below))
-    go (inl l) (inl x) (inl g) = s .zero j o l x g
+    from : (a : ℕ) → a ≤ j → getD t j 0 ≡ getD t (a + (j - a)) 0
+    from a l = let e : j ≡ a + (j - a) = omega arith in ap (λ (i : ℕ). getD t i 0) e
+
+    go : Dec (j < 2 * n) → Dec (j < 3 * n) → Dec (j < 4 * n) → getD t j 0 ≡ 0
+    go (yes l) x y = from n h ∙ s .L (j - n) (omega arith)
+    go (no l) (yes x) y = from (2 * n) (omega arith) ∙ s .C (j - 2 * n) (omega arith)
+    go (no l) (no x) (yes y) = from (3 * n) (omega arith) ∙ s .G (j - 3 * n) (omega arith)
+    go (no l) (no x) (no y) = s .zero j (omega arith)
 
 -- where all but a chain's table is zero, the invocation has come to that chain
 pub alone-is : (n w : ℕ) → n ≡ w + 1 → (t : List ℕ) (c : List CostLine) → Table t 0 w c → ((j : ℕ) → n ≤ j → getD t j 0 ≡ 0) → Shows n w t (alone c) []
@@ -76,13 +64,9 @@ alone-is n w wn t c h z =
       P = h;
       L = λ i l. z (n + i) (omega arith);
       C = λ i l. z (2 * n + i) (omega arith);
-      G = λ i l. z (4 * n + i) (omega arith);
-      zero = λ j a b x y. go j a (decLt j n);
+      G = λ i l. z (3 * n + i) (omega arith);
+      zero = λ j l. z j (omega arith);
     }
-  where
-    go : (j : ℕ) → Out 0 n j → Dec (j < n) → getD t j 0 ≡ 0
-    go j a (yes l) = absurd (a (omega arith) (omega arith))
-    go j a (no l) = z j (omega arith)
 
 -- the chain whose table the block with the continuation is
 abbrev pub standing : Chains → List CostLine
@@ -94,153 +78,124 @@ standing-first k e = ap (λ (b : Bool). cond b (k .p ++ k .c) (k .c)) (eq-eqb (w
 standing-later : (k : Chains) → (weight (k .l) ≡ 0 → ⊥) → standing k ≡ k .c
 standing-later k e = ap (λ (b : Bool). cond b (k .p ++ k .c) (k .c)) (ne-eqb (weight (k .l)) 0 e)
 
-pub standing-le : (k : Chains) → weight (standing k) ≤ load k
-standing-le k = go (eqb (weight (k .l)) 0)
+-- by whatever a chain comes to, it comes to no more than the three chains together
+pub standing-le : (m : List CostLine → ℕ) → ((a b : List CostLine) → m (a ++ b) ≡ m a + m b) → (k : Chains) → m (standing k) ≤ loadBy m k
+standing-le m m-append k = go (eqb (weight (k .l)) 0)
   where
-    go : (b : Bool) → weight (cond b (k .p ++ k .c) (k .c)) ≤ load k
-    go true = omega (arith, weight-append (k .p) (k .c))
+    go : (b : Bool) → m (cond b (k .p ++ k .c) (k .c)) ≤ loadBy m k
+    go true = omega (arith, m-append (k .p) (k .c))
     go false = omega arith
 
-module _ (n w : ℕ) (wn : n ≡ w + 1) (t : List ℕ) (h : 4 * n ≤ length t) where
+module _ (n w : ℕ) (wn : n ≡ w + 1) (t : List ℕ) where
   -- behind the prefix's block all is zero as long as no child is the longest
   first-zero : (c : List CostLine) → Shows n w t (alone c) [] → (j : ℕ) → getD t (n + j) 0 ≡ 0
-  first-zero c s j = own-only n w wn t c s (n + j) (λ x y. omega arith)
+  first-zero c s j = own-only n w wn t c s (n + j) (omega arith)
 
-  -- and behind the four blocks in any case
-  later-zero : (k : Chains) → Shows n w t k [] → (j : ℕ) → getD t (4 * n + j) 0 ≡ 0
+  -- and behind the three blocks in any case
+  later-zero : (k : Chains) → Shows n w t k [] → (j : ℕ) → getD t (3 * n + j) 0 ≡ 0
   later-zero k s j = go (decLt j n)
     where
-      go : Dec (j < n) → getD t (4 * n + j) 0 ≡ 0
+      go : Dec (j < n) → getD t (3 * n + j) 0 ≡ 0
       go (yes l) = s .G j (omega arith)
-      go (no l) = s .zero (4 * n + j) (λ x y. omega arith) (λ x y. omega arith) (λ x y. omega arith) (λ x y. omega arith)
+      go (no l) = s .zero (3 * n + j) (omega arith)
 
   -- behind the continuation's block too
   since-zero : (k : Chains) → Shows n w t k [] → (j : ℕ) → n ≤ j → getD t (2 * n + j) 0 ≡ 0
-  since-zero k s j l = go (in-or-out (4 * n) n (2 * n + j))
-    where
-      go : Out (4 * n) n (2 * n + j) ⊎ In (4 * n) n (2 * n + j) → getD t (2 * n + j) 0 ≡ 0
-      go (inl o) = s .zero (2 * n + j) (λ x y. omega arith) (λ x y. omega arith) (λ x y. omega arith) o
-      go (inr q) = ap (λ (i : ℕ). getD t i 0) (q .is) ∙ s .G (q .index) (omega (arith, q .below))
+  since-zero k s j l = let e : 2 * n + j ≡ 3 * n + (j - n) = omega arith in ap (λ (i : ℕ). getD t i 0) e ∙ later-zero k s (j - n)
 
   -- a part that begins with a chain's table and has zeros behind it shows that chain
-  part-alone : (o : ℕ) → o ≤ 4 * n → (c : List CostLine) → Table t o w c → ((j : ℕ) → n ≤ j → getD t (o + j) 0 ≡ 0) → Shows n w (take (length t - o) (drop o t)) (alone c) []
-  part-alone o l c table z = alone-is n w wn (take (length t - o) (drop o t)) c (λ i b. part-at o t (omega arith) (0 + i) ∙ from i ∙ table i b) (λ j b. part-at o t (omega arith) j ∙ z j b)
+  part-alone : (o : ℕ) → o ≤ length t → (c : List CostLine) → Table t o w c → ((j : ℕ) → n ≤ j → getD t (o + j) 0 ≡ 0) → Shows n w (take (length t - o) (drop o t)) (alone c) []
+  part-alone o l c table z = alone-is n w wn (take (length t - o) (drop o t)) c (λ i b. part-at o t l (0 + i) ∙ from i ∙ table i b) (λ j b. part-at o t l j ∙ z j b)
     where
       from : (i : ℕ) → getD t (o + (0 + i)) 0 ≡ getD t (o + i) 0
       from i = let e : o + (0 + i) ≡ o + i = omega arith in ap (λ (j : ℕ). getD t j 0) e
 
   -- A child's part comes back from o on, y: the table of a chain is at the front of it, and zeros are behind.
-  module _ (o : ℕ) (l : o ≤ 4 * n) (c : List CostLine) (y : List ℕ) (d : Shows n w y (alone c) []) where
+  module _ (o : ℕ) (l : o ≤ length t) (c : List CostLine) (y : List ℕ) (d : Shows n w y (alone c) []) where
     abbrev back : List ℕ
     back = putMid o (length t - o) t y
 
     below-back : (j : ℕ) → j < o → getD back j 0 ≡ getD t j 0
-    below-back = back-low o t (omega arith) y
+    below-back = back-low o t l y
 
     back-table : Table back o w c
-    back-table i b = let z : i ≡ 0 + i = omega arith in back-high o t (omega arith) y i ∙ ap (λ (j : ℕ). getD y j 0) z ∙ d .P i b
+    back-table i b = let z : i ≡ 0 + i = omega arith in back-high o t l y i ∙ ap (λ (j : ℕ). getD y j 0) z ∙ d .P i b
 
-    back-zero : (j : ℕ) → o ≤ j → Out o n j → getD back j 0 ≡ 0
-    back-zero j b x =
-        let i = j - o in
-        let z : o + i ≡ j = omega arith in
-        ap (λ (q : ℕ). getD back q 0) (sym z) ∙ back-high o t (omega arith) y i ∙ own-only n w wn y c d i (λ p q. x (omega arith) (omega arith))
-
-    -- what was zero below it is
-    back-none : (j : ℕ) → getD t j 0 ≡ 0 → Out o n j → getD back j 0 ≡ 0
-    back-none j z x = go (decLt j o)
-      where
-        go : Dec (j < o) → getD back j 0 ≡ 0
-        go (yes b) = below-back j b ∙ z
-        go (no b) = back-zero j (omega arith) x
+    back-zero : (j : ℕ) → o + n ≤ j → getD back j 0 ≡ 0
+    back-zero j b =
+        let z : o + (j - o) ≡ j = omega arith in
+        ap (λ (q : ℕ). getD back q 0) (sym z) ∙ back-high o t l y (j - o) ∙ own-only n w wn y c d (j - o) (omega arith)
 
   -- a spawned child leaves its chain's table at the front of its part: where no child is the longest,
-  back-first : (p c : List CostLine) (y : List ℕ) → Shows n w t (alone p) [] → Shows n w y (alone c) [] → Shows n w (putMid n (length t - n) t y) (record { p = p; l = c; c = [] }) []
-  back-first p c y s d =
-      let in-it : n ≤ 4 * n = omega arith in
+  back-first : n ≤ length t → (p c : List CostLine) (y : List ℕ) → Shows n w t (alone p) [] → Shows n w y (alone c) [] → Shows n w (putMid n (length t - n) t y) (record { p = p; l = c; c = [] }) []
+  back-first h p c y s d =
       record {
-        P = λ i l. below-back n in-it c y d (0 + i) (omega arith) ∙ s .P i l;
-        L = back-table n in-it c y d;
-        C = λ i l. back-zero n in-it c y d (2 * n + i) (omega arith) (λ x y. omega arith);
-        G = λ i l. back-zero n in-it c y d (4 * n + i) (omega arith) (λ x y. omega arith);
-        zero = λ j a b x g. back-none n in-it c y d j (own-only n w wn t p s j a) b;
+        P = λ i l. below-back n h c y d (0 + i) (omega arith) ∙ s .P i l;
+        L = back-table n h c y d;
+        C = λ i l. back-zero n h c y d (2 * n + i) (omega arith);
+        G = λ i l. back-zero n h c y d (3 * n + i) (omega arith);
+        zero = λ j l. back-zero n h c y d j (omega arith);
       }
 
   -- and where one is
-  back-later : (k : Chains) (c : List CostLine) (y : List ℕ) → Shows n w t k [] → Shows n w y (alone c) [] → Shows n w (putMid (4 * n) (length t - 4 * n) t y) k c
-  back-later k c y s d =
-      let in-it : 4 * n ≤ 4 * n = omega arith in
-      let kept = below-back (4 * n) in-it c y d in
+  back-later : 3 * n ≤ length t → (k : Chains) (c : List CostLine) (y : List ℕ) → Shows n w t k [] → Shows n w y (alone c) [] → Shows n w (putMid (3 * n) (length t - 3 * n) t y) k c
+  back-later h k c y s d =
+      let kept = below-back (3 * n) h c y d in
       record {
         P = λ i l. kept (0 + i) (omega arith) ∙ s .P i l;
         L = λ i l. kept (n + i) (omega arith) ∙ s .L i l;
         C = λ i l. kept (2 * n + i) (omega arith) ∙ s .C i l;
-        G = back-table (4 * n) in-it c y d;
-        zero = λ j a b x g. back-none (4 * n) in-it c y d j (s .zero j a b x g) g;
+        G = back-table (3 * n) h c y d;
+        zero = λ j l. back-zero (3 * n) h c y d j (omega arith);
       }
 
   -- a called child adds its chain's table to the one at the front of its part: where no child is the longest,
   since-back-first : (p c g : List CostLine) (y : List ℕ) → Shows n w y (alone ((p ++ c) ++ g)) [] → Shows n w (putMid 0 (length t - 0) t y) (alone (p ++ (c ++ g))) []
   since-back-first p c g y d =
-      let in-it : 0 ≤ 4 * n = omega arith in
+      let h : 0 ≤ length t = omega arith in
       let all = (p ++ c) ++ g in
       subst (λ (x : List CostLine). Shows n w (putMid 0 (length t - 0) t y) (alone x) []) (append-assoc p c g)
-      (alone-is n w wn (putMid 0 (length t - 0) t y) all (back-table 0 in-it all y d) (λ j l. back-zero 0 in-it all y d j (omega arith) (λ x y. omega arith)))
+      (alone-is n w wn (putMid 0 (length t - 0) t y) all (back-table 0 h all y d) (λ j l. back-zero 0 h all y d j (omega arith)))
 
   -- and where one is
-  since-back-later : (k : Chains) (g : List CostLine) (y : List ℕ) → Shows n w t k [] → Shows n w y (alone (k .c ++ g)) [] → Shows n w (putMid (2 * n) (length t - 2 * n) t y) (called g k) []
-  since-back-later k g y s d =
-      let in-it : 2 * n ≤ 4 * n = omega arith in
+  since-back-later : 2 * n ≤ length t → (k : Chains) (g : List CostLine) (y : List ℕ) → Shows n w t k [] → Shows n w y (alone (k .c ++ g)) [] → Shows n w (putMid (2 * n) (length t - 2 * n) t y) (called g k) []
+  since-back-later h k g y s d =
       let c = k .c ++ g in
-      let kept = below-back (2 * n) in-it c y d in
+      let kept = below-back (2 * n) h c y d in
       record {
         P = λ i l. kept (0 + i) (omega arith) ∙ s .P i l;
         L = λ i l. kept (n + i) (omega arith) ∙ s .L i l;
-        C = back-table (2 * n) in-it c y d;
-        G = λ i l. back-zero (2 * n) in-it c y d (4 * n + i) (omega arith) (λ x y. omega arith);
-        zero = λ j a b x g. back-none (2 * n) in-it c y d j (s .zero j a b x g) x;
+        C = back-table (2 * n) h c y d;
+        G = λ i l. back-zero (2 * n) h c y d (3 * n + i) (omega arith);
+        zero = λ j l. back-zero (2 * n) h c y d j (omega arith);
       }
 
-  -- at most the four blocks lie below a child's part
-  pub part-in : (kind v : ℕ) → childAt kind n v ≤ 4 * n
-  part-in kind v = go (eqb kind 2) (eqb v 0)
-    where
-      go : (a b : Bool) → cond a (cond b 0 (2 * n)) (cond b n (4 * n)) ≤ 4 * n
-      go true true = omega arith
-      go true false = omega arith
-      go false true = omega arith
-      go false false = omega arith
-
-  -- a part goes up to the end of the scratch
-  pub part-length : (o : ℕ) → o ≤ 4 * n → length (take (length t - o) (drop o t)) ≡ length t - o
-  part-length o l = ap length (part-is o t (omega arith)) ∙ length-drop o t
-
   -- a spawned child's part
-  module _ (v o : ℕ) (is : o ≡ partAt n v) (k : Chains) (e : v ≡ weight (k .l)) (s : Holds n w t k []) where
+  module _ (v o : ℕ) (is : o ≡ partAt n v) (h : o ≤ length t) (k : Chains) (e : v ≡ weight (k .l)) (s : Holds n w t k []) where
     -- it is lent zeros
     pub child-none : Shows n w (take (length t - o) (drop o t)) nothing []
     child-none = go (eqb v 0) refl
       where
         go : (b : Bool) → eqb v 0 ≡ b → Shows n w (take (length t - o) (drop o t)) nothing []
         go true q =
-            let m = eqb-true v 0 q in
-            let z = first-zero (k .p ++ k .c) (s .first (sym e ∙ m)) in
-            rw (is ∙ part-first n v m) (part-alone n (omega arith) [] (λ i l. z i) (λ j l. z j))
+            let m = is ∙ part-first n v (eqb-true v 0 q) in
+            let z = first-zero (k .p ++ k .c) (s .first (sym e ∙ eqb-true v 0 q)) in
+            rw m (part-alone n (rw m at h) [] (λ i l. z i) (λ j l. z j))
         go false q =
-            let m = eqb-false v 0 q in
-            let z = later-zero k (s .later (λ z. m (e ∙ z))) in
-            rw (is ∙ part-later n v m) (part-alone (4 * n) (omega arith) [] (λ i l. z i) (λ j l. z j))
+            let m = is ∙ part-later n v (eqb-false v 0 q) in
+            let z = later-zero k (s .later (λ z. eqb-false v 0 q (e ∙ z))) in
+            rw m (part-alone (3 * n) (rw m at h) [] (λ i l. z i) (λ j l. z j))
 
     -- it comes back with the child's table
     pub child-back : (c : List CostLine) (y : List ℕ) → Shows n w y (alone c) [] → Holds n w (putMid o (length t - o) t y) k c
     child-back c y d =
         record {
-          first = λ q. rw (is ∙ part-first n v (e ∙ q)) (back-first (k .p ++ k .c) c y (s .first q) d);
-          later = λ q. rw (is ∙ part-later n v (λ z. q (sym e ∙ z))) (back-later k c y (s .later q) d);
+          first = λ q. let m = is ∙ part-first n v (e ∙ q) in rw m (back-first (rw m at h) (k .p ++ k .c) c y (s .first q) d);
+          later = λ q. let m = is ∙ part-later n v (λ z. q (sym e ∙ z)) in rw m (back-later (rw m at h) k c y (s .later q) d);
         }
 
   -- a called child's part
-  module _ (v o : ℕ) (is : o ≡ sinceAt n v) (k : Chains) (e : v ≡ weight (k .l)) (s : Holds n w t k []) where
+  module _ (v o : ℕ) (is : o ≡ sinceAt n v) (h : o ≤ length t) (k : Chains) (e : v ≡ weight (k .l)) (s : Holds n w t k []) where
     -- it begins with the table of the continuation
     pub since-shows : Shows n w (take (length t - o) (drop o t)) (alone (standing k)) []
     since-shows = go (eqb v 0) refl
@@ -249,20 +204,43 @@ module _ (n w : ℕ) (wn : n ≡ w + 1) (t : List ℕ) (h : 4 * n ≤ length t) 
         go true q =
             let m = eqb-true v 0 q in
             let f = s .first (sym e ∙ m) in
-            rw (is ∙ since-first n v m, standing-first k (sym e ∙ m)) (part-alone 0 (omega arith) (k .p ++ k .c) (f .P) (λ j l. own-only n w wn t (k .p ++ k .c) f (0 + j) (λ x y. omega arith)))
+            rw (is ∙ since-first n v m, standing-first k (sym e ∙ m)) (part-alone 0 (omega arith) (k .p ++ k .c) (f .P) (λ j l. own-only n w wn t (k .p ++ k .c) f (0 + j) (omega arith)))
         go false q =
             let m = eqb-false v 0 q in
+            let at = is ∙ since-later n v m in
             let f = s .later (λ z. m (e ∙ z)) in
-            rw (is ∙ since-later n v m, standing-later k (λ z. m (e ∙ z))) (part-alone (2 * n) (omega arith) (k .c) (f .C) (since-zero k f))
+            rw (at, standing-later k (λ z. m (e ∙ z))) (part-alone (2 * n) (rw at at h) (k .c) (f .C) (since-zero k f))
 
     -- it comes back with the child's table added to it
     pub since-back : (g : List CostLine) (y : List ℕ) → Shows n w y (alone (standing k ++ g)) [] → Holds n w (putMid o (length t - o) t y) (called g k) []
     since-back g y d =
         record {
           first = λ q. rw (is ∙ since-first n v (e ∙ q)) (since-back-first (k .p) (k .c) g y (subst (λ (x : List CostLine). Shows n w y (alone (x ++ g)) []) (standing-first k q) d));
-          later = λ q. rw (is ∙ since-later n v (λ z. q (sym e ∙ z))) (since-back-later k g y (s .later q) (subst (λ (x : List CostLine). Shows n w y (alone (x ++ g)) []) (standing-later k q) d));
+          later = λ q.
+              let m = is ∙ since-later n v (λ z. q (sym e ∙ z)) in
+              rw m (since-back-later (rw m at h) k g y (s .later q) (subst (λ (x : List CostLine). Shows n w y (alone (x ++ g)) []) (standing-later k q) d));
         }
+
+-- a child's part begins at most three blocks behind its caller's
+pub part-in : (kind n v : ℕ) → childAt kind n v ≤ 3 * n
+part-in kind n v = go (eqb kind 2) (eqb v 0)
+  where
+    go : (a b : Bool) → cond a (cond b 0 (2 * n)) (cond b n (3 * n)) ≤ 3 * n
+    go true true = omega arith
+    go true false = omega arith
+    go false true = omega arith
+    go false false = omega arith
+
+-- a part goes up to the end of the scratch
+pub part-length : (o : ℕ) (t : List ℕ) → o ≤ length t → length (take (length t - o) (drop o t)) ≡ length t - o
+part-length o t h = ap length (part-is o t h) ∙ length-drop o t
 
 -- the scratch is as long as it was when a part has come back
 pub back-length : (o : ℕ) (t y : List ℕ) → length y ≡ length (take (length t - o) (drop o t)) → length (putMid o (length t - o) t y) ≡ length t
 back-length o t y e = same-len-mid o (length t - o) t y e
+
+-- the room of one invocation more, x, among that of all that may open
+pub one-more : (deep x : ℕ) → 1 ≤ deep → deep * x ≡ (deep - 1) * x + x
+one-more deep x l =
+    let e : deep ≡ suc (deep - 1) = omega arith in
+    ap (λ (y : ℕ). y * x) e ∙ suc-mul (deep - 1) x

@@ -3,7 +3,7 @@ use mathlib.Core.Path.{_≡_, refl, ap, _∙_, sym, subst}
 use mathlib.Core.Bool.{Bool, true, false, cond}
 use mathlib.Core.Logic.{_⊎_, inl, inr}
 use mathlib.Core.List.{List, [], _∷_, _++_, append-assoc}
-use Prim.Native.Nat.{ℕ, _+_, _*_, _/_, _^_, _≤_, _<_}
+use Prim.Native.Nat.{ℕ, zero, suc, _+_, _*_, _/_, _%_, _^_, _≤_, _<_}
 use native.Mathlib.Omega.{arith}
 use lib.Bits.{bitOr}
 use lib.Dec.{eqb, ltb}
@@ -13,50 +13,67 @@ use borrow.Author.Tests.{eqb-true, eqb-false}
 use Rattle.chain.specs.Plan.{CostLine, weight, choose}
 use Rattle.chain.proofs.Lists.{weight-append}
 use Rattle.chain.proofs.Choose.{test}
-use Rattle.trace.specs.Fold.{costAt, Chains, joined, spawned}
+use Rattle.trace.specs.Fold.{costAt, itsInstructions, Chains, joined, spawned, onAll}
+use Rattle.trace.proofs.OnChain.{on-append}
+use Rattle.walk.specs.Measure.{cycles, instructions}
 use Rattle.walk.specs.declared.Open.{Open}
 use Rattle.walk.specs.Reader.{alone}
-use Rattle.walk.specs.Numbers.{spentN, laterHeavier, joinedN, childLonger, spawnedN, load}
+use Rattle.walk.specs.Numbers.{spentN, laterHeavier, joinedN, childLonger, spawnedN, load, iload}
 use Rattle.walk.proofs.Numbers.{spent-numbers, later-chosen, joined-numbers, child-chosen, spawned-numbers}
-use Rattle.tables.specs.Walks.{number, Table, IsTable, Out, TakesIn, TookIn, Cleared}
+use Rattle.tables.specs.declared.Pair.{Pair}
+use Rattle.tables.specs.Walks.{side, number, Table, Out, PairFits, pairAt, pairSum, added, TakesIn, TookIn, Cleared}
 use Rattle.tables.specs.Blocks.{Shows, sinceAt, Holds, behind, Asks, Spent, Joined, Spawned}
-use Rattle.tables.proofs.Number.{by-number, number-le, number-choose, row-spent, word-spent}
+use Rattle.tables.proofs.Number.{side-of, side-le, side-even, side-odd, by-number, number-le, number-choose, row-spent, word-spent}
+use Rattle.tables.proofs.Fours.{Laid, ofPair, pair-laid}
 use Rattle.tables.proofs.Held.{since-first, since-later, behind-joined, behind-spawned, none-longest, some-longest, light, holds-two}
-use Rattle.tables.proofs.Parts.{In, in-or-out, alone-is}
 
--- a cost of v in row s is put into the block at a: its number, and its bit in the word
-module _ (t : List ℕ) (a w s v : ℕ) where
-  abbrev added : List ℕ
-  added = set t (a + s) (getD t (a + s) 0 + v)
+-- a cost of v cycles and j instructions in row s is put into the block at a: its numbers, and its bit in the word
+module _ (t : List ℕ) (a w s v j : ℕ) where
+  abbrev its : Pair
+  its = record { cycles = cycles v; instructions = instructions j }
+
+  abbrev summed : List ℕ
+  summed = added t (a + 2 * s) its
 
   abbrev raised : List ℕ
-  raised = set added (a + w) (bitOr (getD added (a + w) 0) (2 ^ (s / 4)))
+  raised = set summed (a + w) (bitOr (getD summed (a + w) 0) (2 ^ (s / 4)))
 
-  -- all other numbers are as they were
-  elsewhere : (j : ℕ) → (j ≡ a + s → ⊥) → (j ≡ a + w → ⊥) → getD raised j 0 ≡ getD t j 0
-  elsewhere j q r = getD-set-other added (a + w) j (bitOr (getD added (a + w) 0) (2 ^ (s / 4))) 0 r ∙ getD-set-other t (a + s) j (getD t (a + s) 0 + v) 0 q
+  module _ (sw : 2 * s + 2 ≤ w) (room : a + w < length t) where
+    stored : Laid 2 (a + 2 * s) (ofPair (pairSum (pairAt t (a + 2 * s)) its)) t summed
+    stored = pair-laid t (a + 2 * s) (pairSum (pairAt t (a + 2 * s)) its) (omega arith)
 
-  -- a chain's table is then that of the chain and the cost
-  table-raised : (line : ℕ) (c : List CostLine) → s < w → 1 ≤ v → a + w < length t → Table t a w c → Table raised a w (c ++ costAt line s v ∷ [])
-  table-raised line c sw some room h = by-number w (λ i. getD raised (a + i) 0 ≡ number w (c ++ costAt line s v ∷ []) i) (λ i l. row i l (eqb s i) refl) word
-    where
-      row : (i : ℕ) → i < w → (b : Bool) → eqb s i ≡ b → getD raised (a + i) 0 ≡ number w (c ++ costAt line s v ∷ []) i
-      row i l true q =
-          let z = eqb-true s i q in
-          getD-set-other added (a + w) (a + i) (bitOr (getD added (a + w) 0) (2 ^ (s / 4))) 0 (λ z. omega arith)
-          ∙ ap (λ (k : ℕ). getD added (a + k) 0) (sym z)
-          ∙ getD-set-same t (a + s) (getD t (a + s) 0 + v) 0 (omega arith)
-          ∙ omega (arith, h s (omega arith), row-spent w c line s v i l, ap (λ (b : Bool). cond b v 0) q, ap (number w c) z)
-      row i l false q = elsewhere (a + i) (λ z. eqb-false s i q (omega arith)) (λ z. omega arith) ∙ omega (arith, h i (omega arith), row-spent w c line s v i l, ap (λ (b : Bool). cond b v 0) q)
+    -- all other numbers are as they were
+    elsewhere : (i : ℕ) → Out (a + 2 * s) 2 i → (i ≡ a + w → ⊥) → getD raised i 0 ≡ getD t i 0
+    elsewhere i q r = getD-set-other summed (a + w) i (bitOr (getD summed (a + w) 0) (2 ^ (s / 4))) 0 r ∙ stored .off i q
 
-      before : getD added (a + w) 0 ≡ number w c w
-      before = getD-set-other t (a + s) (a + w) (getD t (a + s) 0 + v) 0 (λ z. omega arith) ∙ h w (omega arith)
+    -- each of the two has its measure more
+    here : (k : ℕ) → k < 2 → getD summed (a + 2 * s + k) 0 ≡ getD t (a + 2 * s + k) 0 + side k v j
+    here zero h = let e : a + 2 * s + 0 ≡ a + 2 * s = omega arith in stored .here 0 h ∙ ap (λ (i : ℕ). getD t i 0 + v) (sym e)
+    here (suc zero) h = stored .here 1 h
+    here (suc (suc k)) h = absurd (omega arith)
 
-      word : getD raised (a + w) 0 ≡ number w (c ++ costAt line s v ∷ []) w
-      word =
-          getD-set-same added (a + w) (bitOr (getD added (a + w) 0) (2 ^ (s / 4))) 0 (simp length-set room)
-          ∙ ap (λ (x : ℕ). bitOr x (2 ^ (s / 4))) before
-          ∙ sym (word-spent w c line s v some)
+    -- a chain's table is then that of the chain and the cost
+    table-raised : (line : ℕ) (c : List CostLine) → 1 ≤ v → Table t a w c → Table raised a w (c ++ costAt line s v j ∷ [])
+    table-raised line c some h = by-number w (λ i. getD raised (a + i) 0 ≡ number w (c ++ costAt line s v j ∷ []) i) (λ i l. row i l (eqb s (i / 2)) refl) word
+      where
+        row : (i : ℕ) → i < w → (b : Bool) → eqb s (i / 2) ≡ b → getD raised (a + i) 0 ≡ number w (c ++ costAt line s v j ∷ []) i
+        row i l true q =
+            let z = eqb-true s (i / 2) q in
+            let e : a + i ≡ a + 2 * s + i % 2 = omega arith in
+            getD-set-other summed (a + w) (a + i) (bitOr (getD summed (a + w) 0) (2 ^ (s / 4))) 0 (λ z. omega arith)
+            ∙ ap (λ (k : ℕ). getD summed k 0) e
+            ∙ here (i % 2) (omega arith)
+            ∙ omega (arith, ap (λ (k : ℕ). getD t k 0) e, h i (omega arith), row-spent w c line s v j i some l, ap (λ (b : Bool). cond b (side i v j) 0) q, side-of i v j)
+        row i l false q = elsewhere (a + i) (λ x y. eqb-false s (i / 2) q (omega arith)) (λ z. omega arith) ∙ omega (arith, h i (omega arith), row-spent w c line s v j i some l, ap (λ (b : Bool). cond b (side i v j) 0) q)
+
+        before : getD summed (a + w) 0 ≡ number w c w
+        before = stored .off (a + w) (λ x y. omega arith) ∙ h w (omega arith)
+
+        word : getD raised (a + w) 0 ≡ number w (c ++ costAt line s v j ∷ []) w
+        word =
+            getD-set-same summed (a + w) (bitOr (getD summed (a + w) 0) (2 ^ (s / 4))) 0 (simp length-set room)
+            ∙ ap (λ (x : ℕ). bitOr x (2 ^ (s / 4))) before
+            ∙ sym (word-spent w c line s v j some)
 
 -- behind a join one block holds all
 join-held : (n w : ℕ) (t : List ℕ) (q : List CostLine) (k : Chains) → Shows n w t (alone ((q ++ k .p) ++ choose (k .l) (k .c))) [] → Holds n w t (behind q (joined k)) []
@@ -64,7 +81,7 @@ join-held n w t q k s = subst (λ (x : Chains). Holds n w t x []) (behind-joined
 
 module _ (n w : ℕ) (wn : n ≡ w + 1) (t : List ℕ) where
   -- no child was the longest: the prefix's block has the continuation
-  pub join-none : (f : Open) → f .longest ≡ 0 → (b : Bool) → b ≡ laterHeavier f → Joined n w t f (joinedN b f) t
+  pub join-none : (f : Open) → f .longest .0 ≡ 0 → (b : Bool) → b ≡ laterHeavier f → Joined n w t f (joinedN b f) t
   join-none f m b is q k e h =
       let z = none-longest f k e m in
       let s = h .first z in (
@@ -72,48 +89,32 @@ module _ (n w : ℕ) (wn : n ≡ w + 1) (t : List ℕ) where
         join-held n w t q k (record { P = λ i l. s .P i l ∙ sym (number-choose w (q ++ k .p) (k .l) (k .c) z i l); L = s .L; C = s .C; G = s .G; zero = s .zero }),
       )
 
-  -- the fourth block is no chain's
-  pub third : (k : Chains) (g : List CostLine) → Shows n w t k g → Table t (3 * n) w []
-  third k g s i l = s .zero (3 * n + i) (λ x y. omega arith) (λ x y. omega arith) (λ x y. omega arith) (λ x y. omega arith)
-
-  -- the numbers that a step over the blocks at b, e and g leaves
-  left-out : {b e g : ℕ} {t′ : List ℕ} → TookIn b e g w t t′ → (j : ℕ) → Out 0 n j → Out b n j → Out e n j → Out g n j → getD t′ j 0 ≡ getD t j 0
-  left-out d j x y z u = d .rest j (λ p q. x p (omega arith)) (λ p q. y p (omega arith)) (λ p q. z p (omega arith)) (λ p q. u p (omega arith))
-
-  -- the prefix has taken the table at b, and nothing has come to the other at e
-  took-join : (b e : ℕ) (t′ : List ℕ) → TookIn b e (3 * n) w t t′ → (k : Chains) → Shows n w t k [] → (x : List CostLine) → Table t b w x
-      → ((j : ℕ) → Out b n j → Out e n j → Out n n j × Out (2 * n) n j) → Shows n w t′ (alone (k .p ++ x)) []
-  took-join b e t′ d k s x B both = alone-is n w wn t′ (k .p ++ x) (d .sums (k .p) x (s .P) B) (λ j h. go j h (in-or-out b n j) (in-or-out e n j) (in-or-out (3 * n) n j) (in-or-out (4 * n) n j))
-    where
-      go : (j : ℕ) → n ≤ j → (Out b n j ⊎ In b n j) → (Out e n j ⊎ In e n j) → (Out (3 * n) n j ⊎ In (3 * n) n j) → (Out (4 * n) n j ⊎ In (4 * n) n j) → getD t′ j 0 ≡ 0
-      go j h (inr i) y z u = ap (λ (m : ℕ). getD t′ m 0) (i .is) ∙ d .gone (i .index) (omega (arith, i .below))
-      go j h (inl o) (inr i) z u = ap (λ (m : ℕ). getD t′ m 0) (i .is) ∙ d .comes [] (third k [] s) (i .index) (omega (arith, i .below))
-      go j h (inl o) (inl y) (inr i) u = ap (λ (m : ℕ). getD t′ m 0) (i .is) ∙ d .free (i .index) (omega (arith, i .below))
-      go j h (inl o) (inl y) (inl z) (inr i) = left-out d j (λ p q. omega arith) o y z ∙ ap (λ (m : ℕ). getD t m 0) (i .is) ∙ s .G (i .index) (omega (arith, i .below))
-      go j h (inl o) (inl y) (inl z) (inl u) = left-out d j (λ p q. omega arith) o y z ∙ s .zero j (λ p q. omega arith) (both j o y .0) (both j o y .1) u
+  -- what a step over the blocks at b, e and 3 * n leaves behind them
+  left-out : {b e : ℕ} {t′ : List ℕ} → TookIn b e (3 * n) w t t′ → b ≤ 2 * n → e ≤ 2 * n → (j : ℕ) → 4 * n ≤ j → getD t′ j 0 ≡ getD t j 0
+  left-out d hb he j h = d .rest j (λ p q. omega arith) (λ p q. omega arith) (λ p q. omega arith) (λ p q. omega arith)
 
   -- the continuation was heavier
-  pub join-since : (f : Open) (t′ : List ℕ) → TookIn (2 * n) n (3 * n) w t t′ → (f .longest ≡ 0 → ⊥) → (b : Bool) → b ≡ laterHeavier f → b ≡ true → Joined n w t f (joinedN b f) t′
+  pub join-since : (f : Open) (t′ : List ℕ) → TookIn (2 * n) n (3 * n) w t t′ → (f .longest .0 ≡ 0 → ⊥) → (b : Bool) → b ≡ laterHeavier f → b ≡ true → Joined n w t f (joinedN b f) t′
   join-since f t′ d m b is wins q k e h =
       let s = h .later (some-longest f k e m) in (
         joined-numbers f k e b is,
         join-held n w t′ q k
             (subst (λ (x : List CostLine). Shows n w t′ (alone ((q ++ k .p) ++ x)) []) (sym (later-chosen f k e true (sym wins ∙ is)))
-            (took-join (2 * n) n t′ d (behind q k) s (k .c) (s .C) (λ j x y. (y, x)))),
+            (record { P = d .sums (q ++ k .p) (k .c) (s .P) (s .C); L = d .comes [] (s .G); C = d .gone; G = d .free; zero = λ j l. left-out d (omega arith) (omega arith) j l ∙ s .zero j l })),
       )
 
   -- the longest child was, or they weigh the same
-  pub join-longest : (f : Open) (t′ : List ℕ) → TookIn n (2 * n) (3 * n) w t t′ → (f .longest ≡ 0 → ⊥) → (b : Bool) → b ≡ laterHeavier f → b ≡ false → Joined n w t f (joinedN b f) t′
+  pub join-longest : (f : Open) (t′ : List ℕ) → TookIn n (2 * n) (3 * n) w t t′ → (f .longest .0 ≡ 0 → ⊥) → (b : Bool) → b ≡ laterHeavier f → b ≡ false → Joined n w t f (joinedN b f) t′
   join-longest f t′ d m b is loses q k e h =
       let s = h .later (some-longest f k e m) in (
         joined-numbers f k e b is,
         join-held n w t′ q k
             (subst (λ (x : List CostLine). Shows n w t′ (alone ((q ++ k .p) ++ x)) []) (sym (later-chosen f k e false (sym loses ∙ is)))
-            (took-join n (2 * n) t′ d (behind q k) s (k .l) (s .L) (λ j x y. (x, y)))),
+            (record { P = d .sums (q ++ k .p) (k .l) (s .P) (s .L); L = d .gone; C = d .comes [] (s .G); G = d .free; zero = λ j l. left-out d (omega arith) (omega arith) j l ∙ s .zero j l })),
       )
 
   -- no child was the longest before the spawned one: its table is in its place
-  pub spawned-first : (f : Open) (c : Open) → f .longest ≡ 0 → (b : Bool) → b ≡ childLonger c f → Spawned n w t f c (spawnedN b c f) t
+  pub spawned-first : (f : Open) (c : Open) → f .longest .0 ≡ 0 → (b : Bool) → b ≡ childLonger c f → Spawned n w t f c (spawnedN b c f) t
   spawned-first f c m b is q k g e v h =
       let z = none-longest f k e m in
       (spawned-numbers f k e c g v b is, subst (λ (x : Chains). Holds n w t x []) (behind-spawned q g k) (go z (test (weight (k .l)) (weight (k .c) + weight g))))
@@ -124,18 +125,18 @@ module _ (n w : ℕ) (wn : n ≡ w + 1) (t : List ℕ) where
       go z (inr c) = simp (c .1) (record { first = λ x. light n w t ((q ++ k .p) ++ k .c) g (omega (arith, c .0)) (h .first z); later = λ x. absurd (x z) })
 
   -- the spawned child is the longest from now on
-  pub spawned-longer : (f : Open) (c : Open) (t′ : List ℕ) → TookIn (2 * n) n (4 * n) w t t′ → (f .longest ≡ 0 → ⊥) → (b : Bool) → b ≡ childLonger c f → b ≡ true → Spawned n w t f c (spawnedN b c f) t′
+  pub spawned-longer : (f : Open) (c : Open) (t′ : List ℕ) → TookIn (2 * n) n (3 * n) w t t′ → (f .longest .0 ≡ 0 → ⊥) → (b : Bool) → b ≡ childLonger c f → b ≡ true → Spawned n w t f c (spawnedN b c f) t′
   spawned-longer f c t′ d m b is wins q k g e v h =
       let s = h .later (some-longest f k e m) in
       let p = q ++ k .p in (
         spawned-numbers f k e c g v b is,
         subst (λ (x : Chains). Holds n w t′ x []) (ap (λ (x : List CostLine). record { p = x; l = g; c = [] }) (append-assoc q (k .p) (k .c)) ∙ ap (behind q) (sym (child-chosen f k e c g v true (sym wins ∙ is))))
             (holds-two n w t′ (p ++ k .c) g
-            (record { P = d .sums p (k .c) (s .P) (s .C); L = d .comes g (s .G); C = d .gone; G = d .free; zero = λ j a b x y. left-out d j a x b y ∙ s .zero j a b x y })),
+            (record { P = d .sums p (k .c) (s .P) (s .C); L = d .comes g (s .G); C = d .gone; G = d .free; zero = λ j l. left-out d (omega arith) (omega arith) j l ∙ s .zero j l })),
       )
 
   -- it is not
-  pub spawned-shorter : (f : Open) (c : Open) (t₁ : List ℕ) → Cleared (4 * n) (w + 1) 0 (w + 1) t t₁ → (f .longest ≡ 0 → ⊥) → (b : Bool) → b ≡ childLonger c f → b ≡ false → Spawned n w t f c (spawnedN b c f) t₁
+  pub spawned-shorter : (f : Open) (c : Open) (t₁ : List ℕ) → Cleared (3 * n) (w + 1) 0 (w + 1) t t₁ → (f .longest .0 ≡ 0 → ⊥) → (b : Bool) → b ≡ childLonger c f → b ≡ false → Spawned n w t f c (spawnedN b c f) t₁
   spawned-shorter f c t₁ z m b is loses q k g e v h =
       let x = some-longest f k e m in
       let s = h .later x in (
@@ -149,15 +150,15 @@ module _ (n w : ℕ) (wn : n ≡ w + 1) (t : List ℕ) where
                     L = λ i l. z .rest (n + i) (λ j a b c d. omega arith) ∙ s .L i l;
                     C = λ i l. z .rest (2 * n + i) (λ j a b c d. omega arith) ∙ s .C i l;
                     G = λ i l. z .gone i (omega arith) (omega arith) (omega arith);
-                    zero = λ j a b x y. z .rest j (λ i p q r e. y (omega arith) (omega arith)) ∙ s .zero j a b x y;
+                    zero = λ j l. z .rest j (λ i p q r e. omega arith) ∙ s .zero j l;
                   };
             }),
       )
 
-  -- what the steps ask for where a child is the longest: the continuation is taken in, and what is at g comes to the
-  -- longest child's place,
-  pub since-takes : (g : ℕ) → 3 * n ≤ g → g + n ≤ length t → (k : Chains) (c : List CostLine) → Shows n w t k c → IsTable t g w → weight (k .p) + weight (k .c) < 2 ^ 64 → TakesIn (2 * n) n g w t
-  since-takes g low room k c s G fits =
+  -- What the steps ask for where a child is the longest: the continuation is taken in, and what is at the front of the
+  -- child's part comes to the longest child's place,
+  pub since-takes : 4 * n ≤ length t → (k : Chains) (c : List CostLine) → Shows n w t k c → w % 2 ≡ 0 → weight (k .p) + weight (k .c) < 2 ^ 64 → onAll itsInstructions (k .p) + onAll itsInstructions (k .c) < 2 ^ 64 → TakesIn (2 * n) n (3 * n) w t
+  since-takes room k c s even fits ifits =
       record {
         apart = record { at-b = omega arith; at-e = omega arith; b-g = omega arith; e-g = omega arith; b-e = λ i j x y e. omega arith; room = omega arith };
         p = k .p;
@@ -165,13 +166,15 @@ module _ (n w : ℕ) (wn : n ≡ w + 1) (t : List ℕ) where
         P = s .P;
         B = s .C;
         E = (k .l, s .L);
-        G = G;
+        G = (c, s .G);
+        even = even;
         fits = fits;
+        ifits = ifits;
       }
 
-  -- or the longest child is
-  pub longest-takes : 4 * n ≤ length t → (k : Chains) (c : List CostLine) → Shows n w t k c → weight (k .p) + weight (k .l) < 2 ^ 64 → TakesIn n (2 * n) (3 * n) w t
-  longest-takes room k c s fits =
+  -- or the longest child is, and it comes to the continuation's
+  pub longest-takes : 4 * n ≤ length t → (k : Chains) (c : List CostLine) → Shows n w t k c → w % 2 ≡ 0 → weight (k .p) + weight (k .l) < 2 ^ 64 → onAll itsInstructions (k .p) + onAll itsInstructions (k .l) < 2 ^ 64 → TakesIn n (2 * n) (3 * n) w t
+  longest-takes room k c s even fits ifits =
       record {
         apart = record { at-b = omega arith; at-e = omega arith; b-g = omega arith; e-g = omega arith; b-e = λ i j x y e. omega arith; room = omega arith };
         p = k .p;
@@ -179,87 +182,106 @@ module _ (n w : ℕ) (wn : n ≡ w + 1) (t : List ℕ) where
         P = s .P;
         B = s .L;
         E = (k .c, s .C);
-        G = ([], third k c s);
+        G = (c, s .G);
+        even = even;
         fits = fits;
+        ifits = ifits;
       }
 
   -- a cost, where no child is the longest
-  spent-first : (f : Open) (s v : ℕ) → s < w → 1 ≤ v → 4 * n ≤ length t → f .longest ≡ 0 → Spent n w s v t f (spentN v f) (raised t 0 w s v)
-  spent-first f s v sw some room m q k e h =
+  spent-first : (f : Open) (s v j : ℕ) → 2 * s + 2 ≤ w → 1 ≤ v → n ≤ length t → f .longest .0 ≡ 0 → Spent n w s v j t f (spentN v f) (raised t 0 w s v j)
+  spent-first f s v j sw some room m q k e h =
       let z = none-longest f k e m in
       let o = h .first z in
-      let other = elsewhere t 0 w s v in (
-        ap (spentN v) e ∙ spent-numbers (f .at) (f .work) s v k,
+      let in-it : 0 + w < length t = omega arith in
+      let other = elsewhere t 0 w s v j sw in-it in (
+        ap (spentN v) e ∙ spent-numbers (f .at) (f .work .0) s v j k,
         record {
           first = λ x.
               record {
-                P = subst (Table (raised t 0 w s v) 0 w) (append-assoc (q ++ k .p) (k .c) (costAt (f .at) s v ∷ [])) (table-raised t 0 w s v (f .at) ((q ++ k .p) ++ k .c) sw some (omega arith) (o .P));
-                L = λ i l. other (n + i) (λ e. omega arith) (λ e. omega arith) ∙ o .L i l;
-                C = λ i l. other (2 * n + i) (λ e. omega arith) (λ e. omega arith) ∙ o .C i l;
-                G = λ i l. other (4 * n + i) (λ e. omega arith) (λ e. omega arith) ∙ o .G i l;
-                zero = λ j a b x y. other j (λ e. a (omega arith) (omega arith)) (λ e. a (omega arith) (omega arith)) ∙ o .zero j a b x y;
+                P = subst (Table (raised t 0 w s v j) 0 w) (append-assoc (q ++ k .p) (k .c) (costAt (f .at) s v j ∷ [])) (table-raised t 0 w s v j sw in-it (f .at) ((q ++ k .p) ++ k .c) some (o .P));
+                L = λ i l. other (n + i) (λ x y. omega arith) (λ e. omega arith) ∙ o .L i l;
+                C = λ i l. other (2 * n + i) (λ x y. omega arith) (λ e. omega arith) ∙ o .C i l;
+                G = λ i l. other (3 * n + i) (λ x y. omega arith) (λ e. omega arith) ∙ o .G i l;
+                zero = λ i l. other i (λ x y. omega arith) (λ e. omega arith) ∙ o .zero i l;
               };
           later = λ x. absurd (x z);
         },
       )
 
   -- a cost, where a child is
-  spent-later : (f : Open) (s v : ℕ) → s < w → 1 ≤ v → 4 * n ≤ length t → (f .longest ≡ 0 → ⊥) → Spent n w s v t f (spentN v f) (raised t (2 * n) w s v)
-  spent-later f s v sw some room m q k e h =
+  spent-later : (f : Open) (s v j : ℕ) → 2 * s + 2 ≤ w → 1 ≤ v → 4 * n ≤ length t → (f .longest .0 ≡ 0 → ⊥) → Spent n w s v j t f (spentN v f) (raised t (2 * n) w s v j)
+  spent-later f s v j sw some room m q k e h =
       let z = some-longest f k e m in
       let o = h .later z in
-      let other = elsewhere t (2 * n) w s v in (
-        ap (spentN v) e ∙ spent-numbers (f .at) (f .work) s v k,
+      let in-it : 2 * n + w < length t = omega arith in
+      let other = elsewhere t (2 * n) w s v j sw in-it in (
+        ap (spentN v) e ∙ spent-numbers (f .at) (f .work .0) s v j k,
         record {
           first = λ x. absurd (z x);
           later = λ x.
               record {
-                P = λ i l. other (0 + i) (λ e. omega arith) (λ e. omega arith) ∙ o .P i l;
-                L = λ i l. other (n + i) (λ e. omega arith) (λ e. omega arith) ∙ o .L i l;
-                C = table-raised t (2 * n) w s v (f .at) (k .c) sw some (omega arith) (o .C);
-                G = λ i l. other (4 * n + i) (λ e. omega arith) (λ e. omega arith) ∙ o .G i l;
-                zero = λ j a b x y. other j (λ e. x (omega arith) (omega arith)) (λ e. x (omega arith) (omega arith)) ∙ o .zero j a b x y;
+                P = λ i l. other (0 + i) (λ x y. omega arith) (λ e. omega arith) ∙ o .P i l;
+                L = λ i l. other (n + i) (λ x y. omega arith) (λ e. omega arith) ∙ o .L i l;
+                C = table-raised t (2 * n) w s v j sw in-it (f .at) (k .c) some (o .C);
+                G = λ i l. other (3 * n + i) (λ x y. omega arith) (λ e. omega arith) ∙ o .G i l;
+                zero = λ i l. other i (λ x y. omega arith) (λ e. omega arith) ∙ o .zero i l;
               };
         },
       )
 
   -- a cost, wherever the continuation's table is
-  pub spent-done : (f : Open) (s v : ℕ) → s < w → 1 ≤ v → 4 * n ≤ length t → (a : ℕ) → a ≡ sinceAt n (f .longest) → (t₁ : List ℕ) → t₁ ≡ added t a w s v → (t′ : List ℕ) → t′ ≡ set t₁ (a + w) (bitOr (getD t₁ (a + w) 0) (2 ^ (s / 4))) → (r : Open) → r ≡ spentN v f → Spent n w s v t f r t′
-  spent-done f s v sw some room a ea t₁ e₁ t′ et r er = rw (er, et, e₁, ea) (go (eqb (f .longest) 0) refl)
+  pub spent-done : (f : Open) (s v j : ℕ) → 2 * s + 2 ≤ w → 1 ≤ v → n ≤ length t → ((f .longest .0 ≡ 0 → ⊥) → 4 * n ≤ length t) → (a : ℕ) → a ≡ sinceAt n (f .longest .0) → (t₁ : List ℕ) → t₁ ≡ summed t a w s v j
+      → (t′ : List ℕ) → t′ ≡ set t₁ (a + w) (bitOr (getD t₁ (a + w) 0) (2 ^ (s / 4))) → (r : Open) → r ≡ spentN v f → Spent n w s v j t f r t′
+  spent-done f s v j sw some room wide a ea t₁ e₁ t′ et r er = rw (er, et, e₁, ea) (go (eqb (f .longest .0) 0) refl)
     where
-      go : (b : Bool) → eqb (f .longest) 0 ≡ b → Spent n w s v t f (spentN v f) (raised t (sinceAt n (f .longest)) w s v)
-      go true q = let m = eqb-true (f .longest) 0 q in rw (since-first n (f .longest) m) (spent-first f s v sw some room m)
-      go false q = let m = eqb-false (f .longest) 0 q in rw (since-later n (f .longest) m) (spent-later f s v sw some room m)
+      go : (b : Bool) → eqb (f .longest .0) 0 ≡ b → Spent n w s v j t f (spentN v f) (raised t (sinceAt n (f .longest .0)) w s v j)
+      go true q = let m = eqb-true (f .longest .0) 0 q in rw (since-first n (f .longest .0) m) (spent-first f s v j sw some room m)
+      go false q = let m = eqb-false (f .longest .0) 0 q in rw (since-later n (f .longest .0) m) (spent-later f s v j sw some (wide m) m)
 
 -- what a step may rely on
-module _ {n w : ℕ} {t : List ℕ} {f : Open} {u v : ℕ} (r : Asks n w t f u v) where
+module _ {n w : ℕ} {t : List ℕ} {f : Open} {u v j : ℕ} (r : Asks n w t f u v j) where
   -- the invocation's numbers, the child's and what is to come fit together
-  pub load-fits : f .prefix + (f .longest + f .since) + (u + v) < 2 ^ 64
-  load-fits = omega (arith, r .fits, ap (λ (x : Open). x .prefix) (r .weighs), ap (λ (x : Open). x .longest) (r .weighs), ap (λ (x : Open). x .since) (r .weighs))
+  pub load-fits : f .prefix .0 + (f .longest .0 + f .since .0) + (u + v) < 2 ^ 64
+  load-fits = omega (arith, r .fits, ap (λ (x : Open). x .prefix .0) (r .weighs), ap (λ (x : Open). x .longest .0) (r .weighs), ap (λ (x : Open). x .since .0) (r .weighs))
 
   -- so do the tables
   pub prefix-fits : weight (r .q ++ r .k .p) + (weight (r .k .l) + weight (r .k .c)) + (u + v) < 2 ^ 64
   prefix-fits = omega (arith, r .fits, weight-append (r .q) (r .k .p))
 
+  pub iprefix-fits : onAll itsInstructions (r .q ++ r .k .p) + (onAll itsInstructions (r .k .l) + onAll itsInstructions (r .k .c)) + j < 2 ^ 64
+  iprefix-fits = omega (arith, r .ifits, on-append itsInstructions (r .q) (r .k .p))
+
   -- a number of the block with the continuation
-  pub since-le : (i : ℕ) → i < w → getD t (sinceAt n (f .longest) + i) 0 ≤ weight (r .q) + load (r .k)
-  since-le i l = go (eqb (f .longest) 0) refl
+  since-le : (i : ℕ) → i < w → getD t (sinceAt n (f .longest .0) + i) 0 ≤ side i (weight (r .q) + load (r .k)) (onAll itsInstructions (r .q) + iload (r .k))
+  since-le i l = go (eqb (f .longest .0) 0) refl
     where
-      go : (b : Bool) → eqb (f .longest) 0 ≡ b → getD t (sinceAt n (f .longest) + i) 0 ≤ weight (r .q) + load (r .k)
+      go : (b : Bool) → eqb (f .longest .0) 0 ≡ b → getD t (sinceAt n (f .longest .0) + i) 0 ≤ side i (weight (r .q) + load (r .k)) (onAll itsInstructions (r .q) + iload (r .k))
       go true x =
-          let m = eqb-true (f .longest) 0 x in
+          let m = eqb-true (f .longest .0) 0 x in
           let s = r .holds .first (none-longest f (r .k) (r .weighs) m) in
-          rw (since-first n (f .longest) m)
-          (omega (arith, s .P i (omega arith), number-le w ((r .q ++ r .k .p) ++ r .k .c) i l, weight-append (r .q ++ r .k .p) (r .k .c), weight-append (r .q) (r .k .p)))
+          let c = (r .q ++ r .k .p) ++ r .k .c in
+          rw (since-first n (f .longest .0) m)
+          (omega (arith, s .P i (omega arith), number-le w c i l, side-le i (weight c) (onAll itsInstructions c) (weight (r .q) + load (r .k)) (onAll itsInstructions (r .q) + iload (r .k)) (omega (arith, weight-append (r .q ++ r .k .p) (r .k .c), weight-append (r .q) (r .k .p))) (omega (arith, on-append itsInstructions (r .q ++ r .k .p) (r .k .c), on-append itsInstructions (r .q) (r .k .p)))))
       go false x =
-          let m = eqb-false (f .longest) 0 x in
+          let m = eqb-false (f .longest .0) 0 x in
           let s = r .holds .later (some-longest f (r .k) (r .weighs) m) in
-          rw (since-later n (f .longest) m) (omega (arith, s .C i (omega arith), number-le w (r .k .c) i l))
+          let c = r .k .c in
+          rw (since-later n (f .longest .0) m) (omega (arith, s .C i (omega arith), number-le w c i l, side-le i (weight c) (onAll itsInstructions c) (weight (r .q) + load (r .k)) (onAll itsInstructions (r .q) + iload (r .k)) (omega arith) (omega arith)))
+
+  -- so a cost can be added to row s of it
+  pub row-fits : (s : ℕ) → 2 * s + 2 ≤ w → PairFits (pairAt t (sinceAt n (f .longest .0) + 2 * s)) (record { cycles = cycles v; instructions = instructions j })
+  row-fits s h =
+      let a = sinceAt n (f .longest .0) in
+      let e : a + 2 * s + 1 ≡ a + (2 * s + 1) = omega arith in (
+        omega (arith, since-le (2 * s) (omega arith), side-even s (weight (r .q) + load (r .k)) (onAll itsInstructions (r .q) + iload (r .k)), r .fits),
+        omega (arith, ap (λ (i : ℕ). getD t i 0) e, since-le (2 * s + 1) (omega arith), side-odd s (weight (r .q) + load (r .k)) (onAll itsInstructions (r .q) + iload (r .k)), r .ifits),
+      )
 
   -- the block with the continuation is in the scratch
-  pub since-room : sinceAt n (f .longest) + w < length t
-  since-room = go (eqb (f .longest) 0)
+  pub since-room : sinceAt n (f .longest .0) + w < length t
+  since-room = go (eqb (f .longest .0) 0) refl
     where
-      go : (b : Bool) → cond b 0 (2 * n) + w < length t
-      go true = omega (arith, r .blocks, r .room)
-      go false = omega (arith, r .blocks, r .room)
+      go : (b : Bool) → eqb (f .longest .0) 0 ≡ b → cond b 0 (2 * n) + w < length t
+      go true e = omega (arith, r .blocks, r .room)
+      go false e = omega (arith, r .blocks, r .wide (eqb-false (f .longest .0) 0 e))

@@ -1,15 +1,16 @@
 -- One table taken in by another: the words, and then the rows in use.
 use mathlib.Core.Path.{_≡_, ap, ap₂, _∙_, sym}
 use mathlib.Core.List.{List, _++_}
-use Prim.Native.Nat.{ℕ, _+_, _/_, _^_, _≤_, _<_}
+use Prim.Native.Nat.{ℕ, _+_, _/_, _%_, _≤_, _<_}
 use native.Mathlib.Omega.{arith}
 use lib.Bits.{bitOr}
 use lib.ListN.{length, getD, set, length-set}
 use lib.Seq.{getD-set-same, getD-set-other}
 use Rattle.chain.specs.Plan.{CostLine, weight}
+use Rattle.trace.specs.Fold.{itsInstructions, onAll}
 use Rattle.tables.specs.Walks.{number, Table, Idle, Idles, Out, Apart, SumsFit, Off, Taken, inUse, worded, TakesIn, TookIn, Cleared, IsTable}
 use Rattle.tables.proofs.Bits.{idle-or}
-use Rattle.tables.proofs.Number.{number-sum, number-or, number-le, number-idle, by-number}
+use Rattle.tables.proofs.Number.{number-sum, number-or, number-le, number-idle, by-number, side-fits}
 use Rattle.tables.proofs.Loops.{fewer, apart-in, off-p, off-b, off-e, off-g, stored-off, stored-p, stored-b, stored-e, stored-g}
 
 -- a row that is not in the table's word
@@ -55,24 +56,25 @@ module _ (b e g w : ℕ) (t : List ℕ) (a : Apart (w + 1) b e g t) where
     (λ i l h. row-e i l ∙ idle-row t e w y E i l (in-e i h), λ i l h. row-g i l ∙ idle-row t g w z G i l (in-g i h)),
   )
     where
-      two : (i : ℕ) → Idle (inUse b e g w t) (i / 4) → Idle (bitOr (getD t (b + w) 0) (getD t (e + w) 0)) (i / 4) × Idle (getD t (g + w) 0) (i / 4)
-      two i h = idle-or (bitOr (getD t (b + w) 0) (getD t (e + w) 0)) (getD t (g + w) 0) (i / 4) h
+      two : (i : ℕ) → Idle (inUse b e g w t) (i / 8) → Idle (bitOr (getD t (b + w) 0) (getD t (e + w) 0)) (i / 8) × Idle (getD t (g + w) 0) (i / 8)
+      two i h = idle-or (bitOr (getD t (b + w) 0) (getD t (e + w) 0)) (getD t (g + w) 0) (i / 8) h
 
-      in-b : (i : ℕ) → Idle (inUse b e g w t) (i / 4) → Idle (getD t (b + w) 0) (i / 4)
-      in-b i h = idle-or (getD t (b + w) 0) (getD t (e + w) 0) (i / 4) (two i h .0) .0
+      in-b : (i : ℕ) → Idle (inUse b e g w t) (i / 8) → Idle (getD t (b + w) 0) (i / 8)
+      in-b i h = idle-or (getD t (b + w) 0) (getD t (e + w) 0) (i / 8) (two i h .0) .0
 
-      in-e : (i : ℕ) → Idle (inUse b e g w t) (i / 4) → Idle (getD t (e + w) 0) (i / 4)
-      in-e i h = idle-or (getD t (b + w) 0) (getD t (e + w) 0) (i / 4) (two i h .0) .1
+      in-e : (i : ℕ) → Idle (inUse b e g w t) (i / 8) → Idle (getD t (e + w) 0) (i / 8)
+      in-e i h = idle-or (getD t (b + w) 0) (getD t (e + w) 0) (i / 8) (two i h .0) .1
 
-      in-g : (i : ℕ) → Idle (inUse b e g w t) (i / 4) → Idle (getD t (g + w) 0) (i / 4)
+      in-g : (i : ℕ) → Idle (inUse b e g w t) (i / 8) → Idle (getD t (g + w) 0) (i / 8)
       in-g i h = two i h .1
 
-  rows-fit : (p x : List CostLine) → Table t 0 w p → Table t b w x → weight p + weight x < 2 ^ 64 → SumsFit w b t₁
-  rows-fit p x P B f i l =
-      omega (arith, row-p i l, front t i, P i (omega arith), number-le w p i l, row-b i l, B i (omega arith), number-le w x i l)
+  rows-fit : TakesIn b e g w t → SumsFit w b t₁
+  rows-fit r i l =
+      let f = side-fits i (weight (r .p)) (onAll itsInstructions (r .p)) (weight (r .x)) (onAll itsInstructions (r .x)) (r .fits) (r .ifits) in
+      omega (arith, row-p i l, front t i, r .P i (omega arith), number-le w (r .p) i l, row-b i l, r .B i (omega arith), number-le w (r .x) i l)
 
-  pub walk-asks : TakesIn b e g w t → (word : ℕ) → word ≡ inUse b e g w t → (t′ : List ℕ) → t′ ≡ t₁ → Apart w b e g t′ × (SumsFit w b t′ × (Idles word w b t′ × (Idles word w e t′ × Idles word w g t′)))
-  walk-asks r word i t′ s = rw (i, s) (fewer w (omega arith) (apart-in t₁ (simp length-set) a), (rows-fit (r .p) (r .x) (r .P) (r .B) (r .fits), idle-rows (r .x) (r .E .0) (r .G .0) (r .B) (r .E .1) (r .G .1)))
+  pub walk-asks : TakesIn b e g w t → (word : ℕ) → word ≡ inUse b e g w t → (t′ : List ℕ) → t′ ≡ t₁ → (Apart w b e g t′ × (w % 2 ≡ 0)) × (SumsFit w b t′ × (Idles word w b t′ × (Idles word w e t′ × Idles word w g t′)))
+  walk-asks r word i t′ s = rw (i, s) ((fewer w (omega arith) (apart-in t₁ (simp length-set) a), r .even), (rows-fit r, idle-rows (r .x) (r .E .0) (r .G .0) (r .B) (r .E .1) (r .G .1)))
 
   -- the rows are taken too
   module _ {t₂ : List ℕ} (r : Taken b e g w 0 w t₁ t₂) where

@@ -1,8 +1,8 @@
 -- From acceptance to the promise: the root's room, and what its reading comes to.
 use mathlib.Core.Path.{_≡_, refl, ap, _∙_, sym, subst}
 use mathlib.Core.List.{List, [], _∷_, _++_}
-use Prim.Native.Nat.{ℕ, suc, _+_, _*_, _-_, _≤_, _<_}
-use native.Mathlib.Nat.{suc-mul, mul-comm, mul-assoc, mul-le-mul-left}
+use Prim.Native.Nat.{ℕ, _+_, _*_, _-_, _≤_, _<_}
+use native.Mathlib.Nat.{mul-comm, mul-assoc, mul-le-mul-left}
 use native.Mathlib.Decide.{decLt, ℕ-discrete}
 use native.Mathlib.Omega.{arith}
 use lib.ListN.{length, getD, set, drop, replicate, length-set, length-replicate, List·getD-eq-default}
@@ -17,6 +17,8 @@ use Rattle.trace.specs.Promise.{tables, enough, Profile, Promise}
 use Rattle.trace.specs.ByTree.{cell, ProfileBy}
 use Rattle.trace.specs.Tree.{Body, workOf, spanOf}
 use Rattle.trace.specs.Fold.{nothing, chainOf}
+use Rattle.trace.proofs.Recurrence.{paid}
+use Rattle.chain.specs.Plan.{All, Worth}
 use Rattle.trace.proofs.Slots.{slot-apart, is-column}
 use Rattle.trace.proofs.Scan.{accepted-same}
 use Rattle.admit.specs.declared.Verdict.the-variants as Verdict
@@ -38,18 +40,17 @@ use Rattle.walk.proofs.Accepted as root
 use Rattle.tables.specs.Blocks.{Shows}
 use Rattle.tables.specs.Reader.{BodyAsks, BodyLeaves}
 use Rattle.tables.specs.Root.{lent, Admitted, Moved, Settled}
-use Rattle.tables.proofs.Number.{number-row}
+use Rattle.tables.specs.Walks.{number}
+use Rattle.tables.proofs.Number.{number-cycles, number-instructions, chain-worth}
 use Rattle.tables.proofs.Held.{opens}
-use Rattle.tables.proofs.Parts.{own-only}
+use Rattle.tables.proofs.Parts.{own-only, one-more}
 
 zeros-show : (n w l : ℕ) → Shows n w (replicate l 0) nothing []
-zeros-show n w l = record { P = λ i h. zeros-at l (0 + i); L = λ i h. zeros-at l (n + i); C = λ i h. zeros-at l (2 * n + i); G = λ i h. zeros-at l (4 * n + i); zero = λ j a b c d. zeros-at l j }
+zeros-show n w l = record { P = λ i h. zeros-at l (0 + i); L = λ i h. zeros-at l (n + i); C = λ i h. zeros-at l (2 * n + i); G = λ i h. zeros-at l (3 * n + i); zero = λ j h. zeros-at l j }
 
--- the room, depth by depth
-room-is : (D n : ℕ) → 1 ≤ D → 4 * D * n ≡ 4 * n + (D - 1) * (4 * n)
-room-is D n l =
-    let e : D ≡ suc (D - 1) = omega arith in
-    ap (λ (x : ℕ). x * n) (mul-comm 4 D) ∙ mul-assoc D 4 n ∙ ap (λ (x : ℕ). x * (4 * n)) e ∙ omega (arith, suc-mul (D - 1) (4 * n))
+-- the room of D invocations that open inside one another, where x times y numbers are lent for each
+room-is : (D n x y : ℕ) → 1 ≤ D → 3 * n ≤ x * y → n + (D - 1) * (3 * n) ≤ x * D * y
+room-is D n x y l h = omega (arith, mul-le-mul-left D h, one-more D (3 * n) l, ap (λ (z : ℕ). z * y) (mul-comm x D), mul-assoc D x y)
 
 -- what acceptance says of the limits and of the room
 module _ {s : List ℕ} {D M : ℕ} {scratch rows : List ℕ} {count lines : ℕ} (a : Admitted s D M scratch rows count lines) where
@@ -59,17 +60,15 @@ module _ {s : List ℕ} {D M : ℕ} {scratch rows : List ℕ} {count lines : ℕ
   pub rows-room : columns * (count + 1) ≤ length rows
   rows-room = root.rows-room tables s D M (lent scratch rows) (a .t) (a .is) count (a .count-is)
 
-  scratch-long : 4 * D * (M + 3) ≤ length scratch
+  scratch-long : 7 * D * (M + 3) ≤ length scratch
   scratch-long = root.rooms tables s D M (lent scratch rows) (a .t) (a .is) count (a .count-is) .0
 
-  -- four blocks of a number a row and a word for each invocation that may be open
-  blocks-long : 4 * D * (count + 1 + 1) ≤ length scratch
-  blocks-long =
-      let few : count + 1 + 1 ≤ M + 3 = omega (arith, limits .3) in
-      omega (arith, scratch-long, mul-le-mul-left (4 * D) few)
+  -- three blocks of two numbers a row and a word for each invocation in which another may open, and one for the last
+  blocks-long : 2 * (count + 1) + 1 + (D - 1) * (3 * (2 * (count + 1) + 1)) ≤ length scratch
+  blocks-long = omega (arith, scratch-long, room-is D (2 * (count + 1) + 1) 7 (M + 3) (limits .0) (omega (arith, limits .3)))
 
-  pub table-room : count + 1 < length scratch
-  table-room = omega (arith, blocks-long, room-is D (count + 1 + 1) (limits .0))
+  pub table-room : 2 * (count + 1) < length scratch
+  table-room = omega (arith, blocks-long)
 
   abbrev rows₁ : List ℕ
   rows₁ = replicate (columns * (count + 1)) 0 ++ drop (columns * (count + 1)) rows
@@ -85,22 +84,25 @@ module _ {s : List ℕ} {D M : ℕ} {scratch rows : List ℕ} {count lines : ℕ
 
   -- its cost lines weigh so
   module _ (how : Weigh) (tabled : Tabled how) where
-    pub root-asks : {t₁ r₁ : List ℕ} → Blank t₁ r₁ → BodyAsks how s 0 0 (D - 1) t₁ r₁ (count + 1 + 1) (count + 1)
+    pub root-asks : {t₁ r₁ : List ℕ} → Blank t₁ r₁ → BodyAsks how s 0 0 (D - 1) t₁ r₁ (2 * (count + 1) + 1) (2 * (count + 1))
     root-asks {t₁} {r₁} z =
-        subst (λ (x : List ℕ). BodyAsks how s 0 0 (D - 1) x r₁ (count + 1 + 1) (count + 1)) (sym (z .scratch-is))
-        (subst (λ (y : List ℕ). BodyAsks how s 0 0 (D - 1) (replicate (length scratch) 0) y (count + 1 + 1) (count + 1)) (sym (z .rows-are))
+        subst (λ (x : List ℕ). BodyAsks how s 0 0 (D - 1) x r₁ (2 * (count + 1) + 1) (2 * (count + 1))) (sym (z .scratch-is))
+        (subst (λ (y : List ℕ). BodyAsks how s 0 0 (D - 1) (replicate (length scratch) 0) y (2 * (count + 1) + 1) (2 * (count + 1))) (sym (z .rows-are))
         (record {
           m = count;
           ready = root.ready tables s D M (lent scratch rows) (a .t) (a .is) count (a .count-is) how tabled;
           blocks = omega arith;
+          even = omega arith;
           wide = omega arith;
           few = omega (arith, limits .2, limits .3);
-          room = omega (arith, blocks-long, room-is D (count + 1 + 1) (limits .0), length-replicate {A = ℕ} (length scratch) 0);
+          room = omega (arith, blocks-long, length-replicate {A = ℕ} (length scratch) 0);
+          opened = λ m. absurd (m refl);
           q = [];
           k = nothing;
           weighs = refl;
-          holds = opens (count + 1 + 1) (count + 1) (replicate (length scratch) 0) [] (zeros-show (count + 1 + 1) (count + 1) (length scratch));
+          holds = opens (2 * (count + 1) + 1) (2 * (count + 1)) (replicate (length scratch) 0) [] (zeros-show (2 * (count + 1) + 1) (2 * (count + 1)) (length scratch));
           fits = omega (arith, root.ready tables s D M (lent scratch rows) (a .t) (a .is) count (a .count-is) how tabled .load-fits);
+          ifits = omega (arith, root.ready tables s D M (lent scratch rows) (a .t) (a .is) count (a .count-is) how tabled .rows-fit 0 (omega arith));
         }))
 
     -- The root was read: its numbers are c, and it left the scratch t₂ and the rows rows₂. Before it, columns 2 and 3 of its
@@ -112,7 +114,7 @@ module _ {s : List ℕ} {D M : ℕ} {scratch rows : List ℕ} {count lines : ℕ
       pub taken : before ≡ creditOf r₁ 0
       pub scratch-same : length t₂ ≡ length scratch
       pub rows-same : length rows₂ ≡ length rows
-      pub leaves : BodyLeaves how s 0 0 t₁ r₁ (count + 1 + 1) (count + 1) c t₂ rows₂
+      pub leaves : BodyLeaves how s 0 0 t₁ r₁ (2 * (count + 1) + 1) (2 * (count + 1)) c t₂ rows₂
 
     -- what its reading comes to
     module _ {before : Credit} {c : Open} {t₂ rows₂ : List ℕ} (u : Read before c t₂ rows₂) where
@@ -122,52 +124,58 @@ module _ {s : List ℕ} {D M : ℕ} {scratch rows : List ℕ} {count lines : ℕ
       abbrev b : Body
       b = root.body tables s D M (lent scratch rows) (a .t) (a .is) count (a .count-is) how tabled
 
-      left : BodyDone 0 0 rows₁ b c rows₂ × Shows (count + 1 + 1) (count + 1) t₂ (alone (chainOf 0 0 b)) []
+      left : BodyDone 0 0 rows₁ b c rows₂ × Shows (2 * (count + 1) + 1) (2 * (count + 1)) t₂ (alone (chainOf 0 0 b)) []
       left =
-          let h = u .leaves b [] (root.reads tables s D M (lent scratch rows) (a .t) (a .is) count (a .count-is) how tabled) (subst (λ (x : List ℕ). Shows (count + 1 + 1) (count + 1) x nothing []) (sym (u .blank .scratch-is)) (zeros-show (count + 1 + 1) (count + 1) (length scratch))) in
+          let h = u .leaves b [] (root.reads tables s D M (lent scratch rows) (a .t) (a .is) count (a .count-is) how tabled) (subst (λ (x : List ℕ). Shows (2 * (count + 1) + 1) (2 * (count + 1)) x nothing []) (sym (u .blank .scratch-is)) (zeros-show (2 * (count + 1) + 1) (2 * (count + 1)) (length scratch))) in
           (subst (λ (y : List ℕ). BodyDone 0 0 y b c rows₂) (u .blank .rows-are) (h .0), h .1)
 
-      pub root-counts : ReturnFits before rows₂ 0 (c .work) (c .prefix)
+      pub root-counts : ReturnFits before rows₂ 0 (c .work .0) (c .prefix .0)
       root-counts = root.count-fits tables s D M (lent scratch rows) (a .t) (a .is) count (a .count-is) how tabled before took c rows₂ (u .rows-same) (left .0)
 
       -- the root itself, and its table
-      module _ {rows₃ : List ℕ} (counts : Returned before 0 (c .work) (c .prefix) rows₂ rows₃) {t₃ rows₄ : List ℕ} (settled : Settled (count + 1) t₂ rows₃ t₃ rows₄) (l₃ : length t₃ ≡ length scratch) (l₄ : length rows₄ ≡ length rows) where
+      module _ {rows₃ : List ℕ} (counts : Returned before 0 (c .work .0) (c .prefix .0) rows₂ rows₃) {t₃ rows₄ : List ℕ} (settled : Settled (count + 1) t₂ rows₃ t₃ rows₄) (l₃ : length t₃ ≡ length scratch) (l₄ : length rows₄ ≡ length rows) where
         -- its rows are moved out, the word behind them cleared
         abbrev moved : Moved (count + 1) t₂ rows₃ (settled .0) rows₄
         moved = settled .1
 
         abbrev answer : Answer
-        answer = Accepted (c .work) (c .prefix) count lines
+        answer = Accepted (c .work .0) (c .prefix .0) count lines
+
+        -- the table of the root's chain
+        worth : All Worth (chainOf 0 0 b)
+        worth = chain-worth b 0 0 (paid count D 1 b (root.within tables s D M (lent scratch rows) (a .t) (a .is) count (a .count-is) how tabled))
+
+        table : (i : ℕ) → i ≤ 2 * (count + 1) → getD t₂ i 0 ≡ number (2 * (count + 1)) (chainOf 0 0 b) i
+        table i h = let z : i ≡ 0 + i = omega arith in ap (λ (x : ℕ). getD t₂ x 0) z ∙ left .1 .P i h
 
         cells : (k : ℕ) (j : Column) → k ≤ count → getD rows₄ (slot k j) 0 ≡ cell b k j
-        cells k j h = go (is-column j Column.onSpan)
+        cells k j h = go (is-column j Column.onSpan) (is-column j Column.ionSpan)
           where
-            go : Dec (j ≡ Column.onSpan) → getD rows₄ (slot k j) 0 ≡ cell b k j
-            go (no q) =
-                moved .others (slot k j) (λ x y e. q (slot-apart k x j Column.onSpan e .1))
-                ∙ root.cells tables s D M (lent scratch rows) (a .t) (a .is) count (a .count-is) how tabled before took c rows₂ (u .rows-same) (left .0) rows₃ counts k j h q
-            go (yes e) =
-                let z : k ≡ 0 + k = omega arith in
-                rw e (moved .on-span k (omega arith) ∙ ap (λ (x : ℕ). getD t₂ x 0) z ∙ left .1 .P k (omega arith) ∙ number-row (count + 1) (chainOf 0 0 b) k (omega arith))
+            go : Dec (j ≡ Column.onSpan) → Dec (j ≡ Column.ionSpan) → getD rows₄ (slot k j) 0 ≡ cell b k j
+            go (no q) (no p) =
+                moved .others (slot k j) (λ x y. (λ e. q (slot-apart k x j Column.onSpan e .1), λ e. p (slot-apart k x j Column.ionSpan e .1)))
+                ∙ root.cells tables s D M (lent scratch rows) (a .t) (a .is) count (a .count-is) how tabled before took c rows₂ (u .rows-same) (left .0) rows₃ counts k j h q p
+            go (yes e) p = rw e (moved .on-span k (omega arith) ∙ table (2 * k) (omega arith) ∙ number-cycles (2 * (count + 1)) (chainOf 0 0 b) worth k (omega arith))
+            go (no q) (yes e) = rw e (moved .ion-span k (omega arith) ∙ table (2 * k + 1) (omega arith) ∙ number-instructions (2 * (count + 1)) (chainOf 0 0 b) worth k (omega arith))
 
         rest : (i : ℕ) → columns * (count + 1) ≤ i → getD rows₄ i 0 ≡ getD rows i 0
         rest i h = go (decLt i (length rows))
           where
             go : Dec (i < length rows) → getD rows₄ i 0 ≡ getD rows i 0
             go (yes q) =
-                moved .others i (λ x y e. omega arith) ∙ root.rest tables s D M (lent scratch rows) (a .t) (a .is) count (a .count-is) how tabled before took c rows₂ (u .rows-same) (left .0) rows₃ counts i h q
+                moved .others i (λ x y. (λ e. omega arith, λ e. omega arith)) ∙ root.rest tables s D M (lent scratch rows) (a .t) (a .is) count (a .count-is) how tabled before took c rows₂ (u .rows-same) (left .0) rows₃ counts i h q
             go (no q) = List·getD-eq-default rows₄ 0 {n = i} (omega arith) ∙ sym (List·getD-eq-default rows 0 {n = i} (omega arith))
 
         scratch-zero : t₃ ≡ replicate (length scratch) 0
-        scratch-zero = ext-getD 0 t₃ (replicate (length scratch) 0) (l₃ ∙ sym (length-replicate {A = ℕ} (length scratch) 0)) (λ i l. ap (λ (x : List ℕ). getD x i 0) (settled .2) ∙ go i (decLt i (count + 1)) (ℕ-discrete i (count + 1)) ∙ sym (zeros-at (length scratch) i))
+        scratch-zero = ext-getD 0 t₃ (replicate (length scratch) 0) (l₃ ∙ sym (length-replicate {A = ℕ} (length scratch) 0)) (λ i l. ap (λ (x : List ℕ). getD x i 0) (settled .2) ∙ go i (decLt i (2 * (count + 1))) (ℕ-discrete i (2 * (count + 1))) ∙ sym (zeros-at (length scratch) i))
           where
-            elsewhere : (i : ℕ) → (i ≡ count + 1 → ⊥) → getD (set (settled .0) (count + 1) 0) i 0 ≡ getD (settled .0) i 0
-            elsewhere i q = getD-set-other (settled .0) (count + 1) i 0 0 q
+            elsewhere : (i : ℕ) → (i ≡ 2 * (count + 1) → ⊥) → getD (set (settled .0) (2 * (count + 1)) 0) i 0 ≡ getD (settled .0) i 0
+            elsewhere i q = getD-set-other (settled .0) (2 * (count + 1)) i 0 0 q
 
-            go : (i : ℕ) → Dec (i < count + 1) → Dec (i ≡ count + 1) → getD (set (settled .0) (count + 1) 0) i 0 ≡ 0
+            go : (i : ℕ) → Dec (i < 2 * (count + 1)) → Dec (i ≡ 2 * (count + 1)) → getD (set (settled .0) (2 * (count + 1)) 0) i 0 ≡ 0
             go i (yes q) d = elsewhere i (λ e. omega arith) ∙ moved .gone i q
-            go i (no q) (yes e) = rw e (getD-set-same (settled .0) (count + 1) 0 0 (omega (arith, table-room, l₃, ap length (settled .2), length-set (settled .0) (count + 1) 0)))
-            go i (no q) (no d) = elsewhere i d ∙ moved .rest i (omega arith) ∙ own-only (count + 1 + 1) (count + 1) refl t₂ (chainOf 0 0 b) (left .1) i (λ x y. omega arith)
+            go i (no q) (yes e) = rw e (getD-set-same (settled .0) (2 * (count + 1)) 0 0 (omega (arith, table-room, l₃, ap length (settled .2), length-set (settled .0) (2 * (count + 1)) 0)))
+            go i (no q) (no d) = elsewhere i d ∙ moved .rest i (omega arith) ∙ own-only (2 * (count + 1) + 1) (2 * (count + 1)) refl t₂ (chainOf 0 0 b) (left .1) i (omega arith)
 
         by-tree : ProfileBy tables count b (lent scratch rows) answer (lent t₃ rows₄)
         by-tree =
@@ -175,7 +183,7 @@ module _ {s : List ℕ} {D M : ℕ} {scratch rows : List ℕ} {count lines : ℕ
             let span-is = root.span-is tables s D M (lent scratch rows) (a .t) (a .is) count (a .count-is) how tabled before took c rows₂ (u .rows-same) (left .0) in
             record {
               answer =
-                  ap (λ (x : ℕ). Accepted x (c .prefix) count lines) work-is
+                  ap (λ (x : ℕ). Accepted x (c .prefix .0) count lines) work-is
                   ∙ ap (λ (x : ℕ). Accepted (workOf b) x count lines) span-is
                   ∙ ap (λ (x : ℕ). Accepted (workOf b) (spanOf b) count x) (sym (a .lines-is) ∙ root.lines-are tables s D M (lent scratch rows) (a .t) (a .is) count (a .count-is) how tabled);
               rows = record { same-length = l₄; cells = cells; rest = rest };

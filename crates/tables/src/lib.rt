@@ -1,16 +1,17 @@
-// The table engine. The scratch is blocks of n numbers. A block is a chain's table: w numbers, what of the chain stands
-// in each row, and behind them a word that says which rows these are, by fours. The walks over tables pass over the fours
-// that are not in the word. The root is lent the whole scratch. An open invocation lends a called child what lies from
-// the table of its continuation on, for the continuation always takes the child's chain: the child adds that to the
-// table. It lends a spawned child what lies behind the blocks that it has in use itself. It has what it lent back when
-// the child returns. Its part is at each moment what it was lent, without what it has lent on: so each open invocation
-// works in its own part of the scratch, and no two parts share a number. As long as no child is the longest, one block
-// is in use: the table of the prefix and the continuation together, behind what stood there when the invocation was
-// opened. The table that a spawned child leaves at the front of its part is then in the next block, that of the longest
-// child. Once a child is the longest, four blocks are in use: the prefix's, the longest child's, the continuation's, and
-// one that stays zero: the table of no chain, which takes the place of one that goes.
+// The table engine. The scratch is blocks of n numbers. A block is a chain's table: w numbers, two for each row side by
+// side, what of the chain's cycles and of its instructions stands in the row; and behind them a word that says which rows
+// these are, by fours. The walks over tables pass over the fours that are not in the word. The root is lent the whole
+// scratch. An open invocation lends a called child what lies from the table of its continuation on, for the continuation
+// always takes the child's chain: the child adds that to the table. It lends a spawned child what lies behind the blocks
+// that it has in use itself. It has what it lent back when the child returns. Its part is at each moment what it was
+// lent, without what it has lent on: so each open invocation works in its own part of the scratch, and no two parts share
+// a number. As long as no child is the longest, one block is in use: the table of the prefix and the continuation
+// together, behind what stood there when the invocation was opened. The table that a spawned child leaves at the front of
+// its part is then in the next block, that of the longest child. Once a child is the longest, three blocks are in use:
+// the prefix's, the longest child's and the continuation's. The front of the child's part, which is behind them, is zero
+// as long as no child is open: it is the table of no chain, which takes the place of one that goes.
 ghost use mathlib.Core.Path.{_≡_};
-ghost use Prim.Native.Nat.{_+_, _*_, _/_, _^_, _≤_, _<_};
+ghost use Prim.Native.Nat.{_+_, _*_, _/_, _%_, _^_, _≤_, _<_};
 ghost use lib.Bits.{bitOr};
 ghost use lib.ListN.{length, getD, set};
 ghost use Rattle.trace.specs.Rows.{columns};
@@ -19,111 +20,180 @@ ghost use Rattle.forecast.specs.OfList.{ForecastOf};
 ghost use Rattle.walk.specs.Weight.{byFactors, Factors};
 ghost use Rattle.walk.specs.Profiled.{Profiled};
 ghost use Rattle.tables.specs.Blocks.{sinceAt, partAt, childAt, Asks, Spent, Joined, Spawned};
-ghost use Rattle.tables.specs.Walks.{IsTable, Idles, Apart, SumsFit, Taken, zeros, fourAt, sumsOf, laid, inUse, worded, TakesIn, TookIn, Cleared};
+ghost use Rattle.tables.specs.Walks.{IsTable, Idles, Apart, PairFits, FourFits, SumsFit, Taken, noPair, pairAt, pairSum, paired, added, noFour, fourAt, fourSum, laid, inUse, worded, TakesIn, TookIn, Cleared};
 ghost use Rattle.tables.specs.Root.{lent, Admitted, Settled};
 ghost use Rattle.tables.specs.Reader.{Lent, ItemAsks, ItemLeaves, ItemsLeave, BodyAsks, BodyLeaves};
 
-// Four numbers that stand side by side.
-struct Four {
-    a: u64,
-    b: u64,
-    c: u64,
-    d: u64,
+// A row of a table: what of the chain stands in the row, by its measures. In the scratch these are two numbers side by
+// side.
+struct Pair {
+    cycles: walk::Cycles,
+    instructions: walk::Instructions,
 }
 
-// The four numbers from number i on.
+// The row whose numbers stand from number i on.
+fn pair_at(t: &[u64], i: usize) -> Pair
+    requires { ⌜ i + 2 ≤ length (now t) ⌝ }
+    ensures { λ r. ⌜ r ≡ pairAt (now (t .entry)) i ⌝ }
+{
+    Pair {
+        cycles: walk::Cycles(t[i]),
+        instructions: walk::Instructions(t[i + 1]),
+    }
+}
+
+// A row with another: cycles with cycles, and instructions with instructions.
+fn sum(x: Pair, y: Pair) -> Pair
+    requires { ⌜ PairFits x y ⌝ }
+    ensures { λ r. ⌜ r ≡ pairSum x y ⌝ }
+{
+    let cycles = x.cycles;
+    let instructions = x.instructions;
+    Pair {
+        cycles: cycles.plus(y.cycles),
+        instructions: instructions.plus(y.instructions),
+    }
+}
+
+// The numbers from number i on are now those of this row.
+fn put_pair(t: &mut [u64], i: usize, x: Pair)
+    requires { ⌜ i + 2 ≤ length (now t) ⌝ }
+    ensures { λ _. ⌜ now (t .exit) ≡ paired (now (t .entry)) i x ⌝ }
+{
+    t[i] = x.cycles.0;
+    t[i + 1] = x.instructions.0;
+}
+
+// The row of no chain.
+fn no_pair() -> Pair
+    ensures { λ r. ⌜ r ≡ noPair ⌝ }
+{
+    Pair {
+        cycles: walk::Cycles(0),
+        instructions: walk::Instructions(0),
+    }
+}
+
+// Four rows that stand side by side.
+struct Four {
+    a: Pair,
+    b: Pair,
+    c: Pair,
+    d: Pair,
+}
+
+// The four rows from number i on.
 fn four_at(t: &[u64], i: usize) -> Four
-    requires { ⌜ i + 4 ≤ length (now t) ⌝ }
+    requires { ⌜ i + 8 ≤ length (now t) ⌝ }
     ensures { λ r. ⌜ r ≡ fourAt (now (t .entry)) i ⌝ }
 {
     Four {
-        a: t[i],
-        b: t[i + 1],
-        c: t[i + 2],
-        d: t[i + 3],
+        a: pair_at(t, i),
+        b: pair_at(t, i + 2),
+        c: pair_at(t, i + 4),
+        d: pair_at(t, i + 6),
     }
 }
 
-// Each of four numbers with one of four others.
+// Each of four rows with one of four others.
 fn sums(x: Four, y: Four) -> Four
-    requires { ⌜ (x .a + y .a < 2 ^ 64) × ((x .b + y .b < 2 ^ 64) × ((x .c + y .c < 2 ^ 64) × (x .d + y .d < 2 ^ 64))) ⌝ }
-    ensures { λ r. ⌜ r ≡ sumsOf x y ⌝ }
+    requires { ⌜ FourFits x y ⌝ }
+    ensures { λ r. ⌜ r ≡ fourSum x y ⌝ }
 {
     Four {
-        a: x.a + y.a,
-        b: x.b + y.b,
-        c: x.c + y.c,
-        d: x.d + y.d,
+        a: sum(x.a, y.a),
+        b: sum(x.b, y.b),
+        c: sum(x.c, y.c),
+        d: sum(x.d, y.d),
     }
 }
 
-// The four numbers from number i on are now these.
+// The numbers from number i on are now those of these four rows.
 fn put_four(t: &mut [u64], i: usize, x: Four)
-    requires { ⌜ i + 4 ≤ length (now t) ⌝ }
+    requires { ⌜ i + 8 ≤ length (now t) ⌝ }
     ensures { λ _. ⌜ now (t .exit) ≡ laid (now (t .entry)) i x ⌝ }
 {
-    t[i] = x.a;
-    t[i + 1] = x.b;
-    t[i + 2] = x.c;
-    t[i + 3] = x.d;
+    put_pair(t, i, x.a);
+    put_pair(t, i + 2, x.b);
+    put_pair(t, i + 4, x.c);
+    put_pair(t, i + 6, x.d);
 }
 
-// Four rows from a row on: those of the block at b are added to the prefix's and cleared, and those of the block at g are
-// moved to the block at e. All are read before the first is written, so that several go at a time.
+// Four rows of no chain.
+fn no_four() -> Four
+    ensures { λ r. ⌜ r ≡ noFour ⌝ }
+{
+    Four {
+        a: no_pair(),
+        b: no_pair(),
+        c: no_pair(),
+        d: no_pair(),
+    }
+}
+
+// Four rows from a number on: those of the block at b are added to the prefix's and cleared, and those of the block at g
+// are moved to the block at e. All are read before the first is written, so that several go at a time.
 fn take_four(t: &mut [u64], b: usize, e: usize, g: usize, from: usize)
-    requires { ⌜ Apart (from + 4) b e g (now t) ⌝ }
-    requires { ⌜ SumsFit (from + 4) b (now t) ⌝ }
-    ensures { λ _. ⌜ Taken b e g (from + 4) from (from + 4) (now (t .entry)) (now (t .exit)) ⌝ }
+    requires { ⌜ Apart (from + 8) b e g (now t) ⌝ }
+    requires { ⌜ SumsFit (from + 8) b (now t) ⌝ }
+    ensures { λ _. ⌜ Taken b e g (from + 8) from (from + 8) (now (t .entry)) (now (t .exit)) ⌝ }
 {
     let x = four_at(t, b + from);
     let y = four_at(t, g + from);
-    let sum = sums(four_at(t, from), x);
-    let none = Four {
-        a: 0,
-        b: 0,
-        c: 0,
-        d: 0,
-    };
-    put_four(t, from, sum);
-    put_four(t, b + from, none);
+    let all = sums(four_at(t, from), x);
+    put_four(t, from, all);
+    put_four(t, b + from, no_four());
     put_four(t, e + from, y);
-    put_four(t, g + from, none);
+    put_four(t, g + from, no_four());
 }
 
-// Rows from to stop - 1: those of the block at b are added to the prefix's and cleared, and those of the block at g are
+// One row from a number on, in the same way.
+fn take_row(t: &mut [u64], b: usize, e: usize, g: usize, from: usize)
+    requires { ⌜ Apart (from + 2) b e g (now t) ⌝ }
+    requires { ⌜ SumsFit (from + 2) b (now t) ⌝ }
+    ensures { λ _. ⌜ Taken b e g (from + 2) from (from + 2) (now (t .entry)) (now (t .exit)) ⌝ }
+{
+    let x = pair_at(t, b + from);
+    let y = pair_at(t, g + from);
+    let all = sum(pair_at(t, from), x);
+    put_pair(t, from, all);
+    put_pair(t, b + from, no_pair());
+    put_pair(t, e + from, y);
+    put_pair(t, g + from, no_pair());
+}
+
+// Numbers from to stop - 1: those of the block at b are added to the prefix's and cleared, and those of the block at g are
 // moved to the block at e, row by row.
 fn take_rows(t: &mut [u64], b: usize, e: usize, g: usize, from: usize, stop: usize)
     requires { ⌜ Apart stop b e g (now t) ⌝ }
     requires { ⌜ SumsFit stop b (now t) ⌝ }
+    requires { ⌜ (from % 2 ≡ 0) × (stop % 2 ≡ 0) ⌝ }
     ensures { λ _. ⌜ Taken b e g stop from stop (now (t .entry)) (now (t .exit)) ⌝ }
 {
     let mut i = from;
     while i < stop {
-        t[i] = t[i] + t[b + i];
-        t[b + i] = 0;
-        t[e + i] = t[g + i];
-        t[g + i] = 0;
-        i += 1;
+        take_row(t, b, e, g, i);
+        i += 2;
     }
 }
 
-// Takes the four rows from a row on, as far as there are w.
+// Takes the four rows from a number on, as far as there are w numbers.
 fn take_next(t: &mut [u64], b: usize, e: usize, g: usize, w: usize, from: usize)
     requires { ⌜ Apart w b e g (now t) ⌝ }
     requires { ⌜ SumsFit w b (now t) ⌝ }
-    requires { ⌜ from + 4 < 2 ^ 64 ⌝ }
-    ensures { λ _. ⌜ Taken b e g w from (from + 4) (now (t .entry)) (now (t .exit)) ⌝ }
+    requires { ⌜ (from + 8 < 2 ^ 64) × ((from % 2 ≡ 0) × (w % 2 ≡ 0)) ⌝ }
+    ensures { λ _. ⌜ Taken b e g w from (from + 8) (now (t .entry)) (now (t .exit)) ⌝ }
 {
-    if from + 4 <= w {
+    if from + 8 <= w {
         take_four(t, b, e, g, from);
         return;
     }
     take_rows(t, b, e, g, from, w);
 }
 
-// Takes all w rows, in one walk over the fours that are in the word: the others are zero in the three blocks.
+// Takes all w numbers, in one walk over the fours that are in the word: the others are zero in the three blocks.
 fn take_fours(t: &mut [u64], b: usize, e: usize, g: usize, w: usize, word: u64)
-    requires { ⌜ Apart w b e g (now t) ⌝ }
+    requires { ⌜ Apart w b e g (now t) × (w % 2 ≡ 0) ⌝ }
     requires { ⌜ SumsFit w b (now t) ⌝ }
     requires { ⌜ Idles word w b (now t) × (Idles word w e (now t) × Idles word w g (now t)) ⌝ }
     ensures { λ _. ⌜ Taken b e g w 0 w (now (t .entry)) (now (t .exit)) ⌝ }
@@ -133,7 +203,7 @@ fn take_fours(t: &mut [u64], b: usize, e: usize, g: usize, w: usize, word: u64)
     while left != 0 {
         let z = u64::trailing_zeros(left);
         c += z as usize;
-        take_next(t, b, e, g, w, 4 * c);
+        take_next(t, b, e, g, w, 8 * c);
         left = (left >> z) >> 1;
         c += 1;
     }
@@ -164,7 +234,7 @@ fn take_in(t: &mut [u64], b: usize, e: usize, g: usize, w: usize)
     take_fours(t, b, e, g, w, word);
 }
 
-// Clears rows from to stop - 1 of the block at a.
+// Clears numbers from to stop - 1 of the block at a.
 fn clear_rows(t: &mut [u64], a: usize, from: usize, stop: usize)
     requires { ⌜ a + stop ≤ length (now t) ⌝ }
     ensures { λ _. ⌜ Cleared a stop from stop (now (t .entry)) (now (t .exit)) ⌝ }
@@ -176,19 +246,19 @@ fn clear_rows(t: &mut [u64], a: usize, from: usize, stop: usize)
     }
 }
 
-// Clears four rows from a row on, as far as there are w.
+// Clears four rows from a number on, as far as there are w numbers.
 fn clear_next(t: &mut [u64], a: usize, w: usize, from: usize)
-    requires { ⌜ (a + w ≤ length (now t)) × (from + 4 < 2 ^ 64) ⌝ }
-    ensures { λ _. ⌜ Cleared a w from (from + 4) (now (t .entry)) (now (t .exit)) ⌝ }
+    requires { ⌜ (a + w ≤ length (now t)) × (from + 8 < 2 ^ 64) ⌝ }
+    ensures { λ _. ⌜ Cleared a w from (from + 8) (now (t .entry)) (now (t .exit)) ⌝ }
 {
-    if from + 4 <= w {
-        clear_rows(t, a, from, from + 4);
+    if from + 8 <= w {
+        clear_rows(t, a, from, from + 8);
         return;
     }
     clear_rows(t, a, from, w);
 }
 
-// Clears all w rows of the block at a, in one walk over the fours that are in the word: the others are zero.
+// Clears all w numbers of the block at a, in one walk over the fours that are in the word: the others are zero.
 fn clear_fours(t: &mut [u64], a: usize, w: usize, word: u64)
     requires { ⌜ (a + w ≤ length (now t)) × Idles word w a (now t) ⌝ }
     ensures { λ _. ⌜ Cleared a w 0 w (now (t .entry)) (now (t .exit)) ⌝ }
@@ -198,7 +268,7 @@ fn clear_fours(t: &mut [u64], a: usize, w: usize, word: u64)
     while left != 0 {
         let z = u64::trailing_zeros(left);
         c += z as usize;
-        clear_next(t, a, w, 4 * c);
+        clear_next(t, a, w, 8 * c);
         left = (left >> z) >> 1;
         c += 1;
     }
@@ -216,32 +286,32 @@ fn clear(t: &mut [u64], a: usize, w: usize)
 
 // Where the continuation's table is: in the prefix's block as long as no child is the longest.
 fn since(n: usize, f: walk::Open) -> usize
-    requires { ⌜ 4 * n < 2 ^ 64 ⌝ }
-    ensures { λ r. ⌜ r ≡ sinceAt n (f .longest) ⌝ }
+    requires { ⌜ 3 * n < 2 ^ 64 ⌝ }
+    ensures { λ r. ⌜ r ≡ sinceAt n (f .longest .0) ⌝ }
 {
-    if f.longest == 0 {
+    if f.longest.0 == 0 {
         return 0;
     }
     2 * n
 }
 
 // Where a spawned child's part of the scratch begins: behind the blocks in use, one as long as no child is the longest,
-// else four.
+// else three.
 fn part(n: usize, f: walk::Open) -> usize
-    requires { ⌜ 4 * n < 2 ^ 64 ⌝ }
-    ensures { λ r. ⌜ r ≡ partAt n (f .longest) ⌝ }
+    requires { ⌜ 3 * n < 2 ^ 64 ⌝ }
+    ensures { λ r. ⌜ r ≡ partAt n (f .longest .0) ⌝ }
 {
-    if f.longest == 0 {
+    if f.longest.0 == 0 {
         return n;
     }
-    4 * n
+    3 * n
 }
 
 // Where a child's part of the scratch begins: a called child goes on in the continuation's table, a spawned child begins
 // behind the blocks in use.
 fn child_part(kind: u8, n: usize, f: walk::Open) -> usize
-    requires { ⌜ 4 * n < 2 ^ 64 ⌝ }
-    ensures { λ r. ⌜ r ≡ childAt kind n (f .longest) ⌝ }
+    requires { ⌜ 3 * n < 2 ^ 64 ⌝ }
+    ensures { λ r. ⌜ r ≡ childAt kind n (f .longest .0) ⌝ }
 {
     if kind != 2 {
         return part(n, f);
@@ -257,27 +327,51 @@ fn put_row(t: &mut [u64], i: usize, s: usize)
     t[i] = t[i] | (1 << (s / 4));
 }
 
-// A cost of v in row s: the continuation's.
-fn spend(t: &mut [u64], n: usize, w: usize, f: walk::Open, s: usize, v: u64) -> walk::Open
-    requires { ⌜ Asks n w (now t) f 0 v ⌝ }
-    requires { ⌜ (s < w) × ((w ≤ 256) × ((1 ≤ v) × ((f .at + 1 < 2 ^ 64) × (f .work + v < 2 ^ 64)))) ⌝ }
-    ensures { λ r. ⌜ Spent n w s v (now (t .entry)) f r (now (t .exit)) ⌝ }
+// Adds to the row whose numbers stand from number i on.
+fn add(t: &mut [u64], i: usize, x: Pair)
+    requires { ⌜ (i + 2 ≤ length (now t)) × PairFits (pairAt (now t) i) x ⌝ }
+    ensures { λ _. ⌜ now (t .exit) ≡ added (now (t .entry)) i x ⌝ }
+{
+    let all = sum(pair_at(t, i), x);
+    put_pair(t, i, all);
+}
+
+// A cost in row s, of its cycles and its instructions: the continuation's.
+fn spend(
+    t: &mut [u64],
+    n: usize,
+    w: usize,
+    f: walk::Open,
+    s: usize,
+    cycles: walk::Cycles,
+    instructions: walk::Instructions,
+) -> walk::Open
+    requires { ⌜ Asks n w (now t) f 0 (cycles .0) (instructions .0) ⌝ }
+    requires { ⌜ (2 * s + 2 ≤ w) × ((w ≤ 512) × ((1 ≤ cycles .0) × ((f .at + 1 < 2 ^ 64) × (f .work .0 + cycles .0 < 2 ^ 64)))) ⌝ }
+    ensures { λ r. ⌜ Spent n w s (cycles .0) (instructions .0) (now (t .entry)) f r (now (t .exit)) ⌝ }
 {
     let o = since(n, f);
-    walk::add(t, o + s, v);
+    add(
+        t,
+        o + 2 * s,
+        Pair {
+            cycles,
+            instructions,
+        },
+    );
     put_row(t, o + w, s);
-    f.spent(v)
+    f.spent(cycles)
 }
 
 // A sync, or the join at a return: the prefix takes the longest child or, where it is heavier, the continuation. Its
 // block has the continuation already where no child is the longest. To the place of the table that loses comes the one
 // of no chain.
 fn join(t: &mut [u64], n: usize, w: usize, f: walk::Open) -> walk::Open
-    requires { ⌜ Asks n w (now t) f 0 0 ⌝ }
+    requires { ⌜ Asks n w (now t) f 0 0 0 ⌝ }
     requires { ⌜ f .at + 1 < 2 ^ 64 ⌝ }
     ensures { λ r. ⌜ Joined n w (now (t .entry)) f r (now (t .exit)) ⌝ }
 {
-    if f.longest == 0 {
+    if f.longest.0 == 0 {
         return f.joined(f.later_heavier());
     }
     let k = 2 * n;
@@ -294,15 +388,15 @@ fn join(t: &mut [u64], n: usize, w: usize, f: walk::Open) -> walk::Open
 // A spawned child has returned: it is the longest from now on where it is longer, and the prefix takes the
 // continuation up to it. Where no child was the longest before, each table is in its place already.
 fn spawned(t: &mut [u64], n: usize, w: usize, f: walk::Open, c: walk::Open) -> walk::Open
-    requires { ⌜ Asks n w (now t) f (c .prefix) 0 ⌝ }
-    requires { ⌜ (5 * n ≤ length (now t)) × (f .work + c .work < 2 ^ 64) ⌝ }
+    requires { ⌜ Asks n w (now t) f (c .prefix .0) 0 0 ⌝ }
+    requires { ⌜ f .work .0 + c .work .0 < 2 ^ 64 ⌝ }
     ensures { λ r. ⌜ Spawned n w (now (t .entry)) f c r (now (t .exit)) ⌝ }
 {
-    if f.longest == 0 {
+    if f.longest.0 == 0 {
         return f.spawned(c, f.child_longer(c));
     }
     let k = 2 * n;
-    let g = 4 * n;
+    let g = 3 * n;
     let longer = f.child_longer(c);
     if longer {
         take_in(t, k, n, g, w);
@@ -376,11 +470,15 @@ fn item(
     let n = w + 1;
     if kind == 6 {
         let v = walk::weight_at(trace, at, row, factors);
-        walk::spend(rows, row, v);
-        return spend(t, n, w, f, row, v);
+        let i = walk::instructions_at(trace, at);
+        walk::spend(rows, row, v, i);
+        return spend(t, n, w, f, row, v, i);
     }
     if kind == 4 {
         return join(t, n, w, f);
+    }
+    if kind == 7 {
+        return f.passed();
     }
     if kind == 1 {
         return f.passed();
@@ -396,18 +494,20 @@ fn item(
     spawned(t, n, w, f, c)
 }
 
-// Column 5: each row's number is moved out of the root's table, and its word is cleared.
-fn settle(t: &mut [u64], rows: &mut [u64], w: usize)
-    requires { ⌜ (w < length (now t)) × (columns * w ≤ length (now rows)) ⌝ }
-    ensures { λ _. ⌜ Settled w (now (t .entry)) (now (rows .entry)) (now (t .exit)) (now (rows .exit)) ⌝ }
+// Columns 5 and 7: each row of m is moved out of the root's table, and its word is cleared.
+fn settle(t: &mut [u64], rows: &mut [u64], m: usize)
+    requires { ⌜ (2 * m < length (now t)) × (columns * m ≤ length (now rows)) ⌝ }
+    ensures { λ _. ⌜ Settled m (now (t .entry)) (now (rows .entry)) (now (t .exit)) (now (rows .exit)) ⌝ }
 {
     let mut i = 0;
-    while i < w {
-        rows[trace::COLUMNS * i + trace::ON_SPAN] = t[i];
-        t[i] = 0;
+    while i < m {
+        let x = pair_at(t, 2 * i);
+        rows[trace::COLUMNS * i + trace::ON_SPAN] = x.cycles.0;
+        rows[trace::COLUMNS * i + trace::ION_SPAN] = x.instructions.0;
+        put_pair(t, 2 * i, no_pair());
         i += 1;
     }
-    t[w] = 0;
+    t[2 * m] = 0;
 }
 
 // An accepted trace of count sites and lines lines, each cost weighed by its row's factor: the room is cleared, the root
@@ -430,10 +530,19 @@ fn accepted(
     walk::zero(scratch, scratch.len());
     walk::zero(rows, trace::COLUMNS * (count + 1));
     let before = walk::credit_of(rows, 0);
-    let f = body(text, 0, 0, depth - 1, scratch, rows, count + 1, factors);
+    let f = body(
+        text,
+        0,
+        0,
+        depth - 1,
+        scratch,
+        rows,
+        2 * (count + 1),
+        factors,
+    );
     walk::returned(rows, 0, f.work, f.prefix, before);
     settle(scratch, rows, count + 1);
-    trace::Answer::Accepted(f.work, f.prefix, count, lines)
+    trace::Answer::Accepted(f.work.0, f.prefix.0, count, lines)
 }
 
 // The table engine: any text, any limits and any room.

@@ -1,5 +1,5 @@
--- Lines pass exactly where they are the lines of a body within the limits that name their sites by the rules; and the
--- same on characters.
+-- Lines pass exactly where they are the lines of a body within the limits that name their sites by the rules, each 07
+-- line directly after a cost; and the same on characters.
 use mathlib.Core.Path.{_≡_, refl, sym, _∙_, ap, subst}
 use mathlib.Core.Logic.{_↔_, inl, inr}
 use mathlib.Core.Bool.{Bool, true, false, cond}
@@ -14,19 +14,21 @@ use Rattle.line.specs.declared.Frame.{Frame}
 use Rattle.line.specs.declared.Frame.the-variants.{Return}
 use Rattle.line.specs.declared.Read.{Read}
 use Rattle.trace.specs.Shape.{root, step, sites}
-use Rattle.trace.specs.Refusals.{mostLines, lineCount, checks, openNow, empty, tooDeep, fault, accepted, refused, judged, scan, reads, verdict}
-use Rattle.trace.specs.Tree.{Way, call, spawn, opening, site, Leaf, spend, sync, note, lineOf, LeafWithin, Body, done, leaf, child, linesOf, Within}
+use Rattle.trace.specs.Refusals.{mostLines, lineCount, checks, openNow, empty, afterCost, stray, tooDeep, fault, accepted, refused, judged, scan, reads, verdict}
+use Rattle.trace.specs.Tree.{Way, call, spawn, opening, site, carry, Leaf, spend, sync, note, lineOf, LeafWithin, Body, done, leaf, child, linesOf, Within}
 use Rattle.trace.proofs.Tree.{leaf-step, opening-step, leaf-makes, opening-makes}
 use Rattle.trace.proofs.Checks.{by-checks}
 use Rattle.trace.proofs.Scan.{InTable, Clean, Reads, reads-length, reads-from-length, Fine, Accepts, accepted-is, fault-zero, now}
 use Rattle.trace.proofs.Sites.{numbered-start, clean-sites}
 use Rattle.trace.proofs.Parse.{parts}
 use Rattle.trace.proofs.Named.{NamedLine, Named, naming, named-head, clean-named}
+use Rattle.trace.proofs.Owned.{Owned, owned-head, clean-owned}
 
 pub record IsTrace (D M : ℕ) (t : List Frame) : Type 0 where
   pub body : Body
   pub lines : t ≡ linesOf body
   pub named : Named M [] (naming t)
+  pub owned : Owned false t
   pub within : Within (sites t) D 1 body
 
 module _ (D M m : ℕ) where
@@ -34,6 +36,7 @@ module _ (D M m : ℕ) where
   leaf-in (spend v) h = h
   leaf-in sync h = tt
   leaf-in (note (site s p)) h = tt
+  leaf-in (note (carry v)) h = h
 
   opening-in : (w : Way) (s : ℕ) → InTable (opening w s)
   opening-in call s = tt
@@ -48,16 +51,26 @@ module _ (D M m : ℕ) where
       opening-makes (λ s. ltb D (suc (length (openNow before)))) false w i ∙ le-ltb D (suc (length (openNow before))) (omega (arith, ap length e))
 
   -- a line of a body passes
-  passes : (before : List Frame) (c : ℕ) (o : List ℕ) (f : Frame) → openNow before ≡ c ∷ o → NamedLine M before f → tooDeep D before f ≡ false → fault D M before f ≡ 0
-  passes before c o f e n d = fault-zero D M before f (record { not7 = ap empty e; not8 = n .not8; not9 = n .not9; not10 = n .not10; not11 = n .not11; not12 = d })
+  passes : (before : List Frame) (c : ℕ) (o : List ℕ) (f : Frame) → openNow before ≡ c ∷ o → stray before f ≡ false → NamedLine M before f → tooDeep D before f ≡ false → fault D M before f ≡ 0
+  passes before c o f e y n d = fault-zero D M before f (record { not7 = ap empty e; not22 = y; not8 = n .not8; not9 = n .not9; not10 = n .not10; not11 = n .not11; not12 = d })
 
   -- what is known behind lines, of the lines u that follow them
   record Behind (before : List Frame) (o : List ℕ) (u : List Frame) : Type 0 where
     opened : openNow before ≡ o
     names : Named M (naming before) (naming u)
+    owned : Owned (afterCost false before) u
 
   behind : (before : List Frame) (o : List ℕ) (f : Frame) (u : List Frame) → Behind before o (f ∷ u) → Behind (before ++ f ∷ []) (step (length before) f o) u
-  behind before o f u h = record { opened = now before f ∙ ap (step (length before) f) (h .opened); names = named-head M before f u (h .names) .1 }
+  behind before o f u h =
+      record {
+        opened = now before f ∙ ap (step (length before) f) (h .opened);
+        names = named-head M before f u (h .names) .1;
+        owned = owned-head before f u (h .owned) .1;
+      }
+
+  -- 22 does not apply to the first of them
+  not-stray : (before : List Frame) (o : List ℕ) (f : Frame) (u : List Frame) → Behind before o (f ∷ u) → stray before f ≡ false
+  not-stray before o f u h = owned-head before f u (h .owned) .0
 
   -- the lines of a body pass where the lines behind it do
   abbrev Passes : Body → Type 0
@@ -71,13 +84,13 @@ module _ (D M m : ℕ) where
   clean-body : (b : Body) → Passes b
   clean-body done before c o u h g k =
       let n = named-head M before Return u (h .names) .0 in
-      (passes before c o Return (h .opened) n refl, tt, k (behind before (c ∷ o) Return u h))
+      (passes before c o Return (h .opened) (not-stray before (c ∷ o) Return u h) n refl, tt, k (behind before (c ∷ o) Return u h))
   clean-body (leaf l r) before c o u h g k =
       let f = lineOf l in
       let v = linesOf r ++ u in
       let n = named-head M before f v (h .names) .0 in
       let y = subst (λ (x : List ℕ). Behind (before ++ f ∷ []) x v) (leaf-step l (length before) (c ∷ o)) (behind before (c ∷ o) f v h) in (
-        passes before c o f (h .opened) n (leaf-deep before l),
+        passes before c o f (h .opened) (not-stray before (c ∷ o) f v h) n (leaf-deep before l),
         leaf-in l (g .0),
         clean-body r (before ++ f ∷ []) c o u y (g .1) (along ((before ++ f ∷ []) ++ linesOf r) (before ++ (f ∷ linesOf r)) o u (append-snoc before f (linesOf r)) k),
       )
@@ -88,7 +101,7 @@ module _ (D M m : ℕ) where
       let n = named-head M before f v (z .names) .0 in
       let y = subst (λ (x : List ℕ). Behind (before ++ f ∷ []) x v) (opening-step w i (length before) (c ∷ o)) (behind before (c ∷ o) f v z) in
       let e = append-assoc (before ++ f ∷ []) (linesOf a) (linesOf r) ∙ append-snoc before f (linesOf a ++ linesOf r) in (
-        passes before c o f (z .opened) n (opening-deep before w i c o (z .opened) (g .2)),
+        passes before c o f (z .opened) (not-stray before (c ∷ o) f v z) n (opening-deep before w i c o (z .opened) (g .2)),
         opening-in w i,
         subst (Clean D M (before ++ f ∷ [])) (sym (append-assoc (linesOf a) (linesOf r) u))
             (clean-body a (before ++ f ∷ []) (suc (length before)) (c ∷ o) (linesOf r ++ u) y (g .3)
@@ -100,13 +113,14 @@ tree-passes : (D M : ℕ) (t : List Frame) → IsTrace D M t → Clean D M [] t
 tree-passes D M t x =
     let e : t ≡ linesOf (x .body) ++ [] = x .lines ∙ sym (append-nil (linesOf (x .body))) in
     subst (Clean D M []) (sym e)
-    (clean-body D M (sites t) (x .body) [] root [] [] (record { opened = refl; names = subst (λ (l : List Frame). Named M [] (naming l)) e (x .named) }) (x .within) (λ h. ap empty (h .opened)))
+    (clean-body D M (sites t) (x .body) [] root [] [] (record { opened = refl; names = subst (λ (l : List Frame). Named M [] (naming l)) e (x .named); owned = subst (Owned false) e (x .owned) }) (x .within) (λ h. ap empty (h .opened)))
 
--- LAW: lines pass exactly where they are the lines of a body within the limits that name their sites by the rules
+-- LAW: lines pass exactly where they are the lines of a body within the limits that name their sites by the rules, each
+-- 07 line directly after a cost
 pub fine-is-trace : (D M : ℕ) (t : List Frame) → Fine D M t → IsTrace D M t
 fine-is-trace D M t f =
     let p = parts D M t f in
-    record { body = p .body; lines = p .lines; named = clean-named D M [] t (f .clean); within = p .within }
+    record { body = p .body; lines = p .lines; named = clean-named D M [] t (f .clean); owned = clean-owned D M [] t (f .clean); within = p .within }
 
 -- LAW: an accepted trace has at most M sites
 pub sites-le-M : (D M : ℕ) (t : List Frame) → Fine D M t → sites t ≤ M

@@ -9,7 +9,7 @@ use Rattle.line.specs.declared.Frame.{Frame}
 use Rattle.chain.specs.Plan.{CostLine, Plan, costs, All, Pairs, Less, Ordered, On, Apart}
 use Rattle.chain.proofs.Lists.{all-map, all-at, all-append, pairs-append}
 use Rattle.chain.proofs.Parts.{apart-on}
-use Rattle.trace.specs.Tree.{Way, call, spawn, opening, Leaf, spend, sync, note, lineOf, Body, done, leaf, child, linesOf, size}
+use Rattle.trace.specs.Tree.{Way, call, spawn, opening, Leaf, spend, sync, note, lineOf, Body, done, leaf, child, linesOf, ahead, size}
 use Rattle.trace.specs.Fold.{costAt, together, block, after, plan}
 use Rattle.trace.proofs.Levels.{bsize, bsize-le, In, Past, Beside, beside-leaf, Spawning, spawning, beside-opening, opening-beside, in-lt, in-of, past-out, past-of, near-of, near-lt, beside-shift, beside-unshift, beside-within}
 
@@ -237,7 +237,7 @@ leaf-of-rest (note k) n s r x y a = a
 on-rest : (l : Leaf) (n s i : ℕ) (r : Body) (x : CostLine) → At n x (suc i) → On (plan n s (leaf l r)) x → On (plan (suc n) s r) x
 on-rest (spend v) n s i r x p m = go (List·Memᴰ·cases-cons m)
   where
-    go : (x ≡ costAt n s v) ⊎ On (plan (suc n) s r) x → On (plan (suc n) s r) x
+    go : (x ≡ costAt n s v (ahead r)) ⊎ On (plan (suc n) s r) x → On (plan (suc n) s r) x
     go (inl d) = absurd (omega (arith, ap (λ (w : CostLine). w .line) d))
     go (inr o) = o
 on-rest sync n s i r x p m = m

@@ -13,8 +13,8 @@ use Rattle.trace.specs.declared.Answer.{Answer}
 use Rattle.trace.specs.declared.Answer.the-variants.{Accepted}
 use Rattle.trace.specs.Column.{Column}
 use Rattle.trace.specs.Promise.{Engine, marks, Lent, Marked}
-use Rattle.trace.specs.Tree.{Way, call, spawn, opening, Note, site, Leaf, spend, sync, note, lineOf, leafWork, Body, done, leaf, child, linesOf, size, Parts, workOf, localOf, spanOf, madeSum, rowSum, outerSum, outerRow}
-use Rattle.trace.specs.Fold.{Chains, nothing, joined, called, spawned, leafChains, ended, childChains, run, chainOf, onRow}
+use Rattle.trace.specs.Tree.{Way, call, spawn, opening, Note, site, carry, Leaf, spend, sync, note, lineOf, leafWork, Body, done, leaf, child, linesOf, ahead, leafCycles, leafInstructions, size, Parts, allOf, directOf, workOf, localOf, ilocalOf, spanOf, madeSum, rowSum, outerSum, outerRow}
+use Rattle.trace.specs.Fold.{itsCycles, itsInstructions, Chains, nothing, joined, called, spawned, leafChains, ended, childChains, run, chainOf, onRow}
 use Rattle.trace.specs.ByTree.{cell, ProfileBy}
 use Rattle.trace.proofs.Tree.{body-one}
 use Rattle.trace.proofs.Recurrence.{weight-chain}
@@ -22,6 +22,7 @@ use Rattle.trace.proofs.Unseen.{blank, blanks, ButPlaces, blanks-append
 
 abbrev pub blankNote : Note → Note
 blankNote (site s p) = site s (record { file = 0; line = 0; column = 0 })
+blankNote (carry v) = carry v
 
 abbrev pub blankLeaf : Leaf → Leaf
 blankLeaf (spend v) = spend v
@@ -37,6 +38,7 @@ blank-leaf : (l : Leaf) → blank (lineOf l) ≡ lineOf (blankLeaf l)
 blank-leaf (spend v) = refl
 blank-leaf sync = refl
 blank-leaf (note (site s p)) = refl
+blank-leaf (note (carry v)) = refl
 
 blank-opening : (w : Way) (s : ℕ) → blank (opening w s) ≡ opening w s
 blank-opening call s = refl
@@ -53,10 +55,27 @@ work-leaf (spend v) = refl
 work-leaf sync = refl
 work-leaf (note x) = refl
 
-chains-leaf : (l : Leaf) (n s : ℕ) (k : Chains) → leafChains n s (blankLeaf l) k ≡ leafChains n s l k
-chains-leaf (spend v) n s k = refl
-chains-leaf sync n s k = refl
-chains-leaf (note x) n s k = refl
+chains-leaf : (l : Leaf) (n s i : ℕ) (k : Chains) → leafChains n s (blankLeaf l) i k ≡ leafChains n s l i k
+chains-leaf (spend v) n s i k = refl
+chains-leaf sync n s i k = refl
+chains-leaf (note x) n s i k = refl
+
+-- a 07 line has no place
+ahead-blank : (b : Body) → ahead (blankBody b) ≡ ahead b
+ahead-blank done = refl
+ahead-blank (leaf (spend v) r) = refl
+ahead-blank (leaf sync r) = refl
+ahead-blank (leaf (note (site s p)) r) = refl
+ahead-blank (leaf (note (carry v)) r) = refl
+ahead-blank (child w s g r) = refl
+
+cycles-leaf : (l : Leaf) (r : Body) → leafCycles (blankLeaf l) (blankBody r) ≡ leafCycles l r
+cycles-leaf l r = work-leaf l
+
+instructions-leaf : (l : Leaf) (r : Body) → leafInstructions (blankLeaf l) (blankBody r) ≡ leafInstructions l r
+instructions-leaf (spend v) r = ahead-blank r
+instructions-leaf sync r = refl
+instructions-leaf (note x) r = refl
 
 -- and a body
 size-blank : (b : Body) → size (blankBody b) ≡ size b
@@ -64,15 +83,19 @@ size-blank done = refl
 size-blank (leaf l r) = ap suc (size-blank r)
 size-blank (child w s g r) = omega (arith, size-blank g, size-blank r)
 
-work-blank : (b : Body) → workOf (blankBody b) ≡ workOf b
-work-blank done = refl
-work-blank (leaf l r) = omega (arith, work-leaf l, work-blank r)
-work-blank (child w s g r) = omega (arith, work-blank g, work-blank r)
+module _ (m : Leaf → Body → ℕ) (same : (l : Leaf) (r : Body) → m (blankLeaf l) (blankBody r) ≡ m l r) where
+  all-blank : (b : Body) → allOf m (blankBody b) ≡ allOf m b
+  all-blank done = refl
+  all-blank (leaf l r) = omega (arith, same l r, all-blank r)
+  all-blank (child w s g r) = omega (arith, all-blank g, all-blank r)
 
-local-blank : (b : Body) → localOf (blankBody b) ≡ localOf b
-local-blank done = refl
-local-blank (leaf l r) = omega (arith, work-leaf l, local-blank r)
-local-blank (child w s g r) = local-blank r
+  direct-blank : (b : Body) → directOf m (blankBody b) ≡ directOf m b
+  direct-blank done = refl
+  direct-blank (leaf l r) = omega (arith, same l r, direct-blank r)
+  direct-blank (child w s g r) = direct-blank r
+
+work-blank : (b : Body) → workOf (blankBody b) ≡ workOf b
+work-blank = all-blank leafCycles cycles-leaf
 
 child-chains : (w : Way) (f h : Chains → Chains) (k : Chains) → ended f ≡ ended h → childChains w f k ≡ childChains w h k
 child-chains call f h k e = ap (λ (c : List CostLine). called c k) e
@@ -80,7 +103,9 @@ child-chains spawn f h k e = ap (λ (c : List CostLine). spawned c k) e
 
 run-blank : (b : Body) (n s : ℕ) (k : Chains) → run n s (blankBody b) k ≡ run n s b k
 run-blank done n s k = refl
-run-blank (leaf l r) n s k = run-blank r (suc n) s (leafChains n s (blankLeaf l) k) ∙ ap (run (suc n) s r) (chains-leaf l n s k)
+run-blank (leaf l r) n s k =
+    run-blank r (suc n) s (leafChains n s (blankLeaf l) (ahead (blankBody r)) k)
+    ∙ ap (run (suc n) s r) (chains-leaf l n s (ahead (blankBody r)) k ∙ ap (λ (i : ℕ). leafChains n s l i k) (ahead-blank r))
 run-blank (child w i g r) n s k =
     ap (λ (m : ℕ). run (suc n + m) s (blankBody r) (childChains w (run (suc n) i (blankBody g)) k)) (size-blank g)
     ∙ run-blank r (suc n + size g) s (childChains w (run (suc n) i (blankBody g)) k)
@@ -116,8 +141,10 @@ cell-blank : (b : Body) (s : ℕ) (k : Column) → cell (blankBody b) s k ≡ ce
 cell-blank b s Column.calls = row-blank (λ g. 1) (λ g. refl) s b
 cell-blank b s Column.work = outer-row-blank workOf work-blank s b
 cell-blank b s Column.span = outer-row-blank spanOf span-blank s b
-cell-blank b s Column.local = row-blank localOf local-blank s b
-cell-blank b s Column.onSpan = ap (onRow s) (chain-blank b)
+cell-blank b s Column.local = row-blank localOf (direct-blank leafCycles cycles-leaf) s b
+cell-blank b s Column.onSpan = ap (onRow itsCycles s) (chain-blank b)
+cell-blank b s Column.ilocal = row-blank ilocalOf (direct-blank leafInstructions instructions-leaf) s b
+cell-blank b s Column.ionSpan = ap (onRow itsInstructions s) (chain-blank b)
 
 -- what comes back by a tree is what comes back by the tree without its places
 module _ (e : Engine) (m : ℕ) (b : Body) (c : Lent) (q : Answer) (y : Lent) where

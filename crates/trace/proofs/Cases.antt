@@ -6,7 +6,7 @@ use Prim.Native.Nat.{ℕ}
 use lib.Dec.{T}
 use Rattle.line.specs.declared.Place.{Place}
 use Rattle.line.specs.declared.Frame.{Frame}
-use Rattle.line.specs.declared.Frame.the-variants.{Site, Call, Spawn, Sync, Return, Cost}
+use Rattle.line.specs.declared.Frame.the-variants.{Site, Call, Spawn, Sync, Return, Cost, Instructions}
 use Rattle.trace.specs.Shape.{ifSite, ifMakes, step}
 
 -- a line that is no site line
@@ -21,6 +21,7 @@ by-site P a b (Spawn s) = b (Spawn s) tt
 by-site P a b Sync = b Sync tt
 by-site P a b Return = b Return tt
 by-site P a b (Cost v) = b (Cost v) tt
+by-site P a b (Instructions v) = b (Instructions v) tt
 
 -- what is said of a line that is no site line
 pub other : {A : Type 0} (a : ℕ → Place → A) (b : A) (f : Frame) → NotSite f → ifSite a b f ≡ b
@@ -30,6 +31,7 @@ other a b (Spawn s) h = refl
 other a b Sync h = refl
 other a b Return h = refl
 other a b (Cost v) h = refl
+other a b (Instructions v) h = refl
 
 -- what holds of both things that are said holds of what is said of a line
 pub either-way : {A : Type 0} (P : A → Type 0) {a : ℕ → Place → A} {b : A} (f : Frame) → ((s : ℕ) (p : Place) → P (a s p)) → P b → P (ifSite a b f)
@@ -50,3 +52,4 @@ makes-same a c b (Spawn s) h = h s
 makes-same a c b Sync h = refl
 makes-same a c b Return h = refl
 makes-same a c b (Cost v) h = refl
+makes-same a c b (Instructions v) h = refl

@@ -16,7 +16,7 @@ use Rattle.chain.proofs.Over.{Found, Fits, chosen-by, span-by}
 use Rattle.chain.specs.Over.{linesIn}
 use Rattle.trace.specs.Shape.{Is, root, walk, openAt, has, Parallel}
 use Rattle.trace.specs.Series.{value, valueAt, CostIn, rule, Span, Chosen}
-use Rattle.trace.specs.Tree.{Way, opening, lineOf, spend, sync, note, Body, done, leaf, child, linesOf, size}
+use Rattle.trace.specs.Tree.{Way, opening, lineOf, spend, sync, note, Body, done, leaf, child, linesOf, ahead, size}
 use Rattle.trace.specs.Fold.{costAt, plan, chainOf}
 use Rattle.trace.proofs.Basics.{below, clash}
 use Rattle.trace.proofs.Tree.{size-is, leaf-not-opening, spend-not-note}
@@ -108,7 +108,7 @@ find-two m n s v g r f f′ i w h =
 pub where-on : (b : Body) → Finds b
 where-on done n s zero w h = clash (cc)
 where-on done n s (suc i) w h = absurd h
-where-on (leaf (spend v) r) n s zero w h = record { cost = costAt n s v; on = List·Memᴰ·head refl; line-is = omega arith; value-is = ap value h }
+where-on (leaf (spend v) r) n s zero w h = record { cost = costAt n s v (ahead r); on = List·Memᴰ·head refl; line-is = omega arith; value-is = ap value h }
 where-on (leaf (spend v) r) n s (suc i) w h =
     let f = where-on r (suc n) s i w h in
     record { cost = f .cost; on = List·Memᴰ·tail (f .on); line-is = omega (arith, f .line-is); value-is = f .value-is }

@@ -1,4 +1,5 @@
--- The five columns by the tree: what an engine adds up. Columns 4 and 5 by the costs of the plan, each with its row.
+-- Columns 1 and 4 to 7 by the tree: what an engine adds up. Columns 4 to 7 by the costs of the plan, each with its row,
+-- once for both measures.
 use mathlib.Core.Path.{_≡_, refl, sym, _∙_, ap, subst}
 use mathlib.Core.Bool.{Bool, true, false, cond, _&&_, and-true}
 use mathlib.Core.List.{List, [], _∷_, _++_, append-assoc}
@@ -11,12 +12,12 @@ use Rattle.line.specs.declared.Frame.{Frame}
 use Rattle.line.specs.declared.Frame.the-variants.{Return}
 use Rattle.chain.specs.Plan.{CostLine, costs}
 use Rattle.trace.specs.Shape.{Is, root, step, has, firstIs, sites}
-use Rattle.trace.specs.Series.{value}
-use Rattle.trace.specs.Rows.{makes, made, ofRow, sumOf, costsWhere, total, sum, Sum, calls, local, onSpan}
-use Rattle.trace.specs.Tree.{Way, opening, Leaf, spend, sync, note, lineOf, leafWork, Body, done, leaf, child, linesOf, size, Within, Parts, workOf, localOf, madeSum, callsIn, localIn}
+use Rattle.trace.specs.Rows.{makes, made, ofRow, sumOf, costsWhere, total, itotal, direct, directOn, sum, Sum, calls, local, ilocal}
+use Rattle.trace.specs.Tree.{Way, opening, Leaf, spend, sync, note, lineOf, leafWork, Body, done, leaf, child, linesOf, ahead, size, allOf, directOf, Within, Parts, workOf, instructionsOf, madeSum, rowSum, callsIn, localIn, ilocalIn}
 use Rattle.trace.specs.Fold.{costAt, plan}
 use Rattle.trace.proofs.Basics.{cond-same, cond-add, cond-le}
-use Rattle.trace.proofs.Tree.{leaf-step, opening-step, opening-makes, leaf-value, opening-value}
+use Rattle.trace.proofs.Tree.{leaf-step, opening-step, opening-makes}
+use Rattle.trace.proofs.Measures.{Measured, by-cycles, by-instructions}
 use Rattle.trace.proofs.Apart.{costs-two}
 use Rattle.trace.proofs.Sums.{not-made, makesAt, has-made, sum-made, sum-zero, sum-add, sum-same}
 use Rattle.trace.proofs.Context.{Ctx, at-is}
@@ -40,27 +41,31 @@ module _ (D : ℕ) (t : List Frame) (p : Parts D t) (s : ℕ) where
 
 -- ── the costs of the plan, picked by row and by line ──
 
-abbrev pub sumWhere : (CostLine → Bool) → List CostLine → ℕ
-sumWhere w [] = 0
-sumWhere w (x ∷ l) = cond (w x) (x .value) 0 + sumWhere w l
+abbrev pub sumWhere : (CostLine → ℕ) → (CostLine → Bool) → List CostLine → ℕ
+sumWhere m w [] = 0
+sumWhere m w (x ∷ l) = cond (w x) (m x) 0 + sumWhere m w l
 
-where-append : (w : CostLine → Bool) (l m : List CostLine) → sumWhere w (l ++ m) ≡ sumWhere w l + sumWhere w m
-where-append w [] m = omega arith
-where-append w (x ∷ l) m = omega (arith, where-append w l m)
+where-append : (m : CostLine → ℕ) (w : CostLine → Bool) (l k : List CostLine) → sumWhere m w (l ++ k) ≡ sumWhere m w l + sumWhere m w k
+where-append m w [] k = omega arith
+where-append m w (x ∷ l) k = omega (arith, where-append m w l k)
 
-where-same : (w v : CostLine → Bool) → ((x : CostLine) → w x ≡ v x) → (l : List CostLine) → sumWhere w l ≡ sumWhere v l
-where-same w v h [] = refl
-where-same w v h (x ∷ l) = omega (arith, ap (λ (b : Bool). cond b (x .value) 0) (h x), where-same w v h l)
+where-same : (m : CostLine → ℕ) (w v : CostLine → Bool) → ((x : CostLine) → w x ≡ v x) → (l : List CostLine) → sumWhere m w l ≡ sumWhere m v l
+where-same m w v h [] = refl
+where-same m w v h (x ∷ l) = omega (arith, ap (λ (b : Bool). cond b (m x) 0) (h x), where-same m w v h l)
 
 -- a leaf line and the rest; a child's costs and the rest's
-pub where-leaf : (w : CostLine → Bool) (l : Leaf) (n s : ℕ) (r : Body) → sumWhere w (costs (plan n s (leaf l r))) ≡ cond (w (costAt n s (leafWork l))) (leafWork l) 0 + sumWhere w (costs (plan (suc n) s r))
-where-leaf w (spend v) n s r = refl
-where-leaf w sync n s r = omega (arith, cond-same (w (costAt n s 0)))
-where-leaf w (note x) n s r = omega (arith, cond-same (w (costAt n s 0)))
+pub where-leaf : (m : Measured) (w : CostLine → Bool) (l : Leaf) (n s : ℕ) (r : Body)
+    → sumWhere (m .of-cost) w (costs (plan n s (leaf l r))) ≡ cond (w (costAt n s (leafWork l) (ahead r))) (m .of-leaf l r) 0 + sumWhere (m .of-cost) w (costs (plan (suc n) s r))
+where-leaf m w (spend v) n s r = omega (arith, ap (λ (x : ℕ). cond (w (costAt n s v (ahead r))) x 0) (m .spend-cost n s v r))
+where-leaf m w sync n s r =
+    let b = w (costAt n s 0 (ahead r)) in omega (arith, ap (λ (x : ℕ). cond b x 0) (m .sync-none r), cond-same b)
+where-leaf m w (note x) n s r =
+    let b = w (costAt n s 0 (ahead r)) in omega (arith, ap (λ (y : ℕ). cond b y 0) (m .note-none x r), cond-same b)
 
-pub where-two : (w : CostLine → Bool) (m : Way) (n s i : ℕ) (g r : Body) → sumWhere w (costs (plan n s (child m i g r))) ≡ sumWhere w (costs (plan (suc n) i g)) + sumWhere w (costs (plan (suc n + size g) s r))
-where-two w m n s i g r =
-    ap (sumWhere w) (costs-two m n s i g r) ∙ where-append w (costs (plan (suc n) i g)) (costs (plan (suc n + size g) s r))
+pub where-two : (m : CostLine → ℕ) (w : CostLine → Bool) (k : Way) (n s i : ℕ) (g r : Body)
+    → sumWhere m w (costs (plan n s (child k i g r))) ≡ sumWhere m w (costs (plan (suc n) i g)) + sumWhere m w (costs (plan (suc n + size g) s r))
+where-two m w k n s i g r =
+    ap (sumWhere m w) (costs-two k n s i g r) ∙ where-append m w (costs (plan (suc n) i g)) (costs (plan (suc n + size g) s r))
 
 -- the invocation c is one of row r, once, and of no other row
 abbrev Known : List Frame → ℕ → ℕ → Type 0
@@ -91,35 +96,36 @@ pub first-is : (t : List Frame) (n : ℕ) (o : List ℕ) (e : Frame) (v : List F
 first-is t n o e v x = let f : n + 0 ≡ n = omega arith in subst (λ (k : ℕ). Is t k e) f (subst (λ (A : Type 0). A) (sym (at-is t n o (e ∷ v) x 0 e)) refl)
 
 -- lines are picked by number, q, and for an invocation where it is the innermost
-module _ (t : List Frame) (s : ℕ) (q : ℕ → Bool) (pick : ℕ → ℕ → List ℕ → Bool) (is : (F k c : ℕ) (o : List ℕ) → pick F k (c ∷ o) ≡ (eqb F c && q k)) where
+module _ (v : Measured) (t : List Frame) (s : ℕ) (q : ℕ → Bool) (pick : ℕ → ℕ → List ℕ → Bool) (is : (F k c : ℕ) (o : List ℕ) → pick F k (c ∷ o) ≡ (eqb F c && q k)) where
   abbrev inRow : ℕ → List ℕ → List Frame → ℕ
-  inRow n o u = sum (λ F. sumOf (pick F) n o u) (ofRow t s)
+  inRow n o u = sum (λ F. sumOf (v .of-line) (pick F) n o u) (ofRow t s)
 
   abbrev picked : CostLine → Bool
   picked x = eqb (x .row) s && q (x .line)
 
   -- a line whose innermost invocation is known counts once
-  line : (n c r : ℕ) (o : List ℕ) (e : Frame) (u : List Frame) → Known t c r → inRow n (c ∷ o) (e ∷ u) ≡ cond (eqb r s && q n) (value e) 0 + inRow (suc n) (step n e (c ∷ o)) u
+  line : (n c r : ℕ) (o : List ℕ) (e : Frame) (u : List Frame) → Known t c r → inRow n (c ∷ o) (e ∷ u) ≡ cond (eqb r s && q n) (v .of-line e u) 0 + inRow (suc n) (step n e (c ∷ o)) u
   line n c r o e u kn =
-      sum-add (λ F. cond (pick F n (c ∷ o)) (value e) 0) (λ F. sumOf (pick F) (suc n) (step n e (c ∷ o)) u) (ofRow t s)
+      let a = v .of-line e u in
+      sum-add (λ F. cond (pick F n (c ∷ o)) a 0) (λ F. sumOf (v .of-line) (pick F) (suc n) (step n e (c ∷ o)) u) (ofRow t s)
       ∙ ap (λ (x : ℕ). x + inRow (suc n) (step n e (c ∷ o)) u)
-      (sum-same (λ F. cond (pick F n (c ∷ o)) (value e) 0) (λ F. cond (eqb F c && q n) (value e) 0) (λ F. ap (λ (x : Bool). cond x (value e) 0) (is F n c o)) (ofRow t s) ∙ kn s (value e) (q n))
+      (sum-same (λ F. cond (pick F n (c ∷ o)) a 0) (λ F. cond (eqb F c && q n) a 0) (λ F. ap (λ (x : Bool). cond x a 0) (is F n c o)) (ofRow t s) ∙ kn s a (q n))
 
   move : (m k : ℕ) (o : List ℕ) (u : List Frame) → m ≡ k → inRow m o u ≡ inRow k o u
   move m k o u e = ap (λ (j : ℕ). inRow j o u) e
 
   abbrev Picks : Body → Type 0
-  Picks b = (m D d n c r : ℕ) (o : List ℕ) (u : List Frame) → Within m D d b → Known t c r → Ctx t n (c ∷ o) (linesOf b ++ u) → inRow n (c ∷ o) (linesOf b ++ u) ≡ sumWhere picked (costs (plan n r b)) + inRow (n + size b) o u
+  Picks b = (m D d n c r : ℕ) (o : List ℕ) (u : List Frame) → Within m D d b → Known t c r → Ctx t n (c ∷ o) (linesOf b ++ u) → inRow n (c ∷ o) (linesOf b ++ u) ≡ sumWhere (v .of-cost) picked (costs (plan n r b)) + inRow (n + size b) o u
 
   picks : (b : Body) → Picks b
-  picks done m D d n c r o u w kn x = omega (arith, line n c r o Return u kn, cond-same (eqb r s && q n), move (suc n) (n + 1) o u (omega arith))
+  picks done m D d n c r o u w kn x = omega (arith, line n c r o Return u kn, ap (λ (a : ℕ). cond (eqb r s && q n) a 0) (v .return-line u), cond-same (eqb r s && q n), move (suc n) (n + 1) o u (omega arith))
   picks (leaf l b) m D d n c r o u w kn x =
       omega (
         arith,
         line n c r o (lineOf l) (linesOf b ++ u) kn,
-        ap (λ (v : ℕ). cond (eqb r s && q n) v 0) (leaf-value l),
+        ap (λ (a : ℕ). cond (eqb r s && q n) a 0) (v .leaf-line l b u),
         ap (λ (k : List ℕ). inRow (suc n) k (linesOf b ++ u)) (leaf-step l n (c ∷ o)),
-        where-leaf picked l n r b,
+        where-leaf v picked l n r b,
         picks b m D d (suc n) c r o u (w .1) kn (ctx-leaf t n c o l (linesOf b ++ u) x),
         move (suc n + size b) (n + suc (size b)) o u (omega arith),
       )
@@ -128,17 +134,17 @@ module _ (t : List Frame) (s : ℕ) (q : ℕ → Bool) (pick : ℕ → ℕ → L
       omega (
         arith,
         line n c r o (opening k i) ((linesOf g ++ linesOf b) ++ u) kn,
-        ap (λ (v : ℕ). cond (eqb r s && q n) v 0) (opening-value k i),
+        ap (λ (a : ℕ). cond (eqb r s && q n) a 0) (v .opening-line k i ((linesOf g ++ linesOf b) ++ u)),
         cond-same (eqb r s && q n),
         ap (λ (z : List ℕ). inRow (suc n) z ((linesOf g ++ linesOf b) ++ u)) (opening-step k i n (c ∷ o)),
         ap (inRow (suc n) (suc n ∷ c ∷ o)) (append-assoc (linesOf g) (linesOf b) u),
         picks g m D (suc d) (suc n) (suc n) i (c ∷ o) (linesOf b ++ u) (w .3) (known-made t n i k (w .0) (first-is t n (c ∷ o) (opening k i) ((linesOf g ++ linesOf b) ++ u) x)) y,
         picks b m D d (suc n + size g) c r o u (w .4) kn (ctx-skip t g (suc n) (suc n) (c ∷ o) (linesOf b ++ u) y),
-        where-two picked k n r i g b,
+        where-two (v .of-cost) picked k n r i g b,
         move (suc n + size g + size b) (n + suc (size g + size b)) o u (omega arith),
       )
 
-  pub column : (D : ℕ) (x : Parts D t) → sum (λ F. costsWhere t (pick F)) (ofRow t s) ≡ sumWhere picked (costs (plan 0 0 (x .body)))
+  pub column : (D : ℕ) (x : Parts D t) → sum (λ F. costsWhere (v .of-line) t (pick F)) (ofRow t s) ≡ sumWhere (v .of-cost) picked (costs (plan 0 0 (x .body)))
   column D x =
       omega (
         arith,
@@ -147,14 +153,7 @@ module _ (t : List Frame) (s : ℕ) (q : ℕ → Bool) (pick : ℕ → ℕ → L
         sum-zero (ofRow t s),
       )
 
--- ── column 4 ──
-
--- the costs of a plan that stand in row s: those directly in the body, where that is its row, and those of the
--- invocations made from s
-row-costs : (s : ℕ) (b : Body) (n r : ℕ) → sumWhere (λ x. eqb (x .row) s) (costs (plan n r b)) ≡ cond (eqb r s) (localOf b) 0 + madeSum localOf s b
-row-costs s done n r = omega (arith, cond-same (eqb r s))
-row-costs s (leaf l b) n r = omega (arith, where-leaf (λ x. eqb (x .row) s) l n r b, cond-add (eqb r s) (leafWork l) (localOf b), row-costs s b (suc n) r)
-row-costs s (child m i g b) n r = omega (arith, where-two (λ x. eqb (x .row) s) m n r i g b, row-costs s g (suc n) i, row-costs s b (suc n + size g) r)
+-- ── columns 4 and 6 ──
 
 -- no site is 0
 pub none-from-root : (h : Body → ℕ) (m D d : ℕ) (b : Body) → Within m D d b → madeSum h 0 b ≡ 0
@@ -163,35 +162,82 @@ none-from-root h m D d (leaf l r) w = none-from-root h m D d r (w .1)
 none-from-root h m D d (child k i g r) w =
     omega (arith, ap (λ (b : Bool). cond b (h g) 0) (ne-eqb i 0 (λ q. omega (arith, w .0))), none-from-root h m D (suc d) g (w .3), none-from-root h m D d r (w .4))
 
--- what stands directly in a body, and in those made from a site inside it, is some of all its costs
-local-below : (s : ℕ) (b : Body) → localOf b + madeSum localOf s b ≤ workOf b
-local-below s done = omega arith
-local-below s (leaf l r) = omega (arith, local-below s r)
-local-below s (child w i g r) = omega (arith, cond-le (eqb i s) (localOf g), local-below s g, local-below s r)
+module _ (v : Measured) where
+  abbrev h : Leaf → Body → ℕ
+  h = v .of-leaf
+
+  -- the costs of a plan that stand in row s: those directly in the body, where that is its row, and those of the
+  -- invocations made from s
+  row-costs : (s : ℕ) (b : Body) (n r : ℕ)
+      → sumWhere (v .of-cost) (λ x. eqb (x .row) s) (costs (plan n r b)) ≡ cond (eqb r s) (directOf h b) 0 + madeSum (directOf h) s b
+  row-costs s done n r = omega (arith, cond-same (eqb r s))
+  row-costs s (leaf l b) n r = omega (arith, where-leaf v (λ x. eqb (x .row) s) l n r b, cond-add (eqb r s) (h l b) (directOf h b), row-costs s b (suc n) r)
+  row-costs s (child m i g b) n r =
+      omega (arith, where-two (v .of-cost) (λ x. eqb (x .row) s) m n r i g b, row-costs s g (suc n) i, row-costs s b (suc n + size g) r)
+
+  -- what stands directly in a body, and in those made from a site inside it, is some of all of it
+  local-below : (s : ℕ) (b : Body) → directOf h b + madeSum (directOf h) s b ≤ allOf h b
+  local-below s done = omega arith
+  local-below s (leaf l r) = omega (arith, local-below s r)
+  local-below s (child w i g r) = omega (arith, cond-le (eqb i s) (directOf h g), local-below s g, local-below s r)
+
+  row-below : (s : ℕ) (b : Body) → rowSum (directOf h) s b ≤ allOf h b
+  row-below zero b = omega (arith, local-below 0 b)
+  row-below (suc s) b = omega (arith, local-below (suc s) b)
+
+  module _ (D : ℕ) (t : List Frame) (p : Parts D t) where
+    pub direct-costs : (s : ℕ) → sum (direct (v .of-line) t) (ofRow t s) ≡ sumWhere (v .of-cost) (λ x. eqb (x .row) s && true) (costs (plan 0 0 (p .body)))
+    direct-costs s = column v t s (λ k. true) (λ F k o. firstIs F o) (λ F k c o. sym (and-true (eqb F c))) D p
+
+    pub direct-on-costs : (c : List ℕ) (s : ℕ) → sum (directOn (v .of-line) t c) (ofRow t s) ≡ sumWhere (v .of-cost) (λ x. eqb (x .row) s && has (x .line) c) (costs (plan 0 0 (p .body)))
+    direct-on-costs c s = column v t s (λ k. has k c) (λ F k o. firstIs F o && has k c) (λ F k d o. refl) D p
+
+    plain : (s : ℕ) → sumWhere (v .of-cost) (λ x. eqb (x .row) s && true) (costs (plan 0 0 (p .body))) ≡ sumWhere (v .of-cost) (λ x. eqb (x .row) s) (costs (plan 0 0 (p .body)))
+    plain s = where-same (v .of-cost) (λ x. eqb (x .row) s && true) (λ x. eqb (x .row) s) (λ x. and-true (eqb (x .row) s)) (costs (plan 0 0 (p .body)))
+
+    direct-tree : (s : ℕ) → sum (direct (v .of-line) t) (ofRow t s) ≡ rowSum (directOf h) s (p .body)
+    direct-tree zero =
+        omega (
+          arith,
+          direct-costs 0,
+          plain 0,
+          row-costs 0 (p .body) 0 0,
+          none-from-root (directOf h) (sites t) D 1 (p .body) (p .within),
+          ap (λ (b : Bool). cond b (directOf h (p .body)) 0) (eq-eqb 0 0 refl),
+        )
+    direct-tree (suc s) =
+        omega (
+          arith,
+          direct-costs (suc s),
+          plain (suc s),
+          row-costs (suc s) (p .body) 0 0,
+          ap (λ (b : Bool). cond b (directOf h (p .body)) 0) (ne-eqb 0 (suc s) (λ q. omega arith)),
+        )
+
+    pub all-tree : costsWhere (v .of-line) t (λ k o. true) ≡ allOf h (p .body)
+    all-tree = ap (sumOf (v .of-line) (λ k o. true) 0 (root ∷ [])) (p .lines) ∙ all-costs v (p .body) 0 (root ∷ [])
+
+    direct-le : (s : ℕ) → sum (direct (v .of-line) t) (ofRow t s) ≤ costsWhere (v .of-line) t (λ k o. true)
+    direct-le s = omega (arith, direct-tree s, all-tree, row-below s (p .body))
 
 module _ (D : ℕ) (t : List Frame) (p : Parts D t) where
-  abbrev all : List CostLine
-  all = costs (plan 0 0 (p .body))
-
-  pub local-costs : (s : ℕ) → local t s ≡ sumWhere (λ x. eqb (x .row) s && true) all
-  local-costs s = column t s (λ k. true) (λ F k o. firstIs F o) (λ F k c o. sym (and-true (eqb F c))) D p
-
-  pub on-span-costs : (c : List ℕ) (s : ℕ) → onSpan t c s ≡ sumWhere (λ x. eqb (x .row) s && has (x .line) c) all
-  on-span-costs c s = column t s (λ k. has k c) (λ F k o. firstIs F o && has k c) (λ F k d o. refl) D p
-
-  plain : (s : ℕ) → sumWhere (λ x. eqb (x .row) s && true) all ≡ sumWhere (λ x. eqb (x .row) s) all
-  plain s = where-same (λ x. eqb (x .row) s && true) (λ x. eqb (x .row) s) (λ x. and-true (eqb (x .row) s)) all
-
   -- LAW
   pub local-tree : (s : ℕ) → local t s ≡ localIn s (p .body)
-  local-tree zero = omega (arith, local-costs 0, plain 0, row-costs 0 (p .body) 0 0, none-from-root localOf (sites t) D 1 (p .body) (p .within), ap (λ (b : Bool). cond b (localOf (p .body)) 0) (eq-eqb 0 0 refl))
-  local-tree (suc s) = omega (arith, local-costs (suc s), plain (suc s), row-costs (suc s) (p .body) 0 0, ap (λ (b : Bool). cond b (localOf (p .body)) 0) (ne-eqb 0 (suc s) (λ q. omega arith)))
+  local-tree = direct-tree by-cycles D t p
 
-  -- LAW: the total work is all that the root's body costs
+  pub ilocal-tree : (s : ℕ) → ilocal t s ≡ ilocalIn s (p .body)
+  ilocal-tree = direct-tree by-instructions D t p
+
+  -- LAW: the total work is all that the root's body costs, and all instructions are those of its costs
   pub total-tree : total t ≡ workOf (p .body)
-  total-tree = ap (sumOf (λ k o. true) 0 (root ∷ [])) (p .lines) ∙ all-costs (p .body) 0 (root ∷ [])
+  total-tree = all-tree by-cycles D t p
 
-  -- LAW: no row's local exceeds the total work
+  pub itotal-tree : itotal t ≡ instructionsOf (p .body)
+  itotal-tree = all-tree by-instructions D t p
+
+  -- LAW: no row's local exceeds the total work, and none's instructions all instructions
   pub local-le : (s : ℕ) → local t s ≤ total t
-  local-le zero = omega (arith, local-tree 0, total-tree, local-below 0 (p .body))
-  local-le (suc s) = omega (arith, local-tree (suc s), total-tree, local-below (suc s) (p .body))
+  local-le = direct-le by-cycles D t p
+
+  pub ilocal-le : (s : ℕ) → ilocal t s ≤ itotal t
+  ilocal-le = direct-le by-instructions D t p

@@ -9,7 +9,7 @@ use native.Mathlib.Nat.{suc-add, le-dest}
 use lib.ListN.{length}
 use lib.Dec.{T}
 use Rattle.line.specs.declared.Frame.{Frame}
-use Rattle.line.specs.declared.Frame.the-variants.{Site, Call, Spawn, Sync, Return, Cost}
+use Rattle.line.specs.declared.Frame.the-variants.{Site, Call, Spawn, Sync, Return, Cost, Instructions}
 use Rattle.trace.specs.Shape.{Is, step, walk, openAt, has, firstIs, Parallel}
 use Rattle.trace.proofs.Basics.{below}
 use Rattle.trace.proofs.Levels.{climb, never, Beside}
@@ -143,6 +143,7 @@ keep b F (suc k) n [] (Return ∷ u) (suc i) l m h w q = absurd h
 keep b F (suc k) n (c ∷ o) (Return ∷ u) (suc i) l m h w q =
     keep b F k (suc n) o u i (omega arith) m (h .1) w (elim (has-cases b c o q) [ inl e ↦ absurd (omega (arith, h .0)) | inr r ↦ r ])
 keep b F k n o (Cost v ∷ u) (suc i) l m h w q = keep b F k (suc n) o u i (omega arith) m h w q
+keep b F k n o (Instructions v ∷ u) (suc i) l m h w q = keep b F k (suc n) o u i (omega arith) m h w q
 
 below-lt : (b c : ℕ) (o : List ℕ) → Below b o → T (has c o) → c < b
 below-lt b c [] h k = absurd k

@@ -8,7 +8,7 @@ use native.Mathlib.Omega.{arith}
 use lib.Dec.{T, eqb}
 use borrow.Author.Tests.{eq-eqb, ne-eqb}
 use Rattle.line.specs.declared.Frame.{Frame}
-use Rattle.line.specs.declared.Frame.the-variants.{Site, Call, Spawn, Sync, Return, Cost}
+use Rattle.line.specs.declared.Frame.the-variants.{Site, Call, Spawn, Sync, Return, Cost, Instructions}
 use Rattle.chain.specs.Over.{Each}
 use Rattle.trace.specs.Shape.{root, step, walk, openAt, has, firstIs, Open, Contains, Directly}
 use Rattle.trace.specs.Series.{Span}
@@ -115,6 +115,7 @@ module _ (t : List Frame) where
   stacked-step n Return [] q h = h
   stacked-step n Return (c ∷ o) q h = h .1
   stacked-step n (Cost v) o q h = h
+  stacked-step n (Instructions v) o q h = h
 
   stacked-walk : (n : ℕ) (o : List ℕ) (u : List Frame) (j : ℕ) → ((k : ℕ) → openAt t (n + k) ≡ walk n o u k) → Stacked t o
       → Stacked t (walk n o u j)

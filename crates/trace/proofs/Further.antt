@@ -1,17 +1,21 @@
--- The further traces of document 01, those of request j and one for each refusal: the verdict, computed; and the span of
--- a trace whose sites are met on the way.
-use mathlib.Core.Path.{_≡_, refl}
+-- The further traces of document 01, those of requests j and l and one for each refusal: the verdict, computed; the span
+-- of a trace whose sites are met on the way; and the rows of one with 07 lines.
+use mathlib.Core.Path.{_≡_, refl, subst}
 use mathlib.Core.Bool.{Bool, true, false}
 use mathlib.Core.List.{List, [], _∷_, _++_, map}
 use Prim.Native.Nat.{ℕ}
 use lib.ListN.{take, replicate}
-use Rattle.line.specs.declared.Frame.the-variants.{Site, Spawn, Return, Cost}
+use Rattle.line.specs.declared.Frame.the-variants.{Site, Spawn, Return, Cost, Instructions}
+use Rattle.chain.specs.Plan.{choose}
+use Rattle.chain.specs.Over.{linesIn}
 use Rattle.trace.specs.Shape.{root}
-use Rattle.trace.specs.Series.{Span}
+use Rattle.trace.specs.Series.{Span, Chosen}
+use Rattle.trace.specs.Rows.{local, onSpan, ilocal, ionSpan}
 use Rattle.trace.specs.Refusals.{Verdict, accepted, refused, verdict}
-use Rattle.trace.specs.Tree.{spawn, site, spend, note, Body, done, leaf, child, linesOf}
+use Rattle.trace.specs.Tree.{spawn, site, carry, spend, note, Body, done, leaf, child, linesOf}
+use Rattle.trace.specs.Fold.{chainOf}
 use Rattle.trace.specs.Twelve.{text}
-use Rattle.trace.proofs.Twelve.{span-here}
+use Rattle.trace.proofs.Twelve.{span-here, chosen-here}
 
 record Ask : Type 0 where
   trace : List ℕ
@@ -39,7 +43,7 @@ asks =
     ∷ ask (0x0100010000000a00010005 ∷ 0x0100020000001400010009 ∷ 0x0500000000000000000000 ∷ []) 4 1 (refused 9 1)
     -- "cost 0 (6)", an unknown kind, a place without a column, an unused field
     ∷ ask (0x0600000000000000000000 ∷ []) 4 2 (refused 6 0)
-    ∷ ask (0x0700000000000000000000 ∷ []) 4 2 (refused 6 0)
+    ∷ ask (0x0800000000000000000000 ∷ []) 4 2 (refused 6 0)
     ∷ ask (0x0100010000000a00010000 ∷ []) 4 2 (refused 6 0)
     ∷ ask (0x0500010000000000000000 ∷ []) 4 2 (refused 6 0)
     -- the same place again, a number again, a number passed over
@@ -55,6 +59,17 @@ asks =
     ∷ ask (0x0200010000000000000000 ∷ 0x0100010000000a00010005 ∷ []) 4 2 (refused 11 0)
     ∷ ask (0x0100010000000a00010005 ∷ 0x0400000000000000000000 ∷ 0x0100020000000a00010005 ∷ []) 4 2 (refused 10 2)
     ∷ ask (0x0500000000000000000000 ∷ 0x0100010000000a00010005 ∷ []) 4 2 (refused 7 1)
+    -- 02, request l: a 07 line first, behind a sync, behind another 07 line, behind a site line and behind a child's return
+    ∷ ask (0x0700000000000100000000 ∷ []) 4 2 (refused 22 0)
+    ∷ ask (0x0600000000000100000000 ∷ 0x0400000000000000000000 ∷ 0x0700000000000100000000 ∷ []) 4 2 (refused 22 2)
+    ∷ ask (0x0600000000000100000000 ∷ 0x0700000000000100000000 ∷ 0x0700000000000100000000 ∷ []) 4 2 (refused 22 2)
+    ∷ ask (0x0600000000000100000000 ∷ 0x0100010000000a00010005 ∷ 0x0700000000000100000000 ∷ []) 4 2 (refused 22 2)
+    ∷ ask (0x0100010000000a00010005 ∷ 0x0200010000000000000000 ∷ 0x0600000000000100000000 ∷ 0x0500000000000000000000 ∷ 0x0700000000000100000000 ∷ []) 4 2 (refused 22 4)
+    -- after the root's return, with nothing in it, with a site; behind the last cost before a return
+    ∷ ask (0x0600000000000100000000 ∷ 0x0500000000000000000000 ∷ 0x0700000000000100000000 ∷ []) 4 2 (refused 7 2)
+    ∷ ask (0x0600000000000100000000 ∷ 0x0700000000000000000000 ∷ []) 4 2 (refused 6 1)
+    ∷ ask (0x0600000000000100000000 ∷ 0x0700010000000100000000 ∷ []) 4 2 (refused 6 1)
+    ∷ ask (0x0600000000000100000000 ∷ 0x0700000000000500000000 ∷ 0x0500000000000000000000 ∷ []) 4 2 (accepted (Cost 1 ∷ Instructions 5 ∷ Return ∷ []))
     -- places that differ in the file, in the line or in the column alone
     ∷ ask (0x0100010000000a00010005 ∷ 0x0100020000000a00020005 ∷ 0x0100030000000b00010005 ∷ 0x0100040000000a00010006 ∷ []) 4 4 (refused 14 4)
     -- within a line the smallest number: 7 before 11, but 6 and 5 before 7; 8 before 9 and 10
@@ -94,3 +109,36 @@ met-text =
 
 pub still-parallel : (verdict met-text 4 2 true ≡ accepted (linesOf met)) × Span (linesOf met) root 5
 still-parallel = (refl, span-here met-text met refl)
+
+-- 02, request l: "The chain is still chosen by cycles." Cost 1 with 10 instructions, spawn 1 {9 with 2}, cost 5 with 1000,
+-- and a cost 1 with none: the child is on the chain, of fewer instructions than what is beside it.
+abbrev carrying : Body
+carrying =
+    leaf (note (site 1 (record { file = 1; line = 10; column = 5 })))
+    (leaf (spend 1) (leaf (note (carry 10)) (child spawn 1 (leaf (spend 9) (leaf (note (carry 2)) done))
+    (leaf (spend 5) (leaf (note (carry 1000)) (leaf (spend 1) done))))))
+
+abbrev carrying-text : List ℕ
+carrying-text =
+    text (0x0100010000000a00010005 ∷ 0x0600000000000100000000 ∷ 0x0700000000000a00000000 ∷ 0x0300010000000000000000 ∷ 0x0600000000000900000000 ∷ 0x0700000000000200000000 ∷ 0x0500000000000000000000 ∷ 0x0600000000000500000000 ∷ 0x070000000003e800000000 ∷ 0x0600000000000100000000 ∷ 0x0500000000000000000000 ∷ [])
+
+-- lines 1 and 4 are on the chain
+abbrev on-chain : List ℕ
+on-chain = 1 ∷ 4 ∷ []
+
+carrying-chain : linesIn (chainOf 0 0 carrying) ≡ on-chain
+unfolding choose
+carrying-chain = refl
+
+pub by-cycles : (verdict carrying-text 4 2 true ≡ accepted (linesOf carrying)) × Span (linesOf carrying) root 10 × Chosen (linesOf carrying) on-chain
+by-cycles = (refl, span-here carrying-text carrying refl, subst (Chosen (linesOf carrying)) carrying-chain (chosen-here carrying-text carrying refl))
+
+-- columns 4 to 7 of both rows
+abbrev columns-of : ℕ → List ℕ
+columns-of s = local (linesOf carrying) s ∷ onSpan (linesOf carrying) on-chain s ∷ ilocal (linesOf carrying) s ∷ ionSpan (linesOf carrying) on-chain s ∷ []
+
+pub root-row : columns-of 0 ≡ 7 ∷ 1 ∷ 1010 ∷ 10 ∷ []
+root-row = refl
+
+pub child-row : columns-of 1 ≡ 9 ∷ 9 ∷ 2 ∷ 2 ∷ []
+child-row = refl

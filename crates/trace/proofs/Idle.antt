@@ -5,7 +5,7 @@ use mathlib.Core.Path.{_≡_, refl, ap, _∙_, sym, subst}
 use native.Mathlib.Omega.{arith}
 use lib.ListN.{length, getD}
 use Rattle.line.specs.declared.Frame.{Frame}
-use Rattle.trace.specs.Rows.{ofRow, unenclosed, inside, direct, directOn, sum, Sum, calls, work, Spans, local, onSpan}
+use Rattle.trace.specs.Rows.{ofRow, unenclosed, cycles, instructions, inside, direct, directOn, sum, Sum, calls, work, Spans, local, onSpan, ilocal, ionSpan}
 use Rattle.trace.specs.Series.{Span}
 use Rattle.trace.specs.Column.{Column, slot}
 use Rattle.trace.specs.Promise.{Row}
@@ -19,7 +19,7 @@ module _ (t : List Frame) (s : ℕ) (idle : calls t s ≡ 0) where
   pub none-made : ofRow t s ≡ []
   none-made = no-length (ofRow t s) idle
 
-  -- so columns 2 to 5 are sums of nothing
+  -- so columns 2 to 7 are sums of nothing
   pub no-work : work t s ≡ 0
   no-work = ap (λ (l : List ℕ). sum (inside t) (unenclosed t s l)) none-made
 
@@ -27,10 +27,16 @@ module _ (t : List Frame) (s : ℕ) (idle : calls t s ≡ 0) where
   no-spans n h = subst (λ (l : List ℕ). Sum (Span t) (unenclosed t s l) n) none-made h
 
   pub no-local : local t s ≡ 0
-  no-local = ap (sum (direct t)) none-made
+  no-local = ap (sum (direct cycles t)) none-made
 
   pub no-on-span : (c : List ℕ) → onSpan t c s ≡ 0
-  no-on-span c = ap (sum (directOn t c)) none-made
+  no-on-span c = ap (sum (directOn cycles t c)) none-made
+
+  pub no-ilocal : ilocal t s ≡ 0
+  no-ilocal = ap (sum (direct instructions t)) none-made
+
+  pub no-ion-span : (c : List ℕ) → ionSpan t c s ≡ 0
+  no-ion-span c = ap (sum (directOn instructions t c)) none-made
 
 -- and what an engine writes for it is zeros
 pub idle-row : (t : List Frame) (c rows : List ℕ) (s : ℕ) → Row t c rows s → getD rows (slot s Column.calls) 0 ≡ 0 → (k : Column) → getD rows (slot s k) 0 ≡ 0
@@ -45,3 +51,5 @@ idle-row t c rows s r e = go
     go Column.span = no-spans t s idle _ (r .span-is)
     go Column.local = r .local-is ∙ no-local t s idle
     go Column.onSpan = r .on-span-is ∙ no-on-span t s idle c
+    go Column.ilocal = r .ilocal-is ∙ no-ilocal t s idle
+    go Column.ionSpan = r .ion-span-is ∙ no-ion-span t s idle c

@@ -10,8 +10,8 @@ use native.Mathlib.Numerals.{one-add}
 use native.Mathlib.Omega.{arith}
 use lib.Dec.{when}
 use Rattle.line.specs.declared.Frame.{Frame}
-use Rattle.line.specs.declared.Frame.the-variants.{Site, Call, Spawn, Sync, Return, Cost}
-use Rattle.trace.specs.Tree.{Way, call, spawn, opening, Note, site, noteLine, Leaf, spend, sync, note, lineOf, Body, done, leaf, child, linesOf, size}
+use Rattle.line.specs.declared.Frame.the-variants.{Site, Call, Spawn, Sync, Return, Cost, Instructions}
+use Rattle.trace.specs.Tree.{Way, call, spawn, opening, Note, site, carry, noteLine, Leaf, spend, sync, note, lineOf, Body, done, leaf, child, linesOf, size}
 use Rattle.trace.proofs.Basics.{below}
 
 -- A walk to the line that stands i lines on, which counts the invocations that open on the way. hit: what the line
@@ -29,6 +29,7 @@ module _ (hit : Type 0) (pass : Bool) (out : List Frame → ℕ → Type 0) wher
   climb zero (Return ∷ t) (suc i) = out t i
   climb (suc k) (Return ∷ t) (suc i) = climb k t i
   climb k (Cost v ∷ t) (suc i) = climb k t i
+  climb k (Instructions v ∷ t) (suc i) = climb k t i
 
 abbrev pub never : List Frame → ℕ → Type 0
 never t i = ⊥
@@ -57,12 +58,14 @@ Beside (Spawn s ∷ t) (suc i) (suc j) = (In t i × Past t j) ⊎ Beside t i j
 Beside (Sync ∷ t) (suc i) (suc j) = Beside t i j
 Beside (Return ∷ t) (suc i) (suc j) = Beside t i j
 Beside (Cost v ∷ t) (suc i) (suc j) = Beside t i j
+Beside (Instructions v ∷ t) (suc i) (suc j) = Beside t i j
 
 -- ── what both say of an item's first line ──
 
 module _ (hit : Type 0) (pass : Bool) (out : List Frame → ℕ → Type 0) where
   climb-note : (x : Note) (k : ℕ) (t : List Frame) (i : ℕ) → climb hit pass out k (noteLine x ∷ t) (suc i) ≡ climb hit pass out k t i
   climb-note (site s p) k t i = refl
+  climb-note (carry v) k t i = refl
 
   climb-leaf : (l : Leaf) (k : ℕ) (t : List Frame) (i : ℕ) → climb hit pass out (suc k) (lineOf l ∷ t) (suc i) ≡ climb hit pass out (suc k) t i
   climb-leaf (spend v) k t i = refl
@@ -83,6 +86,7 @@ pub beside-leaf : (l : Leaf) (t : List Frame) (i j : ℕ) → Beside (lineOf l �
 beside-leaf (spend v) t i j = refl
 beside-leaf sync t i j = refl
 beside-leaf (note (site s p)) t i j = refl
+beside-leaf (note (carry v)) t i j = refl
 
 -- A, where the way is a spawn
 abbrev pub Spawning : Way → Type 0 → Type 0

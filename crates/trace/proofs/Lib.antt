@@ -2,6 +2,7 @@ pub mod Basics
 pub mod Cases
 pub mod Slots
 pub mod Tree
+pub mod Measures
 pub mod Checks
 pub mod Scan
 pub mod Levels
@@ -14,6 +15,7 @@ pub mod Chains
 pub mod Sites
 pub mod Parse
 pub mod Named
+pub mod Owned
 pub mod Sums
 pub mod Accept
 pub mod Invocations
@@ -24,6 +26,7 @@ pub mod Columns
 pub mod OnChain
 pub mod AtMost
 pub mod Outermost
+pub mod Plain
 pub mod Idle
 pub mod Small
 pub mod Outcome

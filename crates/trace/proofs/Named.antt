@@ -8,7 +8,7 @@ use Prim.Native.Nat.{ℕ, suc}
 use lib.Dec.{eqb}
 use Rattle.line.specs.declared.Place.{Place}
 use Rattle.line.specs.declared.Frame.{Frame}
-use Rattle.line.specs.declared.Frame.the-variants.{Site, Call, Spawn, Sync, Return, Cost}
+use Rattle.line.specs.declared.Frame.the-variants.{Site, Call, Spawn, Sync, Return, Cost, Instructions}
 use Rattle.trace.specs.Shape.{ifSite, sites}
 use Rattle.trace.specs.Refusals.{lastSite, misplaced, aboveM, placed, placeAgain, declared, undeclared}
 use Rattle.trace.proofs.Cases.{both-ways, makes-same}
@@ -35,6 +35,7 @@ naming (Spawn s ∷ t) = Spawn s ∷ naming t
 naming (Sync ∷ t) = naming t
 naming (Return ∷ t) = naming t
 naming (Cost v ∷ t) = naming t
+naming (Instructions v ∷ t) = naming t
 
 pub naming-append : (t u : List Frame) → naming (t ++ u) ≡ naming t ++ naming u
 naming-append [] u = refl
@@ -44,6 +45,7 @@ naming-append (Spawn s ∷ t) u = ap (λ (l : List Frame). Spawn s ∷ l) (namin
 naming-append (Sync ∷ t) u = naming-append t u
 naming-append (Return ∷ t) u = naming-append t u
 naming-append (Cost v ∷ t) u = naming-append t u
+naming-append (Instructions v ∷ t) u = naming-append t u
 
 sites-naming : (t : List Frame) → sites (naming t) ≡ sites t
 sites-naming [] = refl
@@ -53,6 +55,7 @@ sites-naming (Spawn s ∷ t) = sites-naming t
 sites-naming (Sync ∷ t) = sites-naming t
 sites-naming (Return ∷ t) = sites-naming t
 sites-naming (Cost v ∷ t) = sites-naming t
+sites-naming (Instructions v ∷ t) = sites-naming t
 
 -- lines that name alike have as many sites
 pub sites-alike : (t u : List Frame) → naming t ≡ naming u → sites t ≡ sites u
@@ -66,6 +69,7 @@ last-naming n (Spawn s ∷ t) = last-naming n t
 last-naming n (Sync ∷ t) = last-naming n t
 last-naming n (Return ∷ t) = last-naming n t
 last-naming n (Cost v ∷ t) = last-naming n t
+last-naming n (Instructions v ∷ t) = last-naming n t
 
 placed-naming : (p : Place) (t : List Frame) → placed p (naming t) ≡ placed p t
 placed-naming p [] = refl
@@ -75,6 +79,7 @@ placed-naming p (Spawn s ∷ t) = placed-naming p t
 placed-naming p (Sync ∷ t) = placed-naming p t
 placed-naming p (Return ∷ t) = placed-naming p t
 placed-naming p (Cost v ∷ t) = placed-naming p t
+placed-naming p (Instructions v ∷ t) = placed-naming p t
 
 declared-naming : (s : ℕ) (t : List Frame) → declared s (naming t) ≡ declared s t
 declared-naming s [] = refl
@@ -84,6 +89,7 @@ declared-naming s (Spawn i ∷ t) = declared-naming s t
 declared-naming s (Sync ∷ t) = declared-naming s t
 declared-naming s (Return ∷ t) = declared-naming s t
 declared-naming s (Cost v ∷ t) = declared-naming s t
+declared-naming s (Instructions v ∷ t) = declared-naming s t
 
 -- what the rules say of a line is the same behind the lines that have a say
 module _ (M : ℕ) (b : List Frame) (f : Frame) where
@@ -116,6 +122,7 @@ says M (Spawn s) = inl (λ t. refl)
 says M Sync = inr (record { skipped = λ t. refl; passes = λ b. record { not8 = refl; not9 = refl; not10 = refl; not11 = refl } })
 says M Return = inr (record { skipped = λ t. refl; passes = λ b. record { not8 = refl; not9 = refl; not10 = refl; not11 = refl } })
 says M (Cost v) = inr (record { skipped = λ t. refl; passes = λ b. record { not8 = refl; not9 = refl; not10 = refl; not11 = refl } })
+says M (Instructions v) = inr (record { skipped = λ t. refl; passes = λ b. record { not8 = refl; not9 = refl; not10 = refl; not11 = refl } })
 
 -- one line more, among all lines and among those that have a say
 module _ (M : ℕ) (b : List Frame) (f : Frame) (t : List Frame) where

@@ -9,7 +9,7 @@ use lib.ListN.{length}
 use lib.Dec.{T, eqb}
 use borrow.Author.Tests.{eqb-true, eq-eqb}
 use Rattle.line.specs.declared.Frame.{Frame}
-use Rattle.line.specs.declared.Frame.the-variants.{Site, Call, Spawn, Sync, Return, Cost}
+use Rattle.line.specs.declared.Frame.the-variants.{Site, Call, Spawn, Sync, Return, Cost, Instructions}
 use Rattle.trace.specs.Shape.{Is, step, walk, has, firstIs}
 use Rattle.trace.proofs.Basics.{clash}
 use Rattle.trace.proofs.Levels.{climb, never, Near}
@@ -113,6 +113,7 @@ gone b n o (Sync ∷ u) (suc i) l h k = gone b (suc n) o u i (omega arith) h k
 gone b n [] (Return ∷ u) (suc i) l h k = gone b (suc n) [] u i (omega arith) h k
 gone b n (c ∷ o) (Return ∷ u) (suc i) l h k = gone b (suc n) o u i (omega arith) (λ m. h (has-later b c o m)) k
 gone b n o (Cost v ∷ u) (suc i) l h k = gone b (suc n) o u i (omega arith) h k
+gone b n o (Instructions v ∷ u) (suc i) l h k = gone b (suc n) o u i (omega arith) h k
 
 -- ── In ──
 
@@ -128,6 +129,7 @@ in-to b zero n o (Return ∷ u) (suc i) l h w = absurd w
 in-to b (suc k) n [] (Return ∷ u) (suc i) l h w = absurd h
 in-to b (suc k) n (c ∷ o) (Return ∷ u) (suc i) l h w = in-to b k (suc n) o u i (omega arith) (h .1) w
 in-to b k n o (Cost v ∷ u) (suc i) l h w = in-to b k (suc n) o u i (omega arith) h w
+in-to b k n o (Instructions v ∷ u) (suc i) l h w = in-to b k (suc n) o u i (omega arith) h w
 
 pub in-from : (b k n : ℕ) (o : List ℕ) (u : List Frame) (i : ℕ) → b ≤ n → Nth b k o → i < length u → T (has b (walk n o u i)) → climb (Unit {0}) true never k u i
 in-from b k n o [] i l h m w = absurd (omega arith)
@@ -142,6 +144,7 @@ in-from b zero n (c ∷ o) (Return ∷ u) (suc i) l h m w = gone b (suc n) o u i
 in-from b (suc k) n [] (Return ∷ u) (suc i) l h m w = absurd h
 in-from b (suc k) n (c ∷ o) (Return ∷ u) (suc i) l h m w = in-from b k (suc n) o u i (omega arith) (h .1) (omega arith) w
 in-from b k n o (Cost v ∷ u) (suc i) l h m w = in-from b k (suc n) o u i (omega arith) h (omega arith) w
+in-from b k n o (Instructions v ∷ u) (suc i) l h m w = in-from b k (suc n) o u i (omega arith) h (omega arith) w
 
 -- ── Near: b is still open, and no sync directly in b lies between ──
 
@@ -184,6 +187,9 @@ near-to b (suc k) n (c ∷ o) (Return ∷ u) (suc i) l h w =
 near-to b k n o (Cost v ∷ u) (suc i) l h w =
     let r = near-to b k (suc n) o u i (omega arith) h w in
     (r .0, unjoined-cons b n o (Cost v) u i (λ e f. clash (cc)) (r .1))
+near-to b k n o (Instructions v ∷ u) (suc i) l h w =
+    let r = near-to b k (suc n) o u i (omega arith) h w in
+    (r .0, unjoined-cons b n o (Instructions v) u i (λ e f. clash (cc)) (r .1))
 
 pub near-from : (b k n : ℕ) (o : List ℕ) (u : List Frame) (i : ℕ) → b ≤ n → Nth b k o → i < length u → T (has b (walk n o u i)) → Unjoined b n o u i → climb (Unit {0}) false never k u i
 near-from b k n o [] i l h m w j = absurd (omega arith)
@@ -199,6 +205,7 @@ near-from b zero n (c ∷ o) (Return ∷ u) (suc i) l h m w j = gone b (suc n) o
 near-from b (suc k) n [] (Return ∷ u) (suc i) l h m w j = absurd h
 near-from b (suc k) n (c ∷ o) (Return ∷ u) (suc i) l h m w j = near-from b k (suc n) o u i (omega arith) (h .1) (omega arith) w (unjoined-tail b n (c ∷ o) Return u i j)
 near-from b k n o (Cost v ∷ u) (suc i) l h m w j = near-from b k (suc n) o u i (omega arith) h (omega arith) w (unjoined-tail b n o (Cost v) u i j)
+near-from b k n o (Instructions v ∷ u) (suc i) l h m w j = near-from b k (suc n) o u i (omega arith) h (omega arith) w (unjoined-tail b n o (Instructions v) u i j)
 
 -- ── Past: G has returned, and from there on Near holds of F ──
 
@@ -251,6 +258,7 @@ past-to G F zero n (c ∷ o) (Return ∷ u) (suc j) l f h w =
 past-to G F (suc k) n [] (Return ∷ u) (suc j) l f h w = absurd h
 past-to G F (suc k) n (c ∷ o) (Return ∷ u) (suc j) l f h w = passed-cons G F n (c ∷ o) Return u j (past-to G F k (suc n) o u j (omega arith) f (h .1) w)
 past-to G F k n o (Cost v ∷ u) (suc j) l f h w = passed-cons G F n o (Cost v) u j (past-to G F k (suc n) o u j (omega arith) f h w)
+past-to G F k n o (Instructions v ∷ u) (suc j) l f h w = passed-cons G F n o (Instructions v) u j (past-to G F k (suc n) o u j (omega arith) f h w)
 
 pub past-from : (G F k n : ℕ) (o : List ℕ) (u : List Frame) (j : ℕ) → G ≤ n → F < G → Two G F k o → j < length u → Passed G F n o u j → climb ⊥ true Near k u j
 past-from G F k n o [] j l f h m p = absurd (omega arith)
@@ -272,3 +280,4 @@ past-from G F (suc k) n [] (Return ∷ u) (suc j) l f h m p = absurd h
 past-from G F (suc k) n (c ∷ o) (Return ∷ u) (suc j) l f h m p =
     past-from G F k (suc n) o u j (omega arith) f (h .1) (omega arith) (passed-tail G F n (c ∷ o) Return u j (λ e g. above-two G F k (c ∷ o) h g) p)
 past-from G F k n o (Cost v ∷ u) (suc j) l f h m p = past-from G F k (suc n) o u j (omega arith) f h (omega arith) (passed-tail G F n o (Cost v) u j (λ e g. clash (cc)) p)
+past-from G F k n o (Instructions v ∷ u) (suc j) l f h m p = past-from G F k (suc n) o u j (omega arith) f h (omega arith) (passed-tail G F n o (Instructions v) u j (λ e g. clash (cc)) p)

@@ -18,7 +18,7 @@ use Rattle.trace.specs.Rows.{columns, Spans}
 use Rattle.trace.specs.Column.{Column, slot}
 use Rattle.trace.specs.Refusals.{lineCount, Verdict, accepted, refused, verdict}
 use Rattle.trace.specs.Promise.{Engine, tables, marks, Lent, scratchRoom, marksRoom, rowsRoom, enough, acceptance, refusal, Row, Marked, Profile, Kept, Promise}
-use Rattle.trace.specs.Tree.{Body, size, Parts, workOf, spanOf}
+use Rattle.trace.specs.Tree.{Body, size, Parts, workOf, instructionsOf, spanOf}
 use Rattle.trace.specs.Fold.{chainOf}
 use Rattle.trace.specs.ByTree.{cell, RowsBy, ProfileBy}
 use Rattle.trace.specs.Small.{Small}
@@ -30,10 +30,10 @@ use Rattle.trace.proofs.Parse.{parts, accepted-parts}
 use Rattle.trace.proofs.Accept.{sites-le-M}
 use Rattle.trace.proofs.Unique.{spans-unique}
 use Rattle.trace.proofs.Root.{rootChain, root-span, root-chosen, root-span-only, root-chosen-only}
-use Rattle.trace.proofs.Columns.{calls-tree, local-tree, total-tree}
+use Rattle.trace.proofs.Columns.{calls-tree, local-tree, ilocal-tree, total-tree, itotal-tree}
 use Rattle.trace.proofs.Outermost.{work-tree, spans-tree}
-use Rattle.trace.proofs.OnChain.{on-span-tree}
-use Rattle.trace.proofs.Small.{fine-small}
+use Rattle.trace.proofs.OnChain.{on-span-tree, ion-span-tree}
+use Rattle.trace.proofs.Small.{fine-small, itotal-below}
 
 lent-same : (a b : Lent) → a .scratch ≡ b .scratch → a .rows ≡ b .rows → a .marks ≡ b .marks → a ≡ b
 lent-same a b x y z =
@@ -60,6 +60,8 @@ module _ (D : ℕ) (t : List Frame) (p : Parts D t) where
         span-is = subst (Spans t s) (sym (h Column.span)) (spans-tree D t p s);
         local-is = h Column.local ∙ sym (local-tree D t p s);
         on-span-is = h Column.onSpan ∙ sym (on-span-tree D t p s);
+        ilocal-is = h Column.ilocal ∙ sym (ilocal-tree D t p s);
+        ion-span-is = h Column.ionSpan ∙ sym (ion-span-tree D t p s);
       }
 
   row-to : (l : List ℕ) (s : ℕ) → Row t (linesIn (rootChain D t p)) l s → (k : Column) → getD l (slot s k) 0 ≡ cell (p .body) s k
@@ -68,6 +70,8 @@ module _ (D : ℕ) (t : List Frame) (p : Parts D t) where
   row-to l s r Column.span = spans-unique t s _ _ (r .span-is) (spans-tree D t p s)
   row-to l s r Column.local = r .local-is ∙ local-tree D t p s
   row-to l s r Column.onSpan = r .on-span-is ∙ on-span-tree D t p s
+  row-to l s r Column.ilocal = r .ilocal-is ∙ ilocal-tree D t p s
+  row-to l s r Column.ionSpan = r .ion-span-is ∙ ion-span-tree D t p s
 
   -- LAW: what the tree says is a profile
   pub tree-profile : (e : Engine) (before : Lent) (r : Answer) (after : Lent) → ProfileBy e (sites t) (p .body) before r after → Profile e t before r after
@@ -105,6 +109,10 @@ module _ (D : ℕ) (t : List Frame) (p : Parts D t) where
   -- LAW: within the limits the work of the tree is below 2 ^ 54
   pub work-small : (M : ℕ) → Fine D M t → Small (workOf (p .body))
   work-small M f = subst Small (total-tree D t p) (fine-small D M t f .total-work)
+
+  -- LAW: and so are its instructions
+  pub instructions-small : (M : ℕ) → Fine D M t → Small (instructionsOf (p .body))
+  instructions-small M f = omega (arith, itotal-tree D t p, itotal-below D M t f)
 
 -- ── there is one ──
 

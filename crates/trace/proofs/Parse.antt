@@ -9,10 +9,10 @@ use lib.Seq.{append-snoc}
 use lib.Dec.{eqb, ltb}
 use borrow.Author.Tests.{eqb-false, ltb-false, not-false}
 use Rattle.line.specs.declared.Frame.{Frame}
-use Rattle.line.specs.declared.Frame.the-variants.{Site, Call, Spawn, Sync, Return, Cost}
+use Rattle.line.specs.declared.Frame.the-variants.{Site, Call, Spawn, Sync, Return, Cost, Instructions}
 use Rattle.trace.specs.Shape.{root, step, sites}
 use Rattle.trace.specs.Refusals.{openNow, empty, declared, fault, accepted, verdict}
-use Rattle.trace.specs.Tree.{Way, call, spawn, opening, site, Leaf, spend, sync, note, lineOf, LeafWithin, Body, done, leaf, child, linesOf, Within, Parts}
+use Rattle.trace.specs.Tree.{Way, call, spawn, opening, site, carry, Leaf, spend, sync, note, lineOf, LeafWithin, Body, done, leaf, child, linesOf, Within, Parts}
 use Rattle.trace.proofs.Basics.{no-way, neither}
 use Rattle.trace.proofs.Tree.{leaf-step, opening-step, body-one}
 use Rattle.trace.proofs.Scan.{Clean, Fine, accepted-fine, faultless, now}
@@ -122,6 +122,7 @@ module _ (D M m : ℕ) where
   parse (suc k) before [] F o l n op c = absurd (no-way (sym (ap empty op) ∙ c))
   parse (suc k) before (Site s p ∷ u) F o l n op c = plain k (parse k) before u F o (omega arith) op (note (site s p)) tt n c
   parse (suc k) before (Cost v ∷ u) F o l n op c = plain k (parse k) before u F o (omega arith) op (spend v) (c .1) n c
+  parse (suc k) before (Instructions v ∷ u) F o l n op c = plain k (parse k) before u F o (omega arith) op (note (carry v)) (c .1) n c
   parse (suc k) before (Sync ∷ u) F o l n op c = plain k (parse k) before u F o (omega arith) op sync tt n c
   parse (suc k) before (Return ∷ u) F o l n op c =
       record {

@@ -12,7 +12,7 @@ use Rattle.chain.specs.Plan.{CostLine, costs, All, Worth, Positive, weight, cho
 use Rattle.chain.proofs.Lists.{all-append, weight-append}
 use Rattle.chain.proofs.Choose.{test, choose-cases, choose-left, choose-right, choose-empty}
 use Rattle.chain.proofs.Laws.{pick-worth, pick-chosen, chosen-unique}
-use Rattle.trace.specs.Tree.{Way, call, spawn, Leaf, spend, sync, note, LeafWithin, Body, done, leaf, child, size, Within, workOf, larger, spanFrom, spanOf}
+use Rattle.trace.specs.Tree.{Way, call, spawn, Leaf, spend, sync, note, LeafWithin, Body, done, leaf, child, ahead, size, Within, workOf, larger, spanFrom, spanOf}
 use Rattle.trace.specs.Fold.{costAt, block, after, plan, Chains, nothing, joined, spawned, leafChains, childChains, run, chainOf}
 use Rattle.trace.proofs.Apart.{all-together, plan-ordered}
 
@@ -90,8 +90,8 @@ abbrev Tests : Chains → List CostLine → Type 0
 Tests k g = ((weight (k .l) < weight (k .c) + weight g) × (ltb (weight (k .l)) (weight (k .c) + weight g) ≡ true)) ⊎ ((weight (k .c) + weight g ≤ weight (k .l)) × (ltb (weight (k .l)) (weight (k .c) + weight g) ≡ false))
 
 -- the invariant, a leaf and a child at a time
-leaf-is : (l : Leaf) (r : Body) → LeafPaid l → Paid r → (n s : ℕ) (k : Chains) → Ends (suc n) s (leafChains n s l k) r ≡ Ends n s k (leaf l r)
-leaf-is (spend v) r q h n s k = rw (append-assoc (k .c) (costAt n s v ∷ []) (pick (block (suc n) s r)))
+leaf-is : (l : Leaf) (r : Body) → LeafPaid l → Paid r → (n s : ℕ) (k : Chains) → Ends (suc n) s (leafChains n s l (ahead r) k) r ≡ Ends n s k (leaf l r)
+leaf-is (spend v) r q h n s k = rw (append-assoc (k .c) (costAt n s v (ahead r) ∷ []) (pick (block (suc n) s r)))
 leaf-is sync r q h n s k = rw (block-empty r (suc n) s h, append-nil (k .c)) (append-assoc (k .p ++ choose (k .l) (k .c)) (pick (block (suc n) s r)) (pick (after (suc n) s r)))
 leaf-is (note x) r q h n s k = refl
 
@@ -110,7 +110,7 @@ child-is spawn i g r n s k e = go (chainOf (suc n) i g) e (test (weight (k .l)) 
 
 run-is : (b : Body) → Paid b → (n s : ℕ) (k : Chains) → joined (run n s b k) .p ≡ Ends n s k b
 run-is done h n s k = rw (append-nil (k .c)) (sym (append-nil _))
-run-is (leaf l r) h n s k = run-is r (h .1) (suc n) s (leafChains n s l k) ∙ leaf-is l r (h .0) (h .1) n s k
+run-is (leaf l r) h n s k = run-is r (h .1) (suc n) s (leafChains n s l (ahead r) k) ∙ leaf-is l r (h .0) (h .1) n s k
 run-is (child w i g r) h n s k =
     run-is r (h .1) (suc n + size g) s (childChains w (run (suc n) i g) k) ∙ child-is w i g r n s k (run-is g (h .0) (suc n) i nothing ∙ rw (block-empty g (suc n) i (h .0)))
 
@@ -142,9 +142,9 @@ weight-joined k = weight-append (k .p) (choose (k .l) (k .c)) ∙ ap (λ (x : �
 abbrev Spans : Chains → Body → ℕ
 Spans k b = spanFrom (weight (k .p)) (weight (k .l)) (weight (k .c)) b
 
-leaf-spans : (l : Leaf) (r : Body) (n s : ℕ) (k : Chains) → Spans (leafChains n s l k) r ≡ Spans k (leaf l r)
+leaf-spans : (l : Leaf) (r : Body) (n s : ℕ) (k : Chains) → Spans (leafChains n s l (ahead r) k) r ≡ Spans k (leaf l r)
 leaf-spans (spend v) r n s k =
-    let e : weight (k .c ++ costAt n s v ∷ []) ≡ weight (k .c) + v = omega (arith, weight-append (k .c) (costAt n s v ∷ [])) in
+    let e : weight (k .c ++ costAt n s v (ahead r) ∷ []) ≡ weight (k .c) + v = omega (arith, weight-append (k .c) (costAt n s v (ahead r) ∷ [])) in
     ap (λ (c : ℕ). spanFrom (weight (k .p)) (weight (k .l)) c r) e
 leaf-spans sync r n s k = ap (λ (p : ℕ). spanFrom p 0 0 r) (weight-joined k)
 leaf-spans (note x) r n s k = refl
@@ -164,7 +164,7 @@ child-spans spawn i g r n k e = go (chainOf (suc n) i g) e (test (weight (k .l))
 
 weight-run : (b : Body) (n s : ℕ) (k : Chains) → weight (joined (run n s b k) .p) ≡ Spans k b
 weight-run done n s k = weight-joined k
-weight-run (leaf l r) n s k = weight-run r (suc n) s (leafChains n s l k) ∙ leaf-spans l r n s k
+weight-run (leaf l r) n s k = weight-run r (suc n) s (leafChains n s l (ahead r) k) ∙ leaf-spans l r n s k
 weight-run (child w i g r) n s k =
     weight-run r (suc n + size g) s (childChains w (run (suc n) i g) k) ∙ child-spans w i g r n k (weight-run g (suc n) i nothing)
 

@@ -10,13 +10,13 @@ use lib.Dec.{eqb, leb}
 use borrow.Author.Tests.{eqb-true, leb-true, ltb-false, not-false}
 use Rattle.line.specs.declared.Place.{Place}
 use Rattle.line.specs.declared.Frame.{Frame}
-use Rattle.line.specs.declared.Frame.the-variants.{Site, Call, Spawn, Sync, Return, Cost}
+use Rattle.line.specs.declared.Frame.the-variants.{Site, Call, Spawn, Sync, Return, Cost, Instructions}
 use Rattle.line.specs.declared.Read.{Read}
 use Rattle.line.specs.declared.Read.the-variants.{Line, Refused}
-use Rattle.line.specs.Table.{Entry, frame, none, only, table}
+use Rattle.line.specs.Table.{Entry, frame, none, only, valueOnly, table}
 use Rattle.line.specs.Read.{fields, wrong, tabled, readLine, lineAt, readAt}
 use Rattle.trace.specs.Shape.{Is, step, walk}
-use Rattle.trace.specs.Refusals.{outOfRange, mostLines, lineCount, openNow, afterRoot, misplaced, aboveM, placeAgain, undeclared, tooDeep, fault, accepted, refused, judged, scan, readsFrom, reads, verdict}
+use Rattle.trace.specs.Refusals.{outOfRange, mostLines, lineCount, openNow, afterRoot, stray, misplaced, aboveM, placeAgain, undeclared, tooDeep, fault, accepted, refused, judged, scan, readsFrom, reads, verdict}
 use Rattle.trace.proofs.Basics.{clash, both}
 use Rattle.trace.proofs.Checks.{Passed, passed, by-checks}
 
@@ -28,25 +28,28 @@ InTable (Spawn s) = Unit {0}
 InTable Sync = Unit {0}
 InTable Return = Unit {0}
 InTable (Cost v) = (1 ≤ v) × (v ≤ 4294967295)
+InTable (Instructions v) = (1 ≤ v) × (v ≤ 4294967295)
 
 module _ (f : Frame) where
   if-only : (b : Bool) (g : Frame) → (b ≡ true → InTable g) → only b g ≡ frame f → InTable f
   if-only true g h q = let i : g ≡ f = cc in subst InTable i (h refl)
   if-only false g h q = clash (cc)
 
-  cost-only : (k s v p c : ℕ) → cond (eqb k 6) (only (eqb s 0 && leb 1 v && leb v 4294967295 && eqb p 0 && eqb c 0) (Cost v)) none ≡ frame f → InTable f
-  cost-only k s v p c q = go (eqb k 6) q
+  value-in : (s v p c : ℕ) → valueOnly s v p c ≡ true → (1 ≤ v) × (v ≤ 4294967295)
+  value-in s v p c h =
+      let a = both (eqb s 0 && leb 1 v && leb v 4294967295 && eqb p 0) (eqb c 0) h .0 in
+      let b = both (eqb s 0 && leb 1 v && leb v 4294967295) (eqb p 0) a .0 in
+      let d = both (eqb s 0 && leb 1 v) (leb v 4294967295) b in
+      (leb-true 1 v (both (eqb s 0) (leb 1 v) (d .0) .1), leb-true v 4294967295 (d .1))
+
+  -- a cost, or its instructions
+  valued-only : (k s v p c : ℕ) → cond (eqb k 6) (only (valueOnly s v p c) (Cost v)) (cond (eqb k 7) (only (valueOnly s v p c) (Instructions v)) none) ≡ frame f → InTable f
+  valued-only k s v p c q = go (eqb k 6) (eqb k 7) q
     where
-      go : (b : Bool) → cond b (only (eqb s 0 && leb 1 v && leb v 4294967295 && eqb p 0 && eqb c 0) (Cost v)) none ≡ frame f → InTable f
-      go true q =
-          if-only (eqb s 0 && leb 1 v && leb v 4294967295 && eqb p 0 && eqb c 0) (Cost v)
-          (λ h.
-          let a = both (eqb s 0 && leb 1 v && leb v 4294967295 && eqb p 0) (eqb c 0) h .0 in
-          let b = both (eqb s 0 && leb 1 v && leb v 4294967295) (eqb p 0) a .0 in
-          let c = both (eqb s 0 && leb 1 v) (leb v 4294967295) b in
-          (leb-true 1 v (both (eqb s 0) (leb 1 v) (c .0) .1), leb-true v 4294967295 (c .1)))
-          q
-      go false q = clash (cc)
+      go : (a b : Bool) → cond a (only (valueOnly s v p c) (Cost v)) (cond b (only (valueOnly s v p c) (Instructions v)) none) ≡ frame f → InTable f
+      go true b q = if-only (valueOnly s v p c) (Cost v) (value-in s v p c) q
+      go false true q = if-only (valueOnly s v p c) (Instructions v) (value-in s v p c) q
+      go false false q = clash (cc)
 
   others : (a b c d e : Bool) (a′ b′ d′ : Bool) (x : Place) (s : ℕ) (y : Entry) → (y ≡ frame f → InTable f)
       → cond a (only a′ (Site s x)) (cond b (only b′ (Call s)) (cond c (only b′ (Spawn s)) (cond d (only d′ Sync) (cond e (only d′ Return) y)))) ≡ frame f → InTable f
@@ -61,8 +64,8 @@ module _ (f : Frame) where
   in-table k s v p c q =
       others (eqb k 1) (eqb k 2) (eqb k 3) (eqb k 4) (eqb k 5) (leb 1 v && leb 1 p && leb 1 c) (eqb v 0 && eqb p 0 && eqb c 0) (eqb s 0 && eqb v 0 && eqb p 0 && eqb c 0)
       (record { file = p; line = v; column = c }) s
-      (cond (eqb k 6) (only (eqb s 0 && leb 1 v && leb v 4294967295 && eqb p 0 && eqb c 0) (Cost v)) none)
-      (cost-only k s v p c) q
+      (cond (eqb k 6) (only (valueOnly s v p c) (Cost v)) (cond (eqb k 7) (only (valueOnly s v p c) (Instructions v)) none))
+      (valued-only k s v p c) q
 
 -- a line that reads as a frame has its own number, and the frame is in the table
 pub read-line : (s : List ℕ) (n k : ℕ) (f : Frame) → readLine s n ≡ Line k f → (k ≡ n) × InTable f
@@ -205,29 +208,31 @@ accepted-length s D M room t e = reads-length 0 (reads s) t (accepted-is s D M r
 -- no refusal of a line applies
 pub record Faultless (D M : ℕ) (before : List Frame) (f : Frame) : Type 0 where
   pub not7 : afterRoot before ≡ false
+  pub not22 : stray before f ≡ false
   pub not8 : misplaced before f ≡ false
   pub not9 : aboveM M f ≡ false
   pub not10 : placeAgain before f ≡ false
   pub not11 : undeclared before f ≡ false
   pub not12 : tooDeep D before f ≡ false
 
-none-of : (a b c d e f : Bool) → _≡_ {A = ℕ} (cond a 7 (cond b 8 (cond c 9 (cond d 10 (cond e 11 (cond f 12 0)))))) 0
-    → (a ≡ false) × (b ≡ false) × (c ≡ false) × (d ≡ false) × (e ≡ false) × (f ≡ false)
-none-of true b c d e f q = absurd (omega arith)
-none-of false true c d e f q = absurd (omega arith)
-none-of false false true d e f q = absurd (omega arith)
-none-of false false false true e f q = absurd (omega arith)
-none-of false false false false true f q = absurd (omega arith)
-none-of false false false false false true q = absurd (omega arith)
-none-of false false false false false false q = (refl, refl, refl, refl, refl, refl)
+none-of : (a b c d e f g : Bool) → _≡_ {A = ℕ} (cond a 7 (cond b 22 (cond c 8 (cond d 9 (cond e 10 (cond f 11 (cond g 12 0))))))) 0
+    → (a ≡ false) × (b ≡ false) × (c ≡ false) × (d ≡ false) × (e ≡ false) × (f ≡ false) × (g ≡ false)
+none-of true b c d e f g q = absurd (omega arith)
+none-of false true c d e f g q = absurd (omega arith)
+none-of false false true d e f g q = absurd (omega arith)
+none-of false false false true e f g q = absurd (omega arith)
+none-of false false false false true f g q = absurd (omega arith)
+none-of false false false false false true g q = absurd (omega arith)
+none-of false false false false false false true q = absurd (omega arith)
+none-of false false false false false false false q = (refl, refl, refl, refl, refl, refl, refl)
 
 pub faultless : (D M : ℕ) (before : List Frame) (f : Frame) → fault D M before f ≡ 0 → Faultless D M before f
 faultless D M before f e =
-    let h = none-of (afterRoot before) (misplaced before f) (aboveM M f) (placeAgain before f) (undeclared before f) (tooDeep D before f) e in
-    record { not7 = h .0; not8 = h .1; not9 = h .2; not10 = h .3; not11 = h .4; not12 = h .5 }
+    let h = none-of (afterRoot before) (stray before f) (misplaced before f) (aboveM M f) (placeAgain before f) (undeclared before f) (tooDeep D before f) e in
+    record { not7 = h .0; not22 = h .1; not8 = h .2; not9 = h .3; not10 = h .4; not11 = h .5; not12 = h .6 }
 
 pub fault-zero : (D M : ℕ) (before : List Frame) (f : Frame) → Faultless D M before f → fault D M before f ≡ 0
-fault-zero D M before f h = simp (h .not7, h .not8, h .not9, h .not10, h .not11, h .not12)
+fault-zero D M before f h = simp (h .not7, h .not22, h .not8, h .not9, h .not10, h .not11, h .not12)
 
 -- one line more
 walk-snoc : (n : ℕ) (o : List ℕ) (b : List Frame) (f : Frame) → walk n o (b ++ f ∷ []) (length (b ++ f ∷ [])) ≡ step (n + length b) f (walk n o b (length b))

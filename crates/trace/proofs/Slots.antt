@@ -14,7 +14,9 @@ column zero = Column.calls
 column (suc zero) = Column.work
 column (suc (suc zero)) = Column.span
 column (suc (suc (suc zero))) = Column.local
-column (suc (suc (suc (suc j)))) = Column.onSpan
+column (suc (suc (suc (suc zero)))) = Column.onSpan
+column (suc (suc (suc (suc (suc zero))))) = Column.ilocal
+column (suc (suc (suc (suc (suc (suc j)))))) = Column.ionSpan
 
 column-nth : (k : Column) → (column (nth k) ≡ k) × (nth k < columns)
 column-nth Column.calls = (refl, omega arith)
@@ -22,6 +24,8 @@ column-nth Column.work = (refl, omega arith)
 column-nth Column.span = (refl, omega arith)
 column-nth Column.local = (refl, omega arith)
 column-nth Column.onSpan = (refl, omega arith)
+column-nth Column.ilocal = (refl, omega arith)
+column-nth Column.ionSpan = (refl, omega arith)
 
 pub nth-in : (k : Column) → nth k < columns
 nth-in k = column-nth k .1
@@ -32,7 +36,9 @@ nth-column (suc zero) l = refl
 nth-column (suc (suc zero)) l = refl
 nth-column (suc (suc (suc zero))) l = refl
 nth-column (suc (suc (suc (suc zero)))) l = refl
-nth-column (suc (suc (suc (suc (suc j))))) l = absurd (omega arith)
+nth-column (suc (suc (suc (suc (suc zero))))) l = refl
+nth-column (suc (suc (suc (suc (suc (suc zero)))))) l = refl
+nth-column (suc (suc (suc (suc (suc (suc (suc j))))))) l = absurd (omega arith)
 
 -- LAW: what holds of each column of a row holds of each of its numbers
 pub by-nth : (p : ℕ → Type 0) → ((k : Column) → p (nth k)) → (j : ℕ) → j < columns → p j

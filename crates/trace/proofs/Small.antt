@@ -1,5 +1,5 @@
--- Within the limits all five columns of every row and both totals stay below 2 ^ 54, so that no sum of an engine wraps.
--- No number but calls exceeds the total work, and that is at most 65,536 values below 2 ^ 32.
+-- Within the limits all seven columns of every row and both totals stay below 2 ^ 54, so that no sum of an engine wraps.
+-- No number but calls exceeds the total work or all instructions, and these are at most 65,536 values below 2 ^ 32.
 use mathlib.Core.Path.{_≡_, refl}
 use mathlib.Core.Bool.{Bool, true, false, cond}
 use mathlib.Core.List.{List, [], _∷_, _++_}
@@ -7,17 +7,17 @@ use Prim.Native.Nat.{ℕ, zero, suc, _*_, _^_, _≤_, _<_}
 use native.Mathlib.Omega.{arith}
 use lib.ListN.{length}
 use Rattle.line.specs.declared.Frame.{Frame}
-use Rattle.line.specs.declared.Frame.the-variants.{Site, Call, Spawn, Sync, Return, Cost}
-use Rattle.trace.specs.Shape.{root, step}
+use Rattle.line.specs.declared.Frame.the-variants.{Site, Call, Spawn, Sync, Return, Cost, Instructions}
+use Rattle.trace.specs.Shape.{ifCost, root, step}
 use Rattle.trace.specs.Series.{value, Span}
-use Rattle.trace.specs.Rows.{makes, made, sumOf, total, calls}
+use Rattle.trace.specs.Rows.{makes, made, Measure, cycles, carried, instructions, sumOf, total, itotal, calls}
 use Rattle.trace.specs.Refusals.{accepted, verdict}
 use Rattle.trace.specs.Tree.{Parts}
 use Rattle.trace.specs.Small.{Small, AllSmall}
 use Rattle.trace.proofs.Scan.{InTable, Clean, Fine, accepted-fine}
 use Rattle.trace.proofs.Parse.{parts}
-use Rattle.trace.proofs.Columns.{local-le}
-use Rattle.trace.proofs.AtMost.{on-span-le}
+use Rattle.trace.proofs.Columns.{local-le, ilocal-le}
+use Rattle.trace.proofs.AtMost.{on-span-le, ion-span-le}
 use Rattle.trace.proofs.Outermost.{work-le, spans-below}
 
 -- "values below 2^32"
@@ -28,11 +28,45 @@ value-le (Spawn s) h = omega arith
 value-le Sync h = omega arith
 value-le Return h = omega arith
 value-le (Cost v) h = h .1
+value-le (Instructions v) h = omega arith
+
+-- of the lines behind a line as well
+abbrev FirstIn : List Frame → Type 0
+FirstIn [] = Unit {0}
+FirstIn (f ∷ u) = InTable f
+
+first-in : (D M : ℕ) (before u : List Frame) → Clean D M before u → FirstIn u
+first-in D M before [] c = tt
+first-in D M before (f ∷ u) c = c .1
+
+carried-le : (u : List Frame) → FirstIn u → carried u ≤ 4294967295
+carried-le [] h = omega arith
+carried-le (Site s p ∷ u) h = omega arith
+carried-le (Call s ∷ u) h = omega arith
+carried-le (Spawn s ∷ u) h = omega arith
+carried-le (Sync ∷ u) h = omega arith
+carried-le (Return ∷ u) h = omega arith
+carried-le (Cost v ∷ u) h = omega arith
+carried-le (Instructions v ∷ u) h = h .1
+
+instructions-le : (f : Frame) (u : List Frame) → FirstIn u → instructions f u ≤ 4294967295
+instructions-le f u h = go f
+  where
+    go : (f : Frame) → ifCost (λ v. carried u) 0 f ≤ 4294967295
+    go (Site s p) = omega arith
+    go (Call s) = omega arith
+    go (Spawn s) = omega arith
+    go Sync = omega arith
+    go Return = omega arith
+    go (Cost v) = carried-le u h
+    go (Instructions v) = omega arith
 
 -- so many of them as there are lines
-costs-le : (D M n : ℕ) (o : List ℕ) (before u : List Frame) → Clean D M before u → sumOf (λ k o. true) n o u ≤ length u * 4294967295
-costs-le D M n o before [] c = omega arith
-costs-le D M n o before (f ∷ u) c = omega (arith, value-le f (c .1), costs-le D M (suc n) (step n f o) (before ++ f ∷ []) u (c .2))
+module _ (m : Measure) (one : (f : Frame) (u : List Frame) → InTable f → FirstIn u → m f u ≤ 4294967295) where
+  costs-le : (D M n : ℕ) (o : List ℕ) (before u : List Frame) → Clean D M before u → sumOf m (λ k o. true) n o u ≤ length u * 4294967295
+  costs-le D M n o before [] c = omega arith
+  costs-le D M n o before (f ∷ u) c =
+      omega (arith, one f u (c .1) (first-in D M (before ++ f ∷ []) u (c .2)), costs-le D M (suc n) (step n f o) (before ++ f ∷ []) u (c .2))
 
 -- no more invocations are made than there are lines
 made-le : (n : ℕ) (u : List Frame) (s : ℕ) → length (made n u s) ≤ length u
@@ -49,11 +83,18 @@ module _ (D M : ℕ) (t : List Frame) (f : Fine D M t) where
 
   -- LAW: the total work is below 2 ^ 48, whatever the depth
   pub total-below : total t < 2 ^ 48
-  total-below = omega (arith, costs-le D M 0 (root ∷ []) [] t (f .clean), f .lines-most)
+  total-below = omega (arith, costs-le cycles (λ e u h k. value-le e h) D M 0 (root ∷ []) [] t (f .clean), f .lines-most)
+
+  -- LAW: and so are all instructions
+  pub itotal-below : itotal t < 2 ^ 48
+  itotal-below = omega (arith, costs-le instructions (λ e u h k. instructions-le e u k) D M 0 (root ∷ []) [] t (f .clean), f .lines-most)
 
   -- nothing that it bounds is larger
   as-total : (n : ℕ) → n ≤ total t → Small n
   as-total n l = omega (arith, total-below)
+
+  as-itotal : (n : ℕ) → n ≤ itotal t → Small n
+  as-itotal n l = omega (arith, itotal-below)
 
   calls-small : (s : ℕ) → Small (calls t s)
   calls-small zero = omega arith
@@ -74,6 +115,8 @@ module _ (D M : ℕ) (t : List Frame) (f : Fine D M t) where
         spans-are = λ s n h. as-total n (spans-below D t tree s n h);
         local-is = λ s. as-total _ (local-le D t tree s);
         on-span-is = λ c s. as-total _ (omega (arith, on-span-le t c s, local-le D t tree s));
+        ilocal-is = λ s. as-itotal _ (ilocal-le D t tree s);
+        ion-span-is = λ c s. as-itotal _ (omega (arith, ion-span-le t c s, ilocal-le D t tree s));
       }
 
 -- LAW: "every column stays below 2^54", of every accepted trace, and so do both totals

@@ -5,10 +5,10 @@ use Prim.Native.Nat.{ℕ, suc}
 use native.Mathlib.Omega.{arith}
 use lib.ListN.{length, length-append}
 use Rattle.line.specs.declared.Frame.{Frame}
-use Rattle.line.specs.declared.Frame.the-variants.{Site, Call, Spawn, Sync, Return, Cost}
+use Rattle.line.specs.declared.Frame.the-variants.{Site, Call, Spawn, Sync, Return, Cost, Instructions}
 use Rattle.trace.specs.Shape.{ifMakes, step}
 use Rattle.trace.specs.Series.{value}
-use Rattle.trace.specs.Tree.{Way, call, spawn, opening, Note, site, noteLine, Leaf, spend, sync, note, lineOf, leafWork, Body, done, leaf, child, linesOf, size}
+use Rattle.trace.specs.Tree.{Way, call, spawn, opening, Note, site, carry, noteLine, Leaf, spend, sync, note, lineOf, leafWork, Body, done, leaf, child, linesOf, size}
 use Rattle.trace.proofs.Basics.{clash}
 
 pub size-is : (b : Body) → length (linesOf b) ≡ size b
@@ -21,6 +21,7 @@ pub leaf-step : (l : Leaf) (n : ℕ) (o : List ℕ) → step n (lineOf l) o ≡ 
 leaf-step (spend v) n o = refl
 leaf-step sync n o = refl
 leaf-step (note (site i p)) n o = refl
+leaf-step (note (carry v)) n o = refl
 
 pub opening-step : (w : Way) (s n : ℕ) (o : List ℕ) → step n (opening w s) o ≡ suc n ∷ o
 opening-step call s n o = refl
@@ -31,6 +32,7 @@ pub leaf-makes : {A : Type 0} (a : ℕ → A) (b : A) (l : Leaf) → ifMakes a b
 leaf-makes a b (spend v) = refl
 leaf-makes a b sync = refl
 leaf-makes a b (note (site i p)) = refl
+leaf-makes a b (note (carry v)) = refl
 
 pub opening-makes : {A : Type 0} (a : ℕ → A) (b : A) (w : Way) (s : ℕ) → ifMakes a b (opening w s) ≡ a s
 opening-makes a b call s = refl
@@ -40,6 +42,7 @@ pub leaf-value : (l : Leaf) → value (lineOf l) ≡ leafWork l
 leaf-value (spend v) = refl
 leaf-value sync = refl
 leaf-value (note (site i p)) = refl
+leaf-value (note (carry v)) = refl
 
 pub opening-value : (w : Way) (s : ℕ) → value (opening w s) ≡ 0
 opening-value call s = refl
@@ -55,11 +58,13 @@ sort (Spawn s) = 2
 sort Sync = 1
 sort Return = 0
 sort (Cost v) = 1
+sort (Instructions v) = 1
 
 leaf-sort : (l : Leaf) → sort (lineOf l) ≡ 1
 leaf-sort (spend v) = refl
 leaf-sort sync = refl
 leaf-sort (note (site i p)) = refl
+leaf-sort (note (carry v)) = refl
 
 opening-sort : (w : Way) (s : ℕ) → sort (opening w s) ≡ 2
 opening-sort call s = refl
@@ -82,11 +87,13 @@ leafOf (Spawn i) = sync
 leafOf Sync = sync
 leafOf Return = sync
 leafOf (Cost v) = spend v
+leafOf (Instructions v) = note (carry v)
 
 leaf-back : (l : Leaf) → leafOf (lineOf l) ≡ l
 leaf-back (spend v) = refl
 leaf-back sync = refl
 leaf-back (note (site i p)) = refl
+leaf-back (note (carry v)) = refl
 
 leaf-one : (l k : Leaf) → lineOf l ≡ lineOf k → l ≡ k
 leaf-one l k e = sym (leaf-back l) ∙ ap leafOf e ∙ leaf-back k
@@ -94,6 +101,7 @@ leaf-one l k e = sym (leaf-back l) ∙ ap leafOf e ∙ leaf-back k
 -- a cost is no note
 pub spend-not-note : {A : Type 0} (v : ℕ) (x : Note) → Cost v ≡ noteLine x → A
 spend-not-note v (site i p) e = clash (cc)
+spend-not-note v (carry i) e = clash (cc)
 
 opening-one : (w x : Way) (s i : ℕ) → opening w s ≡ opening x i → (w ≡ x) × (s ≡ i)
 opening-one call call s i e = (refl, cc)

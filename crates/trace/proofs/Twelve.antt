@@ -1,6 +1,6 @@
 -- The twelve traces of document 01: the definitions say of each what its table says.
 use mathlib.Core.Path.{_≡_, refl, sym, ap, subst}
-use mathlib.Core.Bool.{true}
+use mathlib.Core.Bool.{Bool, true}
 use mathlib.Core.List.{List, [], _∷_, map}
 use Prim.Native.Nat.{ℕ}
 use Rattle.chain.specs.Plan.{choose}
@@ -17,6 +17,7 @@ use Rattle.trace.proofs.Tree.{body-one}
 use Rattle.trace.proofs.Parse.{accepted-parts}
 use Rattle.trace.proofs.Root.{root-span, root-chosen}
 use Rattle.trace.proofs.Outermost.{spans-tree}
+use Rattle.trace.proofs.Plain.{plain, plain-is, plain-local, plain-on-span}
 
 -- the trees, which the law finds the chosen chains with
 abbrev pub trees : List Body
@@ -46,9 +47,10 @@ pub record Row : Type 0 where
   pub on0 : ℕ
   pub on1 : ℕ
   pub on2 : ℕ
+  pub without : Bool
 
 abbrev pub expected : Case → Row
-expected c = record { answer = verdict (c .trace) 4 2 true; work = c .work; span = c .span; on0 = c .on0; on1 = c .on1; on2 = c .on2 }
+expected c = record { answer = verdict (c .trace) 4 2 true; work = c .work; span = c .span; on0 = c .on0; on1 = c .on1; on2 = c .on2; without = true }
 
 abbrev pub computed : Body → Row
 computed b =
@@ -59,6 +61,7 @@ computed b =
       on0 = onSpan (linesOf (sited b)) (linesIn (chainOf 0 0 (sited b))) 0;
       on1 = onSpan (linesOf (sited b)) (linesIn (chainOf 0 0 (sited b))) 1;
       on2 = onSpan (linesOf (sited b)) (linesIn (chainOf 0 0 (sited b))) 2;
+      without = plain (linesOf (sited b));
     }
 
 -- the one computed test
@@ -86,6 +89,7 @@ module _ (s : List ℕ) (b : Body) (e : verdict s 4 2 true ≡ accepted (linesOf
 holds : (c : Case) (b : Body) → expected c ≡ computed b → Holds c
 holds c b e =
     let a = ap (λ (r : Row). r .answer) e in
+    let n = plain-is (linesOf (sited b)) (sym (ap (λ (r : Row). r .without) e)) in
     record {
       t = linesOf (sited b);
       is-accepted = a;
@@ -96,6 +100,8 @@ holds c b e =
       on0-is = sym (ap (λ (r : Row). r .on0) e);
       on1-is = sym (ap (λ (r : Row). r .on1) e);
       on2-is = sym (ap (λ (r : Row). r .on2) e);
+      ilocal-is = plain-local (linesOf (sited b)) n;
+      ion-span-is = plain-on-span (linesOf (sited b)) n (linesIn (chainOf 0 0 (sited b)));
     }
 
 all-hold : (cs : List Case) (bs : List Body) → map expected cs ≡ map computed bs → AllHold cs

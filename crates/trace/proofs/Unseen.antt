@@ -13,8 +13,8 @@ use Rattle.line.specs.declared.Frame.the-variants.{Site}
 use Rattle.line.specs.declared.Read.{Read}
 use Rattle.line.specs.declared.Read.the-variants.{Line, Refused}
 use Rattle.line.specs.Read.{readAt}
-use Rattle.trace.specs.Shape.{ifSite, ifMakes, root, step, walk, openAt, sites}
-use Rattle.trace.specs.Refusals.{lineCount, checks, openNow, empty, afterRoot, lastSite, misplaced, aboveM, placeAgain, declared, undeclared, tooDeep, fault, Verdict, accepted, refused, judged, scan, readsFrom, reads, verdict}
+use Rattle.trace.specs.Shape.{ifSite, ifMakes, ifInstructions, root, step, walk, openAt, sites}
+use Rattle.trace.specs.Refusals.{lineCount, checks, openNow, empty, afterRoot, isCost, afterCost, stray, lastSite, misplaced, aboveM, placeAgain, declared, undeclared, tooDeep, fault, Verdict, accepted, refused, judged, scan, readsFrom, reads, verdict}
 use Rattle.trace.specs.Places.{Alike, OnlyPlaces}
 use Rattle.trace.proofs.Basics.{no-way}
 use Rattle.trace.proofs.Cases.{by-site, other, both-ways, makes-same}
@@ -67,6 +67,16 @@ pub sites-blank : (t : List Frame) → sites (blanks t) ≡ sites t
 sites-blank [] = refl
 sites-blank (f ∷ t) = unseen (λ e. sites (e ∷ blanks t)) (λ s p q. refl) f ∙ ap (λ (n : ℕ). ifSite (λ s p. suc n) n f) (sites-blank t)
 
+cost-blank : (b : Bool) (t : List Frame) → afterCost b (blanks t) ≡ afterCost b t
+cost-blank b [] = refl
+cost-blank b (f ∷ t) =
+    ap (λ (c : Bool). afterCost c (blanks t)) (unseen isCost (λ s p q. refl) f) ∙ cost-blank (isCost f) t
+
+stray-blank : (t : List Frame) (f : Frame) → stray (blanks t) (blank f) ≡ stray t f
+stray-blank t f =
+    unseen (stray (blanks t)) (λ s p q. refl) f
+    ∙ ap (λ (c : Bool). ifInstructions (λ v. not c) false f) (cost-blank false t)
+
 last-blank : (n : ℕ) (t : List Frame) → lastSite n (blanks t) ≡ lastSite n t
 last-blank n [] = refl
 last-blank n (f ∷ t) =
@@ -100,18 +110,19 @@ deep-blank D t f =
 
 -- ── the refusals of a line ──
 
--- the smallest number from 7 to 12 that applies, by what applies
-abbrev least : Bool → Bool → Bool → Bool → Bool → Bool → ℕ
-least a b c d e f = cond a 7 (cond b 8 (cond c 9 (cond d 10 (cond e 11 (cond f 12 0)))))
+-- the first of 7, 22 and 8 to 12 that applies, by what applies
+abbrev first : Bool → Bool → Bool → Bool → Bool → Bool → Bool → ℕ
+first a b c d e f g = cond a 7 (cond b 22 (cond c 8 (cond d 9 (cond e 10 (cond f 11 (cond g 12 0))))))
 
-least-but-ten : (a b c d k e f : Bool) → ¬ (least a b c d e f ≡ 10) → ¬ (least a b c k e f ≡ 10)
-    → least a b c d e f ≡ least a b c k e f
-least-but-ten true b c d k e f h i = refl
-least-but-ten false true c d k e f h i = refl
-least-but-ten false false true d k e f h i = refl
-least-but-ten false false false true k e f h i = absurd (h refl)
-least-but-ten false false false false true e f h i = absurd (i refl)
-least-but-ten false false false false false e f h i = refl
+first-but-ten : (a b c d e k f g : Bool) → ¬ (first a b c d e f g ≡ 10) → ¬ (first a b c d k f g ≡ 10)
+    → first a b c d e f g ≡ first a b c d k f g
+first-but-ten true b c d e k f g h i = refl
+first-but-ten false true c d e k f g h i = refl
+first-but-ten false false true d e k f g h i = refl
+first-but-ten false false false true e k f g h i = refl
+first-but-ten false false false false true k f g h i = absurd (h refl)
+first-but-ten false false false false false true f g h i = absurd (i refl)
+first-but-ten false false false false false false f g h i = refl
 
 module _ (D M : ℕ) (t u : List Frame) (f g : Frame) (d : ButPlaces t u) (e : blank f ≡ blank g) where
   snoc-alike : ButPlaces (t ++ f ∷ []) (u ++ g ∷ [])
@@ -129,6 +140,9 @@ module _ (D M : ℕ) (t u : List Frame) (f g : Frame) (d : ButPlaces t u) (e : b
   seven-alike : afterRoot t ≡ afterRoot u
   seven-alike = of-both (λ v h. afterRoot v) (λ v h. ap empty (now-blank v))
 
+  stray-alike : stray t f ≡ stray u g
+  stray-alike = of-both stray stray-blank
+
   eight-alike : misplaced t f ≡ misplaced u g
   eight-alike = of-both misplaced misplaced-blank
 
@@ -141,17 +155,17 @@ module _ (D M : ℕ) (t u : List Frame) (f g : Frame) (d : ButPlaces t u) (e : b
   twelve-alike : tooDeep D t f ≡ tooDeep D u g
   twelve-alike = of-both (tooDeep D) (deep-blank D)
 
-  -- the smallest number of both lines, where 10 applies to both or to neither
-  least-alike : (k : Bool)
-      → least (afterRoot t) (misplaced t f) (aboveM M f) k (undeclared t f) (tooDeep D t f)
-      ≡ least (afterRoot u) (misplaced u g) (aboveM M g) k (undeclared u g) (tooDeep D u g)
-  least-alike k = rw (seven-alike, eight-alike, nine-alike, eleven-alike, twelve-alike)
+  -- the refusal of both lines, where 10 applies to both or to neither
+  first-alike : (k : Bool)
+      → first (afterRoot t) (stray t f) (misplaced t f) (aboveM M f) k (undeclared t f) (tooDeep D t f)
+      ≡ first (afterRoot u) (stray u g) (misplaced u g) (aboveM M g) k (undeclared u g) (tooDeep D u g)
+  first-alike k = rw (seven-alike, stray-alike, eight-alike, nine-alike, eleven-alike, twelve-alike)
 
   -- LAW: but for 10, the same refusal applies to both lines
   fault-alike : ¬ (fault D M t f ≡ 10) → ¬ (fault D M u g ≡ 10) → fault D M t f ≡ fault D M u g
   fault-alike h i =
-      let one = least-alike (placeAgain u g) in
-      least-but-ten (afterRoot t) (misplaced t f) (aboveM M f) (placeAgain t f) (placeAgain u g) (undeclared t f) (tooDeep D t f)
+      let one = first-alike (placeAgain u g) in
+      first-but-ten (afterRoot t) (stray t f) (misplaced t f) (aboveM M f) (placeAgain t f) (placeAgain u g) (undeclared t f) (tooDeep D t f)
       h (λ q. i (sym one ∙ q))
       ∙ one
 

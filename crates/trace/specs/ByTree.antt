@@ -10,8 +10,8 @@ use Rattle.trace.specs.declared.Answer.the-variants.{Accepted}
 use Rattle.trace.specs.Rows.{columns}
 use Rattle.trace.specs.Column.{Column, slot}
 use Rattle.trace.specs.Promise.{Engine, Lent, Marked}
-use Rattle.trace.specs.Tree.{Body, size, workOf, spanOf, callsIn, workIn, spansIn, localIn}
-use Rattle.trace.specs.Fold.{chainOf, onRow}
+use Rattle.trace.specs.Tree.{Body, size, workOf, spanOf, callsIn, workIn, spansIn, localIn, ilocalIn}
+use Rattle.trace.specs.Fold.{itsCycles, itsInstructions, chainOf, onRow}
 
 -- each column of row s
 abbrev pub cell : Body → ℕ → Column → ℕ
@@ -19,7 +19,9 @@ cell b s Column.calls = callsIn s b
 cell b s Column.work = workIn s b
 cell b s Column.span = spansIn s b
 cell b s Column.local = localIn s b
-cell b s Column.onSpan = onRow s (chainOf 0 0 b)
+cell b s Column.onSpan = onRow itsCycles s (chainOf 0 0 b)
+cell b s Column.ilocal = ilocalIn s b
+cell b s Column.ionSpan = onRow itsInstructions s (chainOf 0 0 b)
 
 pub record RowsBy (m : ℕ) (b : Body) (before after : List ℕ) : Type 0 where
   pub same-length : length after ≡ length before

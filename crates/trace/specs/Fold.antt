@@ -5,10 +5,17 @@ use mathlib.Core.Bool.{cond}
 use mathlib.Core.List.{List, [], _∷_, _++_}
 use lib.Dec.{eqb, ltb}
 use Rattle.chain.specs.Plan.{CostLine, Plan, none, cost, seq, par, weight, choose}
-use Rattle.trace.specs.Tree.{Way, call, spawn, Leaf, spend, sync, note, Body, done, leaf, child, size}
+use Rattle.trace.specs.Tree.{Way, call, spawn, Leaf, spend, sync, note, Body, done, leaf, child, ahead, size}
 
-abbrev pub costAt : ℕ → ℕ → ℕ → CostLine
-costAt n s v = record { line = n; row = s; value = v }
+abbrev pub costAt : ℕ → ℕ → ℕ → ℕ → CostLine
+costAt n s v i = record { line = n; row = s; value = v; instructions = i }
+
+-- what a cost line comes to in either measure
+abbrev pub itsCycles : CostLine → ℕ
+itsCycles x = x .value
+
+abbrev pub itsInstructions : CostLine → ℕ
+itsInstructions x = x .instructions
 
 -- a called child is in series with what follows it in its block, a spawned child parallel to all of that
 abbrev pub together : Way → Plan → Plan → Plan
@@ -19,7 +26,7 @@ abbrev mutual
   -- what stands before the next sync directly in the body
   pub block : ℕ → ℕ → Body → Plan
   block n s done = none
-  block n s (leaf (spend v) r) = seq (cost (costAt n s v)) (block (suc n) s r)
+  block n s (leaf (spend v) r) = seq (cost (costAt n s v (ahead r))) (block (suc n) s r)
   block n s (leaf sync r) = none
   block n s (leaf (note x) r) = block (suc n) s r
   block n s (child w i g r) = together w (seq (block (suc n) i g) (after (suc n) i g)) (block (suc n + size g) s r)
@@ -58,11 +65,11 @@ called g k = record { p = k .p; l = k .l; c = k .c ++ g }
 abbrev pub spawned : List CostLine → Chains → Chains
 spawned g k = cond (ltb (weight (k .l)) (weight (k .c) + weight g)) (record { p = k .p ++ k .c; l = g; c = [] }) k
 
--- the chains behind a leaf line
-abbrev pub leafChains : ℕ → ℕ → Leaf → Chains → Chains
-leafChains n s (spend v) k = spent (costAt n s v) k
-leafChains n s sync k = joined k
-leafChains n s (note x) k = k
+-- the chains behind a leaf line, where i is what the line behind it carries
+abbrev pub leafChains : ℕ → ℕ → Leaf → ℕ → Chains → Chains
+leafChains n s (spend v) i k = spent (costAt n s v i) k
+leafChains n s sync i k = joined k
+leafChains n s (note x) i k = k
 
 -- the chain of an invocation whose items make this of its chains, with the join at its return
 abbrev pub ended : (Chains → Chains) → List CostLine
@@ -77,14 +84,18 @@ childChains spawn f k = spawned (ended f) k
 -- caller
 abbrev pub run : ℕ → ℕ → Body → Chains → Chains
 run n s done k = k
-run n s (leaf l r) k = run (suc n) s r (leafChains n s l k)
+run n s (leaf l r) k = run (suc n) s r (leafChains n s l (ahead r) k)
 run n s (child w i g r) k = run (suc n + size g) s r (childChains w (run (suc n) i g) k)
 
 -- the chain of the whole invocation
 abbrev pub chainOf : ℕ → ℕ → Body → List CostLine
 chainOf n s b = ended (run n s b)
 
--- the part of a chain that stands in row s
-abbrev pub onRow : ℕ → List CostLine → ℕ
-onRow s [] = 0
-onRow s (x ∷ c) = cond (eqb (x .row) s) (x .value) 0 + onRow s c
+-- what a chain comes to in a measure, and the part of that which stands in row s
+abbrev pub onAll : (CostLine → ℕ) → List CostLine → ℕ
+onAll m [] = 0
+onAll m (x ∷ c) = m x + onAll m c
+
+abbrev pub onRow : (CostLine → ℕ) → ℕ → List CostLine → ℕ
+onRow m s [] = 0
+onRow m s (x ∷ c) = cond (eqb (x .row) s) (m x) 0 + onRow m s c

@@ -10,7 +10,7 @@ use Rattle.trace.specs.declared.Answer.{Answer}
 use Rattle.trace.specs.declared.Answer.the-variants.{Accepted, Refused}
 use Rattle.trace.specs.Shape.{root, has, sites}
 use Rattle.trace.specs.Series.{Span, Chosen}
-use Rattle.trace.specs.Rows.{columns, total, calls, work, Spans, local, onSpan}
+use Rattle.trace.specs.Rows.{columns, total, calls, work, Spans, local, onSpan, ilocal, ionSpan}
 use Rattle.trace.specs.Column.{Column, slot}
 use Rattle.trace.specs.Refusals.{lineCount, Verdict, accepted, refused, verdict}
 
@@ -23,9 +23,9 @@ pub record Lent : Type 0 where
   pub rows : List ℕ
   pub marks : List ℕ
 
--- "The table engine needs 4·D·(M+3) scratch numbers of 64 bits"; "The marks engine needs 8·D"
+-- "The table engine needs ... scratch numbers of 64 bits", by 02, request l, 7·D·(M+3); "The marks engine needs 8·D"
 abbrev pub scratchRoom : Engine → ℕ → ℕ → ℕ
-scratchRoom tables D M = 4 * D * (M + 3)
+scratchRoom tables D M = 7 * D * (M + 3)
 scratchRoom marks D M = 8 * D
 
 -- "and one byte of marks a line"
@@ -33,7 +33,7 @@ abbrev pub marksRoom : Engine → List ℕ → ℕ
 marksRoom tables s = 0
 marksRoom marks s = lineCount s
 
--- "Both need 5·(M+1) row numbers."
+-- "Both need 5·(M+1) row numbers." 02, request l: "every row room with five reads seven"
 abbrev pub rowsRoom : ℕ → ℕ
 rowsRoom M = columns * (M + 1)
 
@@ -59,8 +59,10 @@ pub record Row (t : List Frame) (c : List ℕ) (rows : List ℕ) (s : ℕ) : Typ
   pub span-is : Spans t s (getD rows (slot s Column.span) 0)
   pub local-is : getD rows (slot s Column.local) 0 ≡ local t s
   pub on-span-is : getD rows (slot s Column.onSpan) 0 ≡ onSpan t c s
+  pub ilocal-is : getD rows (slot s Column.ilocal) 0 ≡ ilocal t s
+  pub ion-span-is : getD rows (slot s Column.ionSpan) 0 ≡ ionSpan t c s
 
--- "Row numbers 0 to 5·(sites+1)-1 hold the rows and the rest are unchanged."
+-- "Row numbers 0 to 5·(sites+1)-1", with seven for five, "hold the rows and the rest are unchanged."
 pub record Rows (t : List Frame) (c before after : List ℕ) : Type 0 where
   pub same-length : length after ≡ length before
   pub rows-are : (s : ℕ) → s ≤ sites t → Row t c after s

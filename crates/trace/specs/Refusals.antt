@@ -10,7 +10,7 @@ use Rattle.line.specs.declared.Frame.{Frame}
 use Rattle.line.specs.declared.Read.{Read}
 use Rattle.line.specs.declared.Read.the-variants.{Line, Refused}
 use Rattle.line.specs.Read.{width, readAt}
-use Rattle.trace.specs.Shape.{ifSite, ifMakes, openAt}
+use Rattle.trace.specs.Shape.{ifSite, ifMakes, ifCost, ifInstructions, openAt}
 
 -- 1: "D or M outside its range": "a depth limit D, 1 to 64, counting the root, and a site limit M, 0 to 255"
 abbrev pub outOfRange : ℕ → ℕ → Bool
@@ -54,6 +54,18 @@ empty (x ∷ o) = false
 abbrev pub afterRoot : List Frame → Bool
 afterRoot before = empty (openNow before)
 
+abbrev pub isCost : Frame → Bool
+isCost f = ifCost (λ v. true) false f
+
+-- the last of the lines is a cost line, b where there is none
+abbrev pub afterCost : Bool → List Frame → Bool
+afterCost b [] = b
+afterCost b (f ∷ t) = afterCost (isCost f) t
+
+-- 02, request l, 22: "a 07 line not directly after a cost"
+abbrev pub stray : List Frame → Frame → Bool
+stray before f = ifInstructions (λ v. not (afterCost false before)) false f
+
 -- the number of the last site line, n where there is none
 abbrev pub lastSite : ℕ → List Frame → ℕ
 lastSite n [] = n
@@ -92,17 +104,18 @@ undeclared before f = ifMakes (λ s. eqb s 0 || not (declared s before)) false f
 abbrev pub tooDeep : ℕ → List Frame → Frame → Bool
 tooDeep D before f = ifMakes (λ s. ltb D (suc (length (openNow before)))) false f
 
--- the smallest number from 7 to 12 that applies to the line; 0 where none does. 02, request e: "take 13 out of the
--- table, code and card, and leave its number unused"
+-- the smallest number from 7 to 12 that applies to the line, where 22 is "checked after 7"; 0 where none does. 02,
+-- request e: "take 13 out of the table, code and card, and leave its number unused"
 abbrev pub fault : ℕ → ℕ → List Frame → Frame → ℕ
 fault D M before f =
     cond (afterRoot before) 7
+    (cond (stray before f) 22
     (cond (misplaced before f) 8
     (cond (aboveM M f) 9
     (cond (placeAgain before f) 10
     (cond (undeclared before f) 11
     (cond (tooDeep D before f) 12
-    0)))))
+    0))))))
 
 pub data Verdict : Type 0 where
   accepted : List Frame → Verdict

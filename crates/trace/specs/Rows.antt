@@ -1,4 +1,4 @@
--- The rows: five numbers a row, as sums over invocations and lines.
+-- The rows: seven numbers a row, as sums over invocations and lines.
 use Prim.Native.Nat.{ℕ, zero, suc, _+_}
 use mathlib.Core.Path.{_≡_}
 use mathlib.Core.Bool.{Bool, true, false, cond, _&&_, _||_}
@@ -6,12 +6,12 @@ use mathlib.Core.List.{List, [], _∷_}
 use lib.Dec.{eqb}
 use lib.ListN.{length}
 use Rattle.line.specs.declared.Frame.{Frame}
-use Rattle.trace.specs.Shape.{ifMakes, root, step, openAt, has, firstIs}
+use Rattle.trace.specs.Shape.{ifMakes, ifCost, ifInstructions, root, step, openAt, has, firstIs}
 use Rattle.trace.specs.Series.{value, Span}
 
--- "Five numbers a row"
+-- "Five numbers a row"; 02, request l: "so rows are seven long"
 abbrev pub columns : ℕ
-columns = 5
+columns = 7
 
 -- a call or spawn of site s
 abbrev pub makes : ℕ → Frame → Bool
@@ -52,28 +52,50 @@ outermost t s = unenclosed t s (ofRow t s)
 abbrev pub counted : List Frame → ℕ → List ℕ
 counted t s = outermost t s
 
--- the sum of the costs at the lines that p picks, by line number and open invocations; t begins at line n, where o
--- are open
-abbrev pub sumOf : (ℕ → List ℕ → Bool) → ℕ → List ℕ → List Frame → ℕ
-sumOf p n o [] = 0
-sumOf p n o (e ∷ t) = cond (p n o) (value e) 0 + sumOf p (suc n) (step n e o) t
+-- 02, request l: "Cycles and instructions are separate measures that are never added to each other": what a line comes to
+-- in one of them, with the lines behind it
+abbrev pub Measure : Type 0
+Measure = Frame → List Frame → ℕ
 
-abbrev pub costsWhere : List Frame → (ℕ → List ℕ → Bool) → ℕ
-costsWhere t p = sumOf p 0 (root ∷ []) t
+abbrev pub cycles : Frame → List Frame → ℕ
+cycles e t = value e
+
+-- what the first of the lines carries
+abbrev pub carried : List Frame → ℕ
+carried [] = 0
+carried (e ∷ t) = ifInstructions (λ v. v) 0 e
+
+-- "A kind 07 line directly after a cost line carries its instructions in the value, at least 1; without one they are
+-- zero."
+abbrev pub instructions : Frame → List Frame → ℕ
+instructions e t = ifCost (λ v. carried t) 0 e
+
+-- the sum of a measure at the lines that p picks, by line number and open invocations; t begins at line n, where o are
+-- open
+abbrev pub sumOf : Measure → (ℕ → List ℕ → Bool) → ℕ → List ℕ → List Frame → ℕ
+sumOf m p n o [] = 0
+sumOf m p n o (e ∷ t) = cond (p n o) (m e t) 0 + sumOf m p (suc n) (step n e o) t
+
+abbrev pub costsWhere : Measure → List Frame → (ℕ → List ℕ → Bool) → ℕ
+costsWhere m t p = sumOf m p 0 (root ∷ []) t
 
 -- "Total work is the sum of all cost lines."
 abbrev pub total : List Frame → ℕ
-total t = costsWhere t (λ k o. true)
+total t = costsWhere cycles t (λ k o. true)
 
--- all costs inside an invocation; costs directly in it; those of them on a chain
+-- and all instructions
+abbrev pub itotal : List Frame → ℕ
+itotal t = costsWhere instructions t (λ k o. true)
+
+-- all costs inside an invocation; what stands directly in it; and of that on a chain
 abbrev pub inside : List Frame → ℕ → ℕ
-inside t F = costsWhere t (λ k o. has F o)
+inside t F = costsWhere cycles t (λ k o. has F o)
 
-abbrev pub direct : List Frame → ℕ → ℕ
-direct t F = costsWhere t (λ k o. firstIs F o)
+abbrev pub direct : Measure → List Frame → ℕ → ℕ
+direct m t F = costsWhere m t (λ k o. firstIs F o)
 
-abbrev pub directOn : List Frame → List ℕ → ℕ → ℕ
-directOn t c F = costsWhere t (λ k o. firstIs F o && has k c)
+abbrev pub directOn : Measure → List Frame → List ℕ → ℕ → ℕ
+directOn m t c F = costsWhere m t (λ k o. firstIs F o && has k c)
 
 abbrev pub sum : (ℕ → ℕ) → List ℕ → ℕ
 sum f [] = 0
@@ -98,8 +120,15 @@ Spans t s n = Sum (Span t) (counted t s) n
 
 -- 4. "local: costs directly in those invocations"
 abbrev pub local : List Frame → ℕ → ℕ
-local t s = sum (direct t) (ofRow t s)
+local t s = sum (direct cycles t) (ofRow t s)
 
 -- 5. "on span: the part of local that stands on the chosen chain"; c is the chosen chain
 abbrev pub onSpan : List Frame → List ℕ → ℕ → ℕ
-onSpan t c s = sum (directOn t c) (ofRow t s)
+onSpan t c s = sum (directOn cycles t c) (ofRow t s)
+
+-- 6 and 7, "two numbers at the end, instructions local and on span": the same of instructions
+abbrev pub ilocal : List Frame → ℕ → ℕ
+ilocal t s = sum (direct instructions t) (ofRow t s)
+
+abbrev pub ionSpan : List Frame → List ℕ → ℕ → ℕ
+ionSpan t c s = sum (directOn instructions t c) (ofRow t s)

@@ -3,7 +3,7 @@
 use Prim.Native.Nat.{ℕ, zero, suc}
 use mathlib.Core.List.{List, [], _∷_}
 use Rattle.line.specs.declared.Frame.{Frame}
-use Rattle.line.specs.declared.Frame.the-variants.{Site, Call, Spawn, Sync, Return, Cost}
+use Rattle.line.specs.declared.Frame.the-variants.{Site, Call, Spawn, Sync, Return, Cost, Instructions}
 use Rattle.chain.specs.Over.{Rule}
 use Rattle.chain.specs.Over as Over
 use Rattle.trace.specs.Shape.{Is, root, Contains, Parallel}
@@ -16,6 +16,7 @@ value (Spawn s) = 0
 value Sync = 0
 value Return = 0
 value (Cost v) = v
+value (Instructions v) = 0
 
 -- what line k weighs
 abbrev pub valueAt : List Frame → ℕ → ℕ

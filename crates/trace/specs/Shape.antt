@@ -7,7 +7,7 @@ use mathlib.Core.List.{List, [], _∷_}
 use lib.Dec.{T, eqb}
 use Rattle.line.specs.declared.Place.{Place}
 use Rattle.line.specs.declared.Frame.{Frame}
-use Rattle.line.specs.declared.Frame.the-variants.{Site, Call, Spawn, Sync, Return, Cost}
+use Rattle.line.specs.declared.Frame.the-variants.{Site, Call, Spawn, Sync, Return, Cost, Instructions}
 
 -- a: what is said of a site line, by its number and its place; b: of any other line
 abbrev pub ifSite : {A : Type 0} → (ℕ → Place → A) → A → Frame → A
@@ -17,6 +17,7 @@ ifSite a b (Spawn s) = b
 ifSite a b Sync = b
 ifSite a b Return = b
 ifSite a b (Cost v) = b
+ifSite a b (Instructions v) = b
 
 -- a: what is said of a call or spawn, by its site; b: of any other line
 abbrev pub ifMakes : {A : Type 0} → (ℕ → A) → A → Frame → A
@@ -26,6 +27,7 @@ ifMakes a b (Spawn s) = a s
 ifMakes a b Sync = b
 ifMakes a b Return = b
 ifMakes a b (Cost v) = b
+ifMakes a b (Instructions v) = b
 
 -- a: what is said of a cost line, by its value; b: of any other line
 abbrev pub ifCost : {A : Type 0} → (ℕ → A) → A → Frame → A
@@ -35,6 +37,17 @@ ifCost a b (Spawn s) = b
 ifCost a b Sync = b
 ifCost a b Return = b
 ifCost a b (Cost v) = a v
+ifCost a b (Instructions v) = b
+
+-- a: what is said of a line of instructions, by its value; b: of any other line
+abbrev pub ifInstructions : {A : Type 0} → (ℕ → A) → A → Frame → A
+ifInstructions a b (Site s p) = b
+ifInstructions a b (Call s) = b
+ifInstructions a b (Spawn s) = b
+ifInstructions a b Sync = b
+ifInstructions a b Return = b
+ifInstructions a b (Cost v) = b
+ifInstructions a b (Instructions v) = a v
 
 -- "Lines are numbered from 0": line k of the trace is this frame
 abbrev pub Is : List Frame → ℕ → Frame → Type 0
@@ -59,6 +72,7 @@ step n (Spawn s) o = suc n ∷ o
 step n Sync o = o
 step n Return o = closed o
 step n (Cost v) o = o
+step n (Instructions v) o = o
 
 -- those open at the line j lines behind line n, at which t begins and o are open
 abbrev pub walk : ℕ → List ℕ → List Frame → ℕ → List ℕ

@@ -7,7 +7,7 @@ use mathlib.Core.List.{List, [], _∷_, _++_}
 use lib.Dec.{eqb, ltb}
 use Rattle.line.specs.declared.Place.{Place}
 use Rattle.line.specs.declared.Frame.{Frame}
-use Rattle.line.specs.declared.Frame.the-variants.{Site, Call, Spawn, Sync, Return, Cost}
+use Rattle.line.specs.declared.Frame.the-variants.{Site, Call, Spawn, Sync, Return, Cost, Instructions}
 use Rattle.trace.specs.Shape.{sites}
 
 -- how an invocation is made
@@ -19,12 +19,15 @@ abbrev pub opening : Way → ℕ → Frame
 opening call s = Call s
 opening spawn s = Spawn s
 
--- 02, request j: "Site lines weigh nothing and join nothing": a line that says something and does neither
+-- 02, request j: "Site lines weigh nothing and join nothing": a line that says something and does neither; so does a line
+-- that carries the instructions of the cost before it
 pub data Note : Type 0 where
   site : ℕ → Place → Note
+  carry : ℕ → Note
 
 abbrev pub noteLine : Note → Frame
 noteLine (site s p) = Site s p
+noteLine (carry v) = Instructions v
 
 -- a line that neither opens nor closes an invocation
 pub data Leaf : Type 0 where
@@ -43,11 +46,15 @@ leafWork (spend v) = v
 leafWork sync = 0
 leafWork (note x) = 0
 
--- a cost is in the table
+-- a cost is in the table, and so are its instructions
+abbrev pub NoteWithin : Note → Type 0
+NoteWithin (site s p) = Unit {0}
+NoteWithin (carry v) = (1 ≤ v) × (v ≤ 4294967295)
+
 abbrev pub LeafWithin : Leaf → Type 0
 LeafWithin (spend v) = (1 ≤ v) × (v ≤ 4294967295)
 LeafWithin sync = Unit {0}
-LeafWithin (note x) = Unit {0}
+LeafWithin (note x) = NoteWithin x
 
 -- the items of a body, each with the rest of the body behind it; an invocation has its way, its site and its own body
 pub data Body : Type 0 where
@@ -61,13 +68,38 @@ linesOf done = Return ∷ []
 linesOf (leaf l r) = lineOf l ∷ linesOf r
 linesOf (child w s g r) = opening w s ∷ (linesOf g ++ linesOf r)
 
+-- the instructions that a leaf line carries for a cost directly before it, 0 where it carries none
+abbrev pub noteCarries : Note → ℕ
+noteCarries (site s p) = 0
+noteCarries (carry v) = v
+
+abbrev pub leafCarries : Leaf → ℕ
+leafCarries (spend v) = 0
+leafCarries sync = 0
+leafCarries (note x) = noteCarries x
+
+-- those that the first line of a body carries
+abbrev pub ahead : Body → ℕ
+ahead done = 0
+ahead (leaf l r) = leafCarries l
+ahead (child w s g r) = 0
+
+-- what a leaf line comes to in a measure, with the rest of its body behind it: its cycles and its instructions
+abbrev pub leafCycles : Leaf → Body → ℕ
+leafCycles l r = leafWork l
+
+abbrev pub leafInstructions : Leaf → Body → ℕ
+leafInstructions (spend v) r = ahead r
+leafInstructions sync r = 0
+leafInstructions (note x) r = 0
+
 -- how many they are
 abbrev pub size : Body → ℕ
 size done = 1
 size (leaf l r) = suc (size r)
 size (child w s g r) = suc (size g + size r)
 
--- costs are in the table, sites are 1 to m, and with d invocations open at its lines there are never more than D
+-- costs and instructions are in the table, sites are 1 to m, and with d invocations open at its lines there are never more than D
 abbrev pub Within : ℕ → ℕ → ℕ → Body → Type 0
 Within m D d done = Unit {0}
 Within m D d (leaf l r) = LeafWithin l × Within m D d r
@@ -79,16 +111,29 @@ pub record Parts (D : ℕ) (t : List Frame) : Type 0 where
   pub lines : t ≡ linesOf body
   pub within : Within (sites t) D 1 body
 
--- all costs of a body, and those directly in it
+-- the sum of a measure over all leaf lines of a body, and over those directly in it
+abbrev pub allOf : (Leaf → Body → ℕ) → Body → ℕ
+allOf m done = 0
+allOf m (leaf l r) = m l r + allOf m r
+allOf m (child w s g r) = allOf m g + allOf m r
+
+abbrev pub directOf : (Leaf → Body → ℕ) → Body → ℕ
+directOf m done = 0
+directOf m (leaf l r) = m l r + directOf m r
+directOf m (child w s g r) = directOf m r
+
+-- all costs of a body, and those directly in it; and their instructions
 abbrev pub workOf : Body → ℕ
-workOf done = 0
-workOf (leaf l r) = leafWork l + workOf r
-workOf (child w s g r) = workOf g + workOf r
+workOf b = allOf leafCycles b
 
 abbrev pub localOf : Body → ℕ
-localOf done = 0
-localOf (leaf l r) = leafWork l + localOf r
-localOf (child w s g r) = localOf r
+localOf b = directOf leafCycles b
+
+abbrev pub instructionsOf : Body → ℕ
+instructionsOf b = allOf leafInstructions b
+
+abbrev pub ilocalOf : Body → ℕ
+ilocalOf b = directOf leafInstructions b
 
 abbrev pub larger : ℕ → ℕ → ℕ
 larger l c = cond (ltb l c) c l
@@ -128,7 +173,7 @@ abbrev pub outerRow : (Body → ℕ) → ℕ → Body → ℕ
 outerRow h zero b = h b
 outerRow h (suc s) b = outerSum h (suc s) b
 
--- columns 1 to 4 of row s; 2 and 3 count the outermost invocations
+-- columns 1 to 4 and 6 of row s; 2 and 3 count the outermost invocations
 abbrev pub callsIn : ℕ → Body → ℕ
 callsIn s b = rowSum (λ g. 1) s b
 
@@ -140,3 +185,6 @@ spansIn s b = outerRow spanOf s b
 
 abbrev pub localIn : ℕ → Body → ℕ
 localIn s b = rowSum localOf s b
+
+abbrev pub ilocalIn : ℕ → Body → ℕ
+ilocalIn s b = rowSum ilocalOf s b

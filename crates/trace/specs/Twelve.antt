@@ -9,7 +9,7 @@ use Rattle.digits.specs.Digits.{digits}
 use Rattle.line.specs.declared.Frame.{Frame}
 use Rattle.trace.specs.Shape.{root}
 use Rattle.trace.specs.Series.{Span, Chosen}
-use Rattle.trace.specs.Rows.{total, calls, work, Spans, local, onSpan}
+use Rattle.trace.specs.Rows.{total, calls, work, Spans, local, onSpan, ilocal, ionSpan}
 use Rattle.trace.specs.Refusals.{accepted, verdict}
 
 -- 22 digits and a line feed for each numeral
@@ -82,6 +82,9 @@ pub record Holds (c : Case) : Type 0 where
   pub on0-is : onSpan t chain 0 ≡ c .on0
   pub on1-is : onSpan t chain 1 ≡ c .on1
   pub on2-is : onSpan t chain 2 ≡ c .on2
+  -- 02, request l: "A kind 07 line ... carries its instructions in the value ...; without one they are zero."
+  pub ilocal-is : (s : ℕ) → ilocal t s ≡ 0
+  pub ion-span-is : (s : ℕ) → ionSpan t chain s ≡ 0
 
 abbrev pub AllHold : List Case → Type 0
 AllHold [] = Unit {0}

@@ -35,7 +35,7 @@ fn print_answer(answer: trace::Answer, rows: &[u64; ROWS]) {
 
 // A trace through the table engine.
 fn by_tables(text: &[u8]) {
-    let mut scratch = [7u64; 4 * DEPTH * (SITES + 3)];
+    let mut scratch = [7u64; trace::SCRATCH * DEPTH * (SITES + 3)];
     let mut rows = [7u64; ROWS];
     let answer = tables::profile(text, DEPTH, SITES, &mut scratch, &mut rows);
     io::write_all(1, b"tables");

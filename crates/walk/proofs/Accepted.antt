@@ -30,10 +30,10 @@ use Rattle.walk.specs.declared.Open.{Open}
 use Rattle.walk.specs.declared.Credit.{Credit}
 use Rattle.walk.specs.Reads.{Reads}
 use Rattle.walk.specs.Numbers.{numbers}
-use Rattle.walk.specs.Gain.{creditOf, ReturnFits, Returned, made, Grown}
+use Rattle.walk.specs.Gain.{creditOf, ReturnFits, Returned, made, mostGain, Grown}
 use Rattle.walk.specs.Reader.{Ready, BodyDone}
 use Rattle.walk.proofs.Return.{Came, came, return-fits, made-grown}
-use Rattle.walk.proofs.Columns.{root-on}
+use Rattle.walk.proofs.Columns.{root-on, root-ion}
 use Rattle.walk.proofs.Root.{other, tree, root-small, root-reads, root-ready, cells-are, behind}
 use Rattle.walk.proofs.Zeros.{cleared-length, cleared-front, cleared-back}
 
@@ -87,7 +87,7 @@ module _ (e : Engine) (s : List ℕ) (D M : ℕ) (x : Lent) (t : List Frame) (is
     pub within : Within count D 1 body
     within = subst (λ (m : ℕ). Within m D 1 body) sites-are (root .within)
 
-    pub small : size body + workOf body < 2 ^ 55
+    pub small : mostGain body < 2 ^ 56
     small = root-small w tabled D M t fine
 
     pub reads : Reads w s 0 0 body
@@ -110,30 +110,37 @@ module _ (e : Engine) (s : List ℕ) (D M : ℕ) (x : Lent) (t : List Frame) (is
     -- The root's body was read: its numbers are c, and before is what columns 2 and 3 of its row held.
     module _ (before : Credit) (before-is : before ≡ creditOf cleared 0) (c : Open) (rows₁ : List ℕ) (same : length rows₁ ≡ length (x .rows))
         (done : BodyDone 0 0 cleared body c rows₁) where
-      read : Came 0 body cleared before (c .work) (c .prefix) rows₁
+      read : Came 0 body cleared before (c .work .0) (c .prefix .0) rows₁
       read = came 0 0 body cleared before c rows₁ before-is (omega (arith, same, cleared-long)) done
 
-      pub work-is : c .work ≡ workOf body
+      pub work-is : c .work .0 ≡ workOf body
       work-is = read .work-is
 
-      pub span-is : c .prefix ≡ spanOf body
+      pub span-is : c .prefix .0 ≡ spanOf body
       span-is = read .span-is
 
-      pub count-fits : ReturnFits before rows₁ 0 (c .work) (c .prefix)
+      pub count-fits : ReturnFits before rows₁ 0 (c .work .0) (c .prefix .0)
       count-fits = return-fits read row-there (λ k. omega (arith, zeros (slot 0 k) (omega (arith, slot-in count 0 k (omega arith), sites-are)), small))
 
       -- and the root was counted
-      module _ (rows₂ : List ℕ) (counts : Returned before 0 (c .work) (c .prefix) rows₁ rows₂) where
+      module _ (rows₂ : List ℕ) (counts : Returned before 0 (c .work .0) (c .prefix .0) rows₁ rows₂) where
         grown : Grown cleared (made 0 body) rows₂
         grown = made-grown read rows₂ counts
 
-        pub cells : (k : ℕ) (j : Column) → k ≤ count → (j ≡ Column.onSpan → ⊥) → getD rows₂ (slot k j) 0 ≡ cell body k j
-        cells k j h l = cells-are D trace root cleared rows₂ long zeros grown k j (omega (arith, sites-are)) l
+        pub cells : (k : ℕ) (j : Column) → k ≤ count → (j ≡ Column.onSpan → ⊥) → (j ≡ Column.ionSpan → ⊥) → getD rows₂ (slot k j) 0 ≡ cell body k j
+        cells k j h l i = cells-are D trace root cleared rows₂ long zeros grown k j (omega (arith, sites-are)) l i
 
-        -- column 5 is still zero
+        -- columns 5 and 7 are still zero
+        still : (k : ℕ) (j : Column) → k ≤ count → made 0 body (slot k j) ≡ 0 → getD rows₂ (slot k j) 0 ≡ 0
+        still k j h z =
+            let i = slot-in count k j h in
+            omega (arith, grown (slot k j) (omega (arith, cleared-long, rows-room)), zeros (slot k j) (omega (arith, sites-are)), z)
+
         pub none-on : (k : ℕ) → k ≤ count → getD rows₂ (slot k Column.onSpan) 0 ≡ 0
-        none-on k h =
-            omega (arith, grown (slot k Column.onSpan) (omega (arith, cleared-long, rows-room)), zeros (slot k Column.onSpan) (omega (arith, sites-are)), root-on count D 1 body within k)
+        none-on k h = still k Column.onSpan h (root-on count D 1 body within k)
+
+        pub none-ion : (k : ℕ) → k ≤ count → getD rows₂ (slot k Column.ionSpan) 0 ≡ 0
+        none-ion k h = still k Column.ionSpan h (root-ion count D 1 body within k)
 
         pub rest : (i : ℕ) → columns * (count + 1) ≤ i → i < length (x .rows) → getD rows₂ i 0 ≡ getD (x .rows) i 0
         rest i h l =

@@ -1,4 +1,4 @@
--- What a body adds to each row number is columns 1 to 4 of the tree.
+-- What a body adds to each row number is columns 1 to 4 and 6 of the tree.
 use mathlib.Core.Path.{_≡_, refl, ap, _∙_}
 use mathlib.Core.Bool.{Bool, true, false, cond, _&&_}
 use Prim.Native.Nat.{ℕ, zero, suc, _+_, _*_, _≤_}
@@ -8,11 +8,11 @@ use borrow.Author.Tests.{eqb-true, eqb-false, eq-eqb, ne-eqb}
 use Rattle.trace.specs.Rows.{columns}
 use Rattle.trace.specs.Column.{Column, nth, slot}
 use Rattle.trace.specs.ByTree.{cell}
-use Rattle.trace.specs.Tree.{leafWork, Body, done, leaf, child, Within, workOf, localOf, spanOf, madeSum, outerSum}
+use Rattle.trace.specs.Tree.{Leaf, leafWork, leafCycles, leafInstructions, Body, done, leaf, child, Within, directOf, workOf, localOf, ilocalOf, spanOf, madeSum, outerSum}
 use Rattle.trace.proofs.Basics.{cond-same, cond-add}
 use Rattle.trace.proofs.Slots.{slot-apart, slot-in}
 use Rattle.trace.proofs.Columns.{none-from-root}
-use Rattle.walk.specs.Gain.{one, oneCall, returned, gain, made}
+use Rattle.walk.specs.Gain.{one, oneCall, returned, costGain, gain, made}
 use Rattle.walk.proofs.Rows.{one-other}
 
 -- column k of row j is column l of row s where both are the same
@@ -38,6 +38,8 @@ own Column.work work span x = work
 own Column.span work span x = span
 own Column.local work span x = x
 own Column.onSpan work span x = x
+own Column.ilocal work span x = x
+own Column.ionSpan work span x = x
 
 returned-at : (k : Column) (j s work span x : ℕ) → returned j work span x (slot s k) ≡ cond (eqb j s) (own k work span x) x
 returned-at k j s work span x =
@@ -52,11 +54,20 @@ returned-at k j s work span x =
     go true Column.span = refl
     go true Column.local = omega arith
     go true Column.onSpan = omega arith
+    go true Column.ilocal = omega arith
+    go true Column.ionSpan = omega arith
     go false k = omega arith
 
--- a cost is in no column but the fourth
-no-cost : (k : Column) → ((v : ℕ) → one (nth Column.local) v (nth k) ≡ 0) → (row s v : ℕ) → one (slot row Column.local) v (slot s k) ≡ 0
-no-cost k h row s v = one-at row s v Column.local k ∙ ap (λ (x : ℕ). cond (eqb row s) x 0) (h v) ∙ cond-same (eqb row s)
+-- a cost is in no column but the fourth and the sixth
+no-one : (c k : Column) → ((v : ℕ) → one (nth c) v (nth k) ≡ 0) → (row s v : ℕ) → one (slot row c) v (slot s k) ≡ 0
+no-one c k h row s v = one-at row s v c k ∙ ap (λ (x : ℕ). cond (eqb row s) x 0) (h v) ∙ cond-same (eqb row s)
+
+-- column k takes neither
+abbrev Neither : Column → Type 0
+Neither k = ((v : ℕ) → one (nth Column.local) v (nth k) ≡ 0) × ((v : ℕ) → one (nth Column.ilocal) v (nth k) ≡ 0)
+
+no-cost : (k : Column) → Neither k → (row s v j : ℕ) → costGain row v j (slot s k) ≡ 0
+no-cost k h row s v j = omega (arith, no-one Column.local k (h .0) row s v, no-one Column.ilocal k (h .1) row s j)
 
 call-more : (b : Bool) (x : ℕ) → cond b (x + 1) x ≡ cond b 1 0 + x
 call-more true x = omega arith
@@ -65,16 +76,16 @@ call-more false x = omega arith
 -- column 1: every invocation
 gain-calls : (row s : ℕ) (b : Body) → gain row b (slot s Column.calls) ≡ madeSum (λ g. 1) s b
 gain-calls row s done = refl
-gain-calls row s (leaf l r) = omega (arith, no-cost Column.calls (λ v. refl) row s (leafWork l), gain-calls row s r)
+gain-calls row s (leaf l r) = omega (arith, no-cost Column.calls ((λ v. refl), (λ v. refl)) row s (leafWork l) (leafInstructions l r), gain-calls row s r)
 gain-calls row s (child w j g r) =
     let x = gain j g (slot s Column.calls) in
     omega (arith, returned-at Column.calls j s (workOf g) (spanOf g) x, call-more (eqb j s) x, gain-calls j s g, gain-calls row s r)
 
 -- columns 2 and 3: the outermost, for a return writes over what is inside
-module _ (k : Column) (h : Body → ℕ) (written : (g : Body) (x : ℕ) → own k (workOf g) (spanOf g) x ≡ h g) (no-local : (v : ℕ) → one (nth Column.local) v (nth k) ≡ 0) where
+module _ (k : Column) (h : Body → ℕ) (written : (g : Body) (x : ℕ) → own k (workOf g) (spanOf g) x ≡ h g) (no-local : Neither k) where
   gain-outer : (row s : ℕ) (b : Body) → gain row b (slot s k) ≡ outerSum h s b
   gain-outer row s done = refl
-  gain-outer row s (leaf l r) = omega (arith, no-cost k no-local row s (leafWork l), gain-outer row s r)
+  gain-outer row s (leaf l r) = omega (arith, no-cost k no-local row s (leafWork l) (leafInstructions l r), gain-outer row s r)
   gain-outer row s (child w j g r) =
       let x = gain j g (slot s k) in
       omega (
@@ -89,22 +100,50 @@ same-either : (b : Bool) (x : ℕ) → cond b x x ≡ x
 same-either true x = refl
 same-either false x = refl
 
--- column 4: what is spent directly in the body belongs to its own row
-gain-local : (row s : ℕ) (b : Body) → gain row b (slot s Column.local) ≡ cond (eqb row s) (localOf b) 0 + madeSum localOf s b
-gain-local row s done = omega (arith, cond-same (eqb row s))
-gain-local row s (leaf l r) =
-    omega (arith, one-at row s (leafWork l) Column.local Column.local, cond-add (eqb row s) (leafWork l) (localOf r), gain-local row s r)
-gain-local row s (child w j g r) =
-    let x = gain j g (slot s Column.local) in
-    omega (arith, returned-at Column.local j s (workOf g) (spanOf g) x, same-either (eqb j s) x, gain-local j s g, gain-local row s r)
+-- columns 4 and 6: what stands directly in the body belongs to its own row
+module _ (k : Column) (m : Leaf → Body → ℕ) (kept : (work span x : ℕ) → own k work span x ≡ x)
+    (here : (row s : ℕ) (l : Leaf) (r : Body) → costGain row (leafWork l) (leafInstructions l r) (slot s k) ≡ cond (eqb row s) (m l r) 0) where
+  gain-direct : (row s : ℕ) (b : Body) → gain row b (slot s k) ≡ cond (eqb row s) (directOf m b) 0 + madeSum (directOf m) s b
+  gain-direct row s done = omega (arith, cond-same (eqb row s))
+  gain-direct row s (leaf l r) = omega (arith, here row s l r, cond-add (eqb row s) (m l r) (directOf m r), gain-direct row s r)
+  gain-direct row s (child w j g r) =
+      let x = gain j g (slot s k) in
+      omega (
+        arith,
+        returned-at k j s (workOf g) (spanOf g) x,
+        ap (λ (y : ℕ). cond (eqb j s) y x) (kept (workOf g) (spanOf g) x),
+        same-either (eqb j s) x,
+        gain-direct j s g,
+        gain-direct row s r,
+      )
 
--- column 5 is left alone
-gain-on : (row s : ℕ) (b : Body) → gain row b (slot s Column.onSpan) ≡ 0
-gain-on row s done = refl
-gain-on row s (leaf l r) = omega (arith, no-cost Column.onSpan (λ v. refl) row s (leafWork l), gain-on row s r)
-gain-on row s (child w j g r) =
-    let x = gain j g (slot s Column.onSpan) in
-    omega (arith, returned-at Column.onSpan j s (workOf g) (spanOf g) x, same-either (eqb j s) x, gain-on j s g, gain-on row s r)
+cost-local : (row s v j : ℕ) → costGain row v j (slot s Column.local) ≡ cond (eqb row s) v 0
+cost-local row s v j = omega (arith, one-at row s v Column.local Column.local, no-one Column.ilocal Column.local (λ i. refl) row s j)
+
+cost-ilocal : (row s v j : ℕ) → costGain row v j (slot s Column.ilocal) ≡ cond (eqb row s) j 0
+cost-ilocal row s v j = omega (arith, one-at row s j Column.ilocal Column.ilocal, no-one Column.local Column.ilocal (λ i. refl) row s v)
+
+gain-local : (row s : ℕ) (b : Body) → gain row b (slot s Column.local) ≡ cond (eqb row s) (localOf b) 0 + madeSum localOf s b
+gain-local = gain-direct Column.local leafCycles (λ work span x. refl) (λ row s l r. cost-local row s (leafWork l) (leafInstructions l r))
+
+gain-ilocal : (row s : ℕ) (b : Body) → gain row b (slot s Column.ilocal) ≡ cond (eqb row s) (ilocalOf b) 0 + madeSum ilocalOf s b
+gain-ilocal = gain-direct Column.ilocal leafInstructions (λ work span x. refl) (λ row s l r. cost-ilocal row s (leafWork l) (leafInstructions l r))
+
+-- columns 5 and 7 are left alone
+module _ (k : Column) (kept : (work span x : ℕ) → own k work span x ≡ x) (no-local : Neither k) where
+  gain-on : (row s : ℕ) (b : Body) → gain row b (slot s k) ≡ 0
+  gain-on row s done = refl
+  gain-on row s (leaf l r) = omega (arith, no-cost k no-local row s (leafWork l) (leafInstructions l r), gain-on row s r)
+  gain-on row s (child w j g r) =
+      let x = gain j g (slot s k) in
+      omega (
+        arith,
+        returned-at k j s (workOf g) (spanOf g) x,
+        ap (λ (y : ℕ). cond (eqb j s) y x) (kept (workOf g) (spanOf g) x),
+        same-either (eqb j s) x,
+        gain-on j s g,
+        gain-on row s r,
+      )
 
 -- the numbers behind the rows are left alone
 module _ (m i : ℕ) (l : columns * (m + 1) ≤ i) where
@@ -122,9 +161,13 @@ module _ (m i : ℕ) (l : columns * (m + 1) ≤ i) where
 
   gain-out : (D d row : ℕ) (b : Body) → Within m D d b → row ≤ m → gain row b i ≡ 0
   gain-out D d row done h w = refl
-  gain-out D d row (leaf k r) h w = omega (arith, one-out row (leafWork k) Column.local w, gain-out D d row r (h .1) w)
+  gain-out D d row (leaf k r) h w = omega (arith, one-out row (leafWork k) Column.local w, one-out row (leafInstructions k r) Column.ilocal w, gain-out D d row r (h .1) w)
   gain-out D d row (child k j g r) h w =
       omega (arith, returned-out j (workOf g) (spanOf g) (gain j g i) (h .1), gain-out D (suc d) j g (h .3) (h .1), gain-out D d row r (h .4) w)
+
+-- the root is of no site's row
+not-its-own : (s x : ℕ) → cond (eqb 0 (suc s)) x 0 ≡ 0
+not-its-own s x = ap (λ (t : Bool). cond t x 0) (ne-eqb 0 (suc s) (λ z. omega arith))
 
 -- what the root comes to by its body b
 module _ (m D d : ℕ) (b : Body) (w : Within m D d b) where
@@ -137,27 +180,31 @@ module _ (m D d : ℕ) (b : Body) (w : Within m D d b) where
       returned-at k 0 (suc s) (workOf b) (spanOf b) x
       ∙ ap (λ (t : Bool). cond t (own k (workOf b) (spanOf b) x) x) (ne-eqb 0 (suc s) (λ z. omega arith))
 
+  module _ (k : Column) (kept : (work span x : ℕ) → own k work span x ≡ x) (no-local : Neither k) where
+    left-alone : (s : ℕ) → made 0 b (slot s k) ≡ 0
+    left-alone zero = root-own k ∙ kept (workOf b) (spanOf b) (gain 0 b (slot 0 k)) ∙ gain-on k kept no-local 0 0 b
+    left-alone (suc s) = root-site s k ∙ gain-on k kept no-local 0 (suc s) b
+
   pub root-on : (s : ℕ) → made 0 b (slot s Column.onSpan) ≡ 0
-  root-on zero = root-own Column.onSpan ∙ gain-on 0 0 b
-  root-on (suc s) = root-site s Column.onSpan ∙ gain-on 0 (suc s) b
+  root-on s = left-alone Column.onSpan (λ work span x. refl) ((λ v. refl), (λ v. refl)) s
+
+  pub root-ion : (s : ℕ) → made 0 b (slot s Column.ionSpan) ≡ 0
+  root-ion s = left-alone Column.ionSpan (λ work span x. refl) ((λ v. refl), (λ v. refl)) s
 
   pub root-out : (i : ℕ) → columns * (m + 1) ≤ i → made 0 b i ≡ 0
   root-out i h = returned-out m i h 0 (workOf b) (spanOf b) (gain 0 b i) (omega arith) ∙ gain-out m i h D d 0 b w (omega arith)
 
-  -- columns 1 to 4 by the tree
-  pub root-cell : (s : ℕ) (k : Column) → (k ≡ Column.onSpan → ⊥) → made 0 b (slot s k) ≡ cell b s k
-  root-cell zero Column.calls h = omega (arith, root-own Column.calls, gain-calls 0 0 b, none-from-root (λ g. 1) m D d b w)
-  root-cell zero Column.work h = root-own Column.work
-  root-cell zero Column.span h = root-own Column.span
-  root-cell zero Column.local h = omega (arith, root-own Column.local, gain-local 0 0 b, none-from-root localOf m D d b w)
-  root-cell (suc s) Column.calls h = root-site s Column.calls ∙ gain-calls 0 (suc s) b
-  root-cell (suc s) Column.work h = root-site s Column.work ∙ gain-outer Column.work workOf (λ g x. refl) (λ v. refl) 0 (suc s) b
-  root-cell (suc s) Column.span h = root-site s Column.span ∙ gain-outer Column.span spanOf (λ g x. refl) (λ v. refl) 0 (suc s) b
-  root-cell (suc s) Column.local h =
-      omega (
-        arith,
-        root-site s Column.local,
-        gain-local 0 (suc s) b,
-        ap (λ (t : Bool). cond t (localOf b) 0) (ne-eqb 0 (suc s) (λ z. omega arith)),
-      )
-  root-cell s Column.onSpan h = absurd (h refl)
+  -- columns 1 to 4 and 6 by the tree
+  pub root-cell : (s : ℕ) (k : Column) → (k ≡ Column.onSpan → ⊥) → (k ≡ Column.ionSpan → ⊥) → made 0 b (slot s k) ≡ cell b s k
+  root-cell zero Column.calls h i = omega (arith, root-own Column.calls, gain-calls 0 0 b, none-from-root (λ g. 1) m D d b w)
+  root-cell zero Column.work h i = root-own Column.work
+  root-cell zero Column.span h i = root-own Column.span
+  root-cell zero Column.local h i = omega (arith, root-own Column.local, gain-local 0 0 b, none-from-root localOf m D d b w)
+  root-cell zero Column.ilocal h i = omega (arith, root-own Column.ilocal, gain-ilocal 0 0 b, none-from-root ilocalOf m D d b w)
+  root-cell (suc s) Column.calls h i = root-site s Column.calls ∙ gain-calls 0 (suc s) b
+  root-cell (suc s) Column.work h i = root-site s Column.work ∙ gain-outer Column.work workOf (λ g x. refl) ((λ v. refl), (λ v. refl)) 0 (suc s) b
+  root-cell (suc s) Column.span h i = root-site s Column.span ∙ gain-outer Column.span spanOf (λ g x. refl) ((λ v. refl), (λ v. refl)) 0 (suc s) b
+  root-cell (suc s) Column.local h i = omega (arith, root-site s Column.local, gain-local 0 (suc s) b, not-its-own s (localOf b))
+  root-cell (suc s) Column.ilocal h i = omega (arith, root-site s Column.ilocal, gain-ilocal 0 (suc s) b, not-its-own s (ilocalOf b))
+  root-cell s Column.onSpan h i = absurd (h refl)
+  root-cell s Column.ionSpan h i = absurd (i refl)

@@ -6,20 +6,19 @@ use mathlib.Core.List.{List, [], _∷_, _++_}
 use Prim.Native.Nat.{ℕ, suc, _+_, _≤_, _<_}
 use native.Mathlib.Numerals.{add-one}
 use native.Mathlib.Omega.{arith}
-use lib.Dec.{eqb, ltb}
+use lib.Dec.{ltb}
 use Rattle.chain.specs.Plan.{CostLine, weight, choose}
 use Rattle.chain.proofs.Lists.{weight-append}
 use Rattle.chain.proofs.Choose.{choose-cases}
-use Rattle.trace.specs.Column.{Column, slot}
-use Rattle.trace.specs.Tree.{Way, call, spawn, Leaf, spend, sync, note, leafWork, Body, done, leaf, child, size, Within, workOf}
-use Rattle.trace.specs.Fold.{costAt, Chains, nothing, joined, spawned, leafChains, ended, childChains, run, chainOf}
-use Rattle.trace.proofs.Basics.{cond-le}
+use Rattle.trace.specs.Tree.{Way, call, spawn, Leaf, spend, sync, note, leafWork, leafCycles, leafInstructions, Body, done, leaf, child, ahead, size, Within, allOf, workOf, instructionsOf}
+use Rattle.trace.specs.Fold.{costAt, itsInstructions, Chains, nothing, joined, spawned, leafChains, ended, childChains, run, chainOf, onAll}
+use Rattle.trace.proofs.OnChain.{on-append}
 use Rattle.weigh.specs.Weighed.{Weigh}
 use Rattle.walk.specs.Reads.{Reads}
-use Rattle.walk.specs.Numbers.{load}
+use Rattle.walk.specs.Numbers.{loadBy, load, iload}
 use Rattle.walk.specs.Gain.{gain}
-use Rattle.walk.specs.Item.{More, rest, itemSize, itemWork, itemGain, itemChains}
-use Rattle.walk.proofs.Return.{made-le}
+use Rattle.walk.specs.Item.{More, rest, itemSize, itemOf, itemWork, itemInstructions, itemGain, itemChains}
+use Rattle.walk.proofs.Return.{cost-gain-le, made-le}
 
 pub size-item : (b : Body) → More b → size b ≡ itemSize b + size (rest b)
 size-item done h = absurd h
@@ -36,20 +35,26 @@ item-some done h = absurd h
 item-some (leaf l r) h = omega arith
 item-some (child w j g r) h = omega arith
 
+all-item : (m : Leaf → Body → ℕ) (b : Body) → allOf m b ≡ itemOf m b + allOf m (rest b)
+all-item m done = refl
+all-item m (leaf l r) = refl
+all-item m (child w j g r) = refl
+
 pub work-item : (b : Body) → workOf b ≡ itemWork b + workOf (rest b)
-work-item done = refl
-work-item (leaf l r) = refl
-work-item (child w j g r) = refl
+work-item b = all-item leafCycles b
+
+pub instructions-item : (b : Body) → instructionsOf b ≡ itemInstructions b + instructionsOf (rest b)
+instructions-item b = all-item leafInstructions b
 
 pub gain-item : (b : Body) (s i : ℕ) → gain s b i ≡ itemGain s b i + gain s (rest b) i
 gain-item done s i = refl
 gain-item (leaf l r) s i = refl
 gain-item (child w j g r) s i = refl
 
-pub item-gain-le : (s : ℕ) (b : Body) → More b → (i : ℕ) → itemGain s b i ≤ itemSize b + itemWork b
+pub item-gain-le : (s : ℕ) (b : Body) → More b → (i : ℕ) → itemGain s b i ≤ itemSize b + (itemWork b + itemInstructions b)
 item-gain-le s done h i = absurd h
-item-gain-le s (leaf l r) h i = omega (arith, cond-le (eqb (slot s Column.local) i) (leafWork l))
-item-gain-le s (child w j g r) h i = made-le j g i
+item-gain-le s (leaf l r) h i = omega (arith, cost-gain-le s (leafWork l) (leafInstructions l r) i)
+item-gain-le s (child w j g r) h i = omega (arith, made-le j g i)
 
 -- the line behind an item of one line and z more
 behind : (n z : ℕ) → n + (1 + z) ≡ suc n + z
@@ -57,50 +62,66 @@ behind n z = omega arith
 
 pub run-item : (b : Body) (n s : ℕ) (k : Chains) → More b → run n s b k ≡ run (n + itemSize b) s (rest b) (itemChains n s b k)
 run-item done n s k h = absurd h
-run-item (leaf l r) n s k h = ap (λ (m : ℕ). run m s r (leafChains n s l k)) (sym (add-one n))
+run-item (leaf l r) n s k h = ap (λ (m : ℕ). run m s r (leafChains n s l (ahead r) k)) (sym (add-one n))
 run-item (child w j g r) n s k h = rw (behind n (size g), add-one n)
 
-choose-le : (l c : List CostLine) → weight (choose l c) ≤ weight l + weight c
-choose-le l c = go (choose-cases l c)
-  where
-    go : ((weight l < weight c) × (choose l c ≡ c)) ⊎ ((weight c ≤ weight l) × (choose l c ≡ l)) → weight (choose l c) ≤ weight l + weight c
-    go (inl k) = omega (arith, ap weight (k .1))
-    go (inr k) = omega (arith, ap weight (k .1))
+-- Chains come to at most what they came to and what was spent: by a measure of chains and the leaves that it is made of.
+module _ (m : List CostLine → ℕ) (of-leaf : Leaf → Body → ℕ) (m-none : m [] ≡ 0) (m-append : (a b : List CostLine) → m (a ++ b) ≡ m a + m b)
+    (m-cost : (n s v : ℕ) (r : Body) → m (costAt n s v (ahead r) ∷ []) ≡ of-leaf (spend v) r) where
+  choose-le : (l c : List CostLine) → m (choose l c) ≤ m l + m c
+  choose-le l c = go (choose-cases l c)
+    where
+      go : ((weight l < weight c) × (choose l c ≡ c)) ⊎ ((weight c ≤ weight l) × (choose l c ≡ l)) → m (choose l c) ≤ m l + m c
+      go (inl k) = omega (arith, ap m (k .1))
+      go (inr k) = omega (arith, ap m (k .1))
 
-join-load : (k : Chains) → load (joined k) ≤ load k
-join-load k = omega (arith, weight-append (k .p) (choose (k .l) (k .c)), choose-le (k .l) (k .c))
+  join-load : (k : Chains) → loadBy m (joined k) ≤ loadBy m k
+  join-load k = omega (arith, m-append (k .p) (choose (k .l) (k .c)), choose-le (k .l) (k .c), m-none)
 
-spawn-load : (k : Chains) (g : List CostLine) → load (spawned g k) ≤ load k + weight g
-spawn-load k g = go (ltb (weight (k .l)) (weight (k .c) + weight g))
-  where
-    go : (t : Bool) → load (cond t (record { p = k .p ++ k .c; l = g; c = [] }) k) ≤ load k + weight g
-    go true = omega (arith, weight-append (k .p) (k .c))
-    go false = omega arith
+  spawn-load : (k : Chains) (g : List CostLine) → loadBy m (spawned g k) ≤ loadBy m k + m g
+  spawn-load k g = go (ltb (weight (k .l)) (weight (k .c) + weight g))
+    where
+      go : (t : Bool) → loadBy m (cond t (record { p = k .p ++ k .c; l = g; c = [] }) k) ≤ loadBy m k + m g
+      go true = omega (arith, m-append (k .p) (k .c), m-none)
+      go false = omega arith
 
-leaf-load : (l : Leaf) (n s : ℕ) (k : Chains) → load (leafChains n s l k) ≤ load k + leafWork l
-leaf-load (spend v) n s k = omega (arith, weight-append (k .c) (costAt n s v ∷ []))
-leaf-load sync n s k = omega (arith, join-load k)
-leaf-load (note x) n s k = omega arith
+  leaf-load : (l : Leaf) (r : Body) (n s : ℕ) (k : Chains) → loadBy m (leafChains n s l (ahead r) k) ≤ loadBy m k + of-leaf l r
+  leaf-load (spend v) r n s k = omega (arith, m-append (k .c) (costAt n s v (ahead r) ∷ []), m-cost n s v r)
+  leaf-load sync r n s k = omega (arith, join-load k)
+  leaf-load (note x) r n s k = omega arith
 
-child-load : (w : Way) (f : Chains → Chains) (k : Chains) → load (childChains w f k) ≤ load k + load (f nothing)
-child-load call f k = omega (arith, weight-append (k .c) (ended f), join-load (f nothing))
-child-load spawn f k = omega (arith, spawn-load k (ended f), join-load (f nothing))
+  child-load : (w : Way) (f : Chains → Chains) (k : Chains) → loadBy m (childChains w f k) ≤ loadBy m k + loadBy m (f nothing)
+  child-load call f k = omega (arith, m-append (k .c) (ended f), join-load (f nothing))
+  child-load spawn f k = omega (arith, spawn-load k (ended f), join-load (f nothing))
 
--- chains weigh at most what they weighed and what was spent
-run-load : (b : Body) (n s : ℕ) (k : Chains) → load (run n s b k) ≤ load k + workOf b
-run-load done n s k = omega arith
-run-load (leaf l r) n s k = omega (arith, run-load r (suc n) s (leafChains n s l k), leaf-load l n s k)
-run-load (child w j g r) n s k =
-    let f = run (suc n) j g in
-    omega (arith, run-load r (suc n + size g) s (childChains w f k), child-load w f k, run-load g (suc n) j nothing)
+  run-load : (b : Body) (n s : ℕ) (k : Chains) → loadBy m (run n s b k) ≤ loadBy m k + allOf of-leaf b
+  run-load done n s k = omega arith
+  run-load (leaf l r) n s k = omega (arith, run-load r (suc n) s (leafChains n s l (ahead r) k), leaf-load l r n s k)
+  run-load (child w j g r) n s k =
+      let f = run (suc n) j g in
+      omega (arith, run-load r (suc n + size g) s (childChains w f k), child-load w f k, run-load g (suc n) j nothing, m-none)
 
+  chain-most : (b : Body) (n s : ℕ) → m (chainOf n s b) ≤ allOf of-leaf b
+  chain-most b n s = omega (arith, join-load (run n s b nothing), run-load b n s nothing, m-none)
+
+  item-load : (b : Body) (n s : ℕ) (k : Chains) → loadBy m (itemChains n s b k) ≤ loadBy m k + itemOf of-leaf b
+  item-load done n s k = omega arith
+  item-load (leaf l r) n s k = leaf-load l r n s k
+  item-load (child w j g r) n s k = omega (arith, child-load w (run (n + 1) j g) k, run-load g (n + 1) j nothing, m-none)
+
+-- what chains weigh
 pub chain-le : (b : Body) (n s : ℕ) → weight (chainOf n s b) ≤ workOf b
-chain-le b n s = omega (arith, join-load (run n s b nothing), run-load b n s nothing)
+chain-le b n s = chain-most weight leafCycles refl weight-append (λ n s v r. omega arith) b n s
 
 pub load-item : (b : Body) (n s : ℕ) (k : Chains) → load (itemChains n s b k) ≤ load k + itemWork b
-load-item done n s k = omega arith
-load-item (leaf l r) n s k = leaf-load l n s k
-load-item (child w j g r) n s k = omega (arith, child-load w (run (n + 1) j g) k, run-load g (n + 1) j nothing)
+load-item b n s k = item-load weight leafCycles refl weight-append (λ n s v r. omega arith) b n s k
+
+-- and their instructions
+pub chain-instructions : (b : Body) (n s : ℕ) → onAll itsInstructions (chainOf n s b) ≤ instructionsOf b
+chain-instructions b n s = chain-most (onAll itsInstructions) leafInstructions refl (on-append itsInstructions) (λ n s v r. omega arith) b n s
+
+pub iload-item : (b : Body) (n s : ℕ) (k : Chains) → iload (itemChains n s b k) ≤ iload k + itemInstructions b
+iload-item b n s k = item-load (onAll itsInstructions) leafInstructions refl (on-append itsInstructions) (λ n s v r. omega arith) b n s k
 
 -- the lines behind the first item
 pub reads-rest : (w : Weigh) (s : List ℕ) (n row : ℕ) (b : Body) → More b → Reads w s n row b → Reads w s (n + itemSize b) row (rest b)

@@ -8,12 +8,12 @@ use lib.Dec.{eqb}
 use lib.ListN.{length, getD, set, length-set}
 use borrow.Author.Tests.{eqb-true}
 use Rattle.trace.specs.Column.{Column, slot}
-use Rattle.trace.specs.Tree.{leafWork, Body, done, leaf, child, size, workOf, spanOf}
+use Rattle.trace.specs.Tree.{leafWork, leafInstructions, Body, done, leaf, child, workOf, spanOf}
 use Rattle.trace.proofs.Basics.{cond-le}
 use Rattle.trace.proofs.Recurrence.{span-le, weight-chain}
 use Rattle.walk.specs.declared.Open.{Open}
 use Rattle.walk.specs.declared.Credit.{Credit}
-use Rattle.walk.specs.Gain.{creditOf, credited, ReturnFits, oneCall, returned, Returned, gain, made, Grown}
+use Rattle.walk.specs.Gain.{creditOf, credited, ReturnFits, oneCall, returned, Returned, costGain, gain, made, mostGain, Grown}
 use Rattle.walk.specs.Reader.{BodyDone}
 use Rattle.walk.proofs.Rows.{written-at}
 
@@ -37,25 +37,28 @@ returned-le s work span x i y hw hs hx = go (eqb (slot s Column.span) i) (eqb (s
 span-most : (g : Body) → spanOf g ≤ workOf g
 span-most g = omega (arith, span-le g 0 0 0)
 
-made-most : (s : ℕ) (g : Body) (i : ℕ) → gain s g i ≤ size g + workOf g → made s g i ≤ 1 + size g + workOf g
-made-most s g i h = omega (arith, returned-le s (workOf g) (spanOf g) (gain s g i) i (size g + workOf g) (omega arith) (omega (arith, span-most g)) h)
+pub cost-gain-le : (s v j i : ℕ) → costGain s v j i ≤ v + j
+cost-gain-le s v j i = omega (arith, cond-le (eqb (slot s Column.local) i) v, cond-le (eqb (slot s Column.ilocal) i) j)
 
--- LAW: no row number grows by more than the lines and the costs of what is read
-pub gain-le : (s : ℕ) (b : Body) (i : ℕ) → gain s b i ≤ size b + workOf b
+made-most : (s : ℕ) (g : Body) (i : ℕ) → gain s g i ≤ mostGain g → made s g i ≤ 1 + mostGain g
+made-most s g i h = omega (arith, returned-le s (workOf g) (spanOf g) (gain s g i) i (mostGain g) (omega arith) (omega (arith, span-most g)) h)
+
+-- LAW: no row number grows by more than the lines, the costs and the instructions of what is read
+pub gain-le : (s : ℕ) (b : Body) (i : ℕ) → gain s b i ≤ mostGain b
 gain-le s done i = omega arith
-gain-le s (leaf l r) i = omega (arith, cond-le (eqb (slot s Column.local) i) (leafWork l), gain-le s r i)
+gain-le s (leaf l r) i = omega (arith, cost-gain-le s (leafWork l) (leafInstructions l r) i, gain-le s r i)
 gain-le s (child w j g r) i = omega (arith, made-most j g i (gain-le j g i), gain-le s r i)
 
-pub made-le : (s : ℕ) (g : Body) (i : ℕ) → made s g i ≤ 1 + size g + workOf g
+pub made-le : (s : ℕ) (g : Body) (i : ℕ) → made s g i ≤ 1 + mostGain g
 made-le s g i = made-most s g i (gain-le s g i)
 
 -- what columns 2 and 3 held before stays, and what any number held
 returned-more : (rows : List ℕ) (s work span x i : ℕ)
-    → returned s (creditOf rows s .work + work) (creditOf rows s .span + span) (getD rows i 0 + x) i ≡ getD rows i 0 + returned s work span x i
+    → returned s (creditOf rows s .work .0 + work) (creditOf rows s .span .0 + span) (getD rows i 0 + x) i ≡ getD rows i 0 + returned s work span x i
 returned-more rows s work span x i = go (eqb (slot s Column.span) i) (eqb-true (slot s Column.span) i) (eqb (slot s Column.work) i) (eqb-true (slot s Column.work) i)
   where
     go : (b : Bool) → (b ≡ true → slot s Column.span ≡ i) → (c : Bool) → (c ≡ true → slot s Column.work ≡ i)
-        → cond b (creditOf rows s .span + span) (cond c (creditOf rows s .work + work) (getD rows i 0 + x + oneCall s i))
+        → cond b (creditOf rows s .span .0 + span) (cond c (creditOf rows s .work .0 + work) (getD rows i 0 + x + oneCall s i))
         ≡ getD rows i 0 + cond b span (cond c work (x + oneCall s i))
     go true e c f = ap (λ (j : ℕ). getD rows j 0 + span) (e refl)
     go false e true f = ap (λ (j : ℕ). getD rows j 0 + work) (f refl)
@@ -71,31 +74,31 @@ pub record Came (s : ℕ) (g : Body) (rows : List ℕ) (before : Credit) (work s
   pub inside : Grown rows (gain s g) rows₁
 
 pub came : (n s : ℕ) (g : Body) (rows : List ℕ) (before : Credit) (r : Open) (rows₁ : List ℕ) → before ≡ creditOf rows s → length rows₁ ≡ length rows
-    → BodyDone n s rows g r rows₁ → Came s g rows before (r .work) (r .prefix) rows₁
+    → BodyDone n s rows g r rows₁ → Came s g rows before (r .work .0) (r .prefix .0) rows₁
 came n s g rows before r rows₁ b len d =
     record {
       before-is = b;
-      work-is = ap (λ (x : Open). x .work) (d .numbers-are);
-      span-is = ap (λ (x : Open). x .prefix) (d .numbers-are) ∙ weight-chain g n s;
+      work-is = ap (λ (x : Open). x .work .0) (d .numbers-are);
+      span-is = ap (λ (x : Open). x .prefix .0) (d .numbers-are) ∙ weight-chain g n s;
       same-length = len;
       inside = d .rows-are;
     }
 
 module _ {s : ℕ} {g : Body} {rows : List ℕ} {before : Credit} {work span : ℕ} {rows₁ : List ℕ} (c : Came s g rows before work span rows₁) where
-  pub return-fits : slot s Column.span < length rows → ((k : Column) → getD rows (slot s k) 0 + (1 + size g + workOf g) < 2 ^ 64) → ReturnFits before rows₁ s work span
+  pub return-fits : slot s Column.span < length rows → ((k : Column) → getD rows (slot s k) 0 + (1 + mostGain g) < 2 ^ 64) → ReturnFits before rows₁ s work span
   return-fits there fits = (
     (omega (arith, c .same-length), omega (arith, c .inside (slot s Column.calls) (omega arith), gain-le s g (slot s Column.calls), fits Column.calls)),
     omega (arith, c .same-length),
-    omega (arith, ap (λ (x : Credit). x .work) (c .before-is), c .work-is, fits Column.work),
-    omega (arith, ap (λ (x : Credit). x .span) (c .before-is), c .span-is, span-most g, fits Column.span),
+    omega (arith, ap (λ (x : Credit). x .work .0) (c .before-is), c .work-is, fits Column.work),
+    omega (arith, ap (λ (x : Credit). x .span .0) (c .before-is), c .span-is, span-most g, fits Column.span),
   )
 
   -- LAW: behind it, the rows have grown by the whole invocation
   pub made-grown : (rows₂ : List ℕ) → Returned before s work span rows₁ rows₂ → Grown rows (made s g) rows₂
   made-grown rows₂ back i l =
       back i (omega (arith, c .same-length))
-      ∙ ap (λ (x : Credit). returned s (x .work + work) (x .span + span) (getD rows₁ i 0) i) (c .before-is)
-      ∙ ap (λ (x : ℕ). returned s (creditOf rows s .work + x) (creditOf rows s .span + span) (getD rows₁ i 0) i) (c .work-is)
-      ∙ ap (λ (x : ℕ). returned s (creditOf rows s .work + workOf g) (creditOf rows s .span + x) (getD rows₁ i 0) i) (c .span-is)
-      ∙ ap (λ (x : ℕ). returned s (creditOf rows s .work + workOf g) (creditOf rows s .span + spanOf g) x i) (c .inside i l)
+      ∙ ap (λ (x : Credit). returned s (x .work .0 + work) (x .span .0 + span) (getD rows₁ i 0) i) (c .before-is)
+      ∙ ap (λ (x : ℕ). returned s (creditOf rows s .work .0 + x) (creditOf rows s .span .0 + span) (getD rows₁ i 0) i) (c .work-is)
+      ∙ ap (λ (x : ℕ). returned s (creditOf rows s .work .0 + workOf g) (creditOf rows s .span .0 + x) (getD rows₁ i 0) i) (c .span-is)
+      ∙ ap (λ (x : ℕ). returned s (creditOf rows s .work .0 + workOf g) (creditOf rows s .span .0 + spanOf g) x i) (c .inside i l)
       ∙ returned-more rows s (workOf g) (spanOf g) (gain s g i) i

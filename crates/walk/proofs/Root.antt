@@ -13,18 +13,18 @@ use Rattle.trace.specs.Rows.{columns}
 use Rattle.trace.specs.Column.{Column, slot}
 use Rattle.trace.specs.Refusals.{verdict, accepted}
 use Rattle.trace.specs.ByTree.{cell}
-use Rattle.trace.specs.Tree.{Body, size, workOf, Parts}
+use Rattle.trace.specs.Tree.{Body, Parts}
 use Rattle.trace.specs.Fold.{nothing}
 use Rattle.trace.proofs.Slots.{slot-in}
 use Rattle.trace.proofs.Scan.{Fine, accepted-reads}
 use Rattle.trace.proofs.Parse.{parts}
-use Rattle.trace.proofs.Outcome.{work-small, length-is}
+use Rattle.trace.proofs.Outcome.{work-small, instructions-small, length-is}
 use Rattle.weigh.specs.Weighed.{Weigh, Tabled, reweighed}
 use Rattle.weigh.proofs.Accepted.{reweighed-parts, reweighed-fine}
 use Rattle.walk.specs.Stands.{Stands}
 use Rattle.walk.specs.Reads.{Reads}
 use Rattle.walk.specs.Numbers.{numbers}
-use Rattle.walk.specs.Gain.{made, Grown}
+use Rattle.walk.specs.Gain.{made, mostGain, Grown}
 use Rattle.walk.specs.Reader.{Ready}
 use Rattle.walk.proofs.Stands.{stands-all, stands-reads}
 use Rattle.walk.proofs.Columns.{root-cell, root-out}
@@ -43,9 +43,9 @@ module _ (w : Weigh) (tabled : Tabled w) (D M : ℕ) (t : List Frame) (fine : Fi
   pub fine-too : Fine D M other
   fine-too = reweighed-fine w tabled D M t fine
 
-  -- its lines and its costs together are few
-  pub root-small : size body + workOf body < 2 ^ 55
-  root-small = omega (arith, length-is D other tree, fine-too .lines-most, work-small D other tree M fine-too)
+  -- its lines, its costs and its instructions together are few
+  pub root-small : mostGain body < 2 ^ 56
+  root-small = omega (arith, length-is D other tree, fine-too .lines-most, work-small D other tree M fine-too, instructions-small D other tree M fine-too)
 
   module _ (s : List ℕ) (room : Bool) (acc : verdict s D M room ≡ accepted t) where
     pub root-reads : Reads w s 0 0 body
@@ -73,14 +73,14 @@ module _ (w : Weigh) (tabled : Tabled w) (D M : ℕ) (t : List Frame) (fine : Fi
           rows-fit = λ i l. omega (arith, zeros i l, root-small);
         }
 
--- The rows at the end, but for column 5: what was zero is the tree's columns, and what stands behind the rows is as
+-- The rows at the end, but for columns 5 and 7: what was zero is the tree's columns, and what stands behind the rows is as
 -- it was.
 module _ (D : ℕ) (t : List Frame) (x : Parts D t) (rows₀ rows₂ : List ℕ) (long : columns * (sites t + 1) ≤ length rows₀)
     (zeros : (i : ℕ) → i < columns * (sites t + 1) → getD rows₀ i 0 ≡ 0) (grown : Grown rows₀ (made 0 (x .body)) rows₂) where
-  pub cells-are : (s : ℕ) (k : Column) → s ≤ sites t → (k ≡ Column.onSpan → ⊥) → getD rows₂ (slot s k) 0 ≡ cell (x .body) s k
-  cells-are s k h l =
+  pub cells-are : (s : ℕ) (k : Column) → s ≤ sites t → (k ≡ Column.onSpan → ⊥) → (k ≡ Column.ionSpan → ⊥) → getD rows₂ (slot s k) 0 ≡ cell (x .body) s k
+  cells-are s k h l i₇ =
       let i = slot-in (sites t) s k h in
-      omega (arith, grown (slot s k) (omega arith), zeros (slot s k) i, root-cell (sites t) D 1 (x .body) (x .within) s k l)
+      omega (arith, grown (slot s k) (omega arith), zeros (slot s k) i, root-cell (sites t) D 1 (x .body) (x .within) s k l i₇)
 
   pub behind : (i : ℕ) → columns * (sites t + 1) ≤ i → i < length rows₀ → getD rows₂ i 0 ≡ getD rows₀ i 0
   behind i h l = omega (arith, grown i l, root-out (sites t) D 1 (x .body) (x .within) i h)

@@ -31,3 +31,7 @@ written-at a j v i l = go (eqb j i) refl
     go : (b : Bool) → eqb j i ≡ b → getD (set a j v) i 0 ≡ cond b v (getD a i 0)
     go true e = let q = eqb-true j i e in rw (← q) (getD-set-same a j v 0 (omega arith))
     go false e = getD-set-other a j i v 0 (λ q. eqb-false j i e (sym q))
+
+-- numbers that grew twice
+pub grown-twice : (a b c : List ℕ) (g h : ℕ → ℕ) → length b ≡ length a → Grown a g b → Grown b h c → Grown a (λ i. g i + h i) c
+grown-twice a b c g h e x y i l = omega (arith, x i l, y i (omega arith))

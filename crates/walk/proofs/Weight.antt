@@ -1,10 +1,14 @@
--- What a cost line weighs by the factors of the rows: it stays in the table, and as it stands where a row has none.
+-- What a cost line weighs by the factors of the rows: it stays in the table, and as it stands where a row has none. Its
+-- instructions by the next line.
 use mathlib.Core.Path.{_≡_, refl, sym, ap, _∙_}
 use mathlib.Core.Logic.{inl, inr}
+use mathlib.Core.Bool.{Bool, cond}
 use mathlib.Core.List.{List, [], _∷_}
-use Prim.Native.Nat.{ℕ, zero, suc, _≤_, _<_}
+use Prim.Native.Nat.{ℕ, zero, suc, _+_, _≤_, _<_}
 use native.Mathlib.Omega.{arith}
 use lib.ListN.{length, getD, List·getD-eq-default}
+use borrow.Author.Tests.{eq-eqb, ne-eqb}
+use Rattle.line.specs.At.{kindAt, valueAt}
 use Rattle.trace.proofs.Basics.{below}
 use Rattle.weigh.specs.Weighed.{Tabled}
 use Rattle.forecast.specs.declared.Entry.{Entry}
@@ -16,7 +20,7 @@ use Rattle.forecast.proofs.Asked.{factor-range, asked-good}
 use Rattle.forecast.proofs.Table.{table-at, table-length}
 use Rattle.forecast.proofs.OfList.{undeclared-row}
 use Rattle.forecast.proofs.Divided.{divided-one, divided-least, divided-most}
-use Rattle.walk.specs.Weight.{byFactors, Factors}
+use Rattle.walk.specs.Weight.{byFactors, Factors, instructionsAt}
 
 -- a number that is there is the same whatever stands for those that are not
 pub factor-there : (fs : List ℕ) (s : ℕ) → s < length fs → getD fs s 0 ≡ getD fs s 1
@@ -54,3 +58,10 @@ module _ (m : ℕ) (few : m ≤ 255) (es : List Entry) (may : asked m es ≡ 0) 
   -- LAW: weighed by them it is weighed by the entries
   pub table-weighs : (n s v : ℕ) → byFactors (factorTable es) n s v ≡ byEntries es n s v
   table-weighs n s v = ap (divided v) (factor-at s)
+
+-- the next line is of kind 07, or is not
+pub next-carries : (s : List ℕ) (n k v : ℕ) → k ≡ kindAt s (n + 1) → k ≡ 7 → v ≡ valueAt s (n + 1) → v ≡ instructionsAt s n
+next-carries s n k v e h q = q ∙ ap (λ (b : Bool). cond b (valueAt s (n + 1)) 0) (sym (eq-eqb _ _ (sym e ∙ h)))
+
+pub next-carries-none : (s : List ℕ) (n k : ℕ) → k ≡ kindAt s (n + 1) → (k ≡ 7 → ⊥) → 0 ≡ instructionsAt s n
+next-carries-none s n k e h = ap (λ (b : Bool). cond b (valueAt s (n + 1)) 0) (sym (ne-eqb _ _ (λ x. h (e ∙ x))))

@@ -1,5 +1,5 @@
 -- For proofs and engines, not for the reader of document 01: by how much each row number grows while a body is read, in
--- columns 1 to 4.
+-- columns 1 to 4 and 6.
 use Prim.Native.Nat.{ℕ, _+_, _^_, _<_}
 use mathlib.Core.Path.{_≡_}
 use mathlib.Core.Bool.{cond}
@@ -7,8 +7,9 @@ use mathlib.Core.List.{List}
 use lib.Dec.{eqb}
 use lib.ListN.{length, getD, set}
 use Rattle.trace.specs.Column.{Column, slot}
-use Rattle.trace.specs.Tree.{leafWork, Body, done, leaf, child, workOf, spanOf}
+use Rattle.trace.specs.Tree.{leafWork, leafInstructions, Body, done, leaf, child, size, workOf, instructionsOf, spanOf}
 use Rattle.walk.specs.declared.Credit.{Credit}
+use Rattle.walk.specs.Measure.{cycles}
 
 -- column k of row s is there, and has room for v more
 abbrev pub ColumnFits : List ℕ → ℕ → Column → ℕ → Type 0
@@ -16,7 +17,7 @@ ColumnFits rows s k v = (slot s k < length rows) × (getD rows (slot s k) 0 + v 
 
 -- what columns 2 and 3 of row s hold
 abbrev pub creditOf : List ℕ → ℕ → Credit
-creditOf rows s = record { work = getD rows (slot s Column.work) 0; span = getD rows (slot s Column.span) 0 }
+creditOf rows s = record { work = cycles (getD rows (slot s Column.work) 0); span = cycles (getD rows (slot s Column.span) 0) }
 
 -- the rows, where they are now these
 abbrev pub credited : ℕ → ℕ → ℕ → List ℕ → List ℕ
@@ -26,7 +27,7 @@ credited s work span rows = set (set rows (slot s Column.work) work) (slot s Col
 -- and 3 held before it was read.
 abbrev pub ReturnFits : Credit → List ℕ → ℕ → ℕ → ℕ → Type 0
 ReturnFits before rows s work span = ColumnFits rows s Column.calls 1 × (slot s Column.span < length rows)
-    × (before .work + work < 2 ^ 64) × (before .span + span < 2 ^ 64)
+    × (before .work .0 + work < 2 ^ 64) × (before .span .0 + span < 2 ^ 64)
 
 -- v where row number i is number j, else nothing
 abbrev pub one : ℕ → ℕ → ℕ → ℕ
@@ -45,17 +46,25 @@ returned s work span x i = cond (eqb (slot s Column.span) i) span (cond (eqb (sl
 -- an invocation of site s with this work and this span has returned; before is what its columns 2 and 3 held before it
 abbrev pub Returned : Credit → ℕ → ℕ → ℕ → List ℕ → List ℕ → Type 0
 Returned before s work span rows rows′ = (i : ℕ) → i < length rows
-    → getD rows′ i 0 ≡ returned s (before .work + work) (before .span + span) (getD rows i 0) i
+    → getD rows′ i 0 ≡ returned s (before .work .0 + work) (before .span .0 + span) (getD rows i 0) i
+
+-- columns 4 and 6 of row s: a cost of v with j instructions directly in an invocation of it
+abbrev pub costGain : ℕ → ℕ → ℕ → ℕ → ℕ
+costGain s v j i = one (slot s Column.local) v i + one (slot s Column.ilocal) j i
 
 -- s is the row of the invocation whose body is read
 abbrev pub gain : ℕ → Body → ℕ → ℕ
 gain s done i = 0
-gain s (leaf l r) i = one (slot s Column.local) (leafWork l) i + gain s r i
+gain s (leaf l r) i = costGain s (leafWork l) (leafInstructions l r) i + gain s r i
 gain s (child w j g r) i = returned j (workOf g) (spanOf g) (gain j g i) i + gain s r i
 
 -- a whole invocation of row s with the body g
 abbrev pub made : ℕ → Body → ℕ → ℕ
 made s g i = returned s (workOf g) (spanOf g) (gain s g i) i
+
+-- no row number grows by more: lines, costs and instructions are each counted once
+abbrev pub mostGain : Body → ℕ
+mostGain b = size b + (workOf b + instructionsOf b)
 
 -- the rows grew by g, number by number
 abbrev pub Grown : List ℕ → (ℕ → ℕ) → List ℕ → Type 0

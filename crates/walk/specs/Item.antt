@@ -1,10 +1,9 @@
 -- For proofs and engines, not for the reader of document 01: the first item of a body, its lines, what it does, and what
 -- stands behind it.
 use Prim.Native.Nat.{ℕ, _+_}
-use Rattle.trace.specs.Column.{Column, slot}
-use Rattle.trace.specs.Tree.{leafWork, Body, done, leaf, child, size, workOf}
+use Rattle.trace.specs.Tree.{Leaf, leafWork, leafCycles, leafInstructions, Body, done, leaf, child, ahead, size, allOf}
 use Rattle.trace.specs.Fold.{Chains, leafChains, childChains, run}
-use Rattle.walk.specs.Gain.{one, made}
+use Rattle.walk.specs.Gain.{costGain, made}
 
 -- the body is not at its return
 abbrev pub More : Body → Type 0
@@ -24,20 +23,26 @@ itemSize done = 0
 itemSize (leaf l r) = 1
 itemSize (child w j g r) = 1 + size g
 
--- its costs
+-- what it comes to in a measure of leaves: its costs, and its instructions
+abbrev pub itemOf : (Leaf → Body → ℕ) → Body → ℕ
+itemOf m done = 0
+itemOf m (leaf l r) = m l r
+itemOf m (child w j g r) = allOf m g
+
 abbrev pub itemWork : Body → ℕ
-itemWork done = 0
-itemWork (leaf l r) = leafWork l
-itemWork (child w j g r) = workOf g
+itemWork b = itemOf leafCycles b
+
+abbrev pub itemInstructions : Body → ℕ
+itemInstructions b = itemOf leafInstructions b
 
 -- by how much row number i grows
 abbrev pub itemGain : ℕ → Body → ℕ → ℕ
 itemGain s done i = 0
-itemGain s (leaf l r) i = one (slot s Column.local) (leafWork l) i
+itemGain s (leaf l r) i = costGain s (leafWork l) (leafInstructions l r) i
 itemGain s (child w j g r) i = made j g i
 
 -- the chains behind it; n is its first line
 abbrev pub itemChains : ℕ → ℕ → Body → Chains → Chains
 itemChains n s done k = k
-itemChains n s (leaf l r) k = leafChains n s l k
+itemChains n s (leaf l r) k = leafChains n s l (ahead r) k
 itemChains n s (child w j g r) k = childChains w (run (n + 1) j g) k

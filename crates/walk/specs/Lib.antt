@@ -1,4 +1,5 @@
 pub mod Stands
+pub mod Measure
 pub mod Weight
 pub mod Reads
 pub mod Numbers

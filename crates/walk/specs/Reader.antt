@@ -12,12 +12,12 @@ use Rattle.weigh.specs.Weighed.{Weigh}
 use Rattle.walk.specs.declared.Open.{Open}
 use Rattle.walk.specs.Reads.{Reads}
 use Rattle.walk.specs.Numbers.{numbers}
-use Rattle.walk.specs.Gain.{gain}
+use Rattle.walk.specs.Gain.{gain, mostGain}
 use Rattle.walk.specs.Item.{itemSize, itemWork, itemGain, itemChains}
 
 -- The lines of s from line f .at on are those of a body, as weighed by w. Its sites are at most m, at most deep
 -- invocations open inside one another, and whatever number reading it comes to, from the invocation's numbers f and the
--- rows, fits: no row number grows by more than lines and costs are left.
+-- rows, fits: no row number grows by more than lines, costs and instructions are left.
 pub record Ready (w : Weigh) (s : List ℕ) (row m deep : ℕ) (f : Open) (rows : List ℕ) : Type 0 where
   pub body : Body
   pub reads : Reads w s (f .at) row body
@@ -28,19 +28,19 @@ pub record Ready (w : Weigh) (s : List ℕ) (row m deep : ℕ) (f : Open) (rows 
   pub row-in : row ≤ m
   pub rows-long : columns * (m + 1) ≤ length rows
   pub ends : f .at + size body ≤ 65536
-  pub work-fits : f .work + workOf body < 2 ^ 64
-  pub load-fits : f .prefix + (f .longest + f .since) + workOf body < 2 ^ 64
-  pub rows-fit : (i : ℕ) → i < columns * (m + 1) → getD rows i 0 + (size body + workOf body) < 2 ^ 64
+  pub work-fits : f .work .0 + workOf body < 2 ^ 64
+  pub load-fits : f .prefix .0 + (f .longest .0 + f .since .0) + workOf body < 2 ^ 64
+  pub rows-fit : (i : ℕ) → i < columns * (m + 1) → getD rows i 0 + mostGain body < 2 ^ 64
 
 -- behind the first item of b: the numbers r and the rows
 pub record ItemDone (row : ℕ) (f : Open) (rows : List ℕ) (b : Body) (k : Chains) (r : Open) (rows′ : List ℕ) : Type 0 where
-  pub numbers-are : r ≡ numbers (f .at + itemSize b) (f .work + itemWork b) (itemChains (f .at) row b k)
+  pub numbers-are : r ≡ numbers (f .at + itemSize b) (f .work .0 + itemWork b) (itemChains (f .at) row b k)
   pub rows-are : (i : ℕ) → i < length rows → getD rows′ i 0 ≡ getD rows i 0 + itemGain row b i
 
 -- at the return of b, read from the numbers f and the chains k on: the numbers r, not yet joined, and the rows
 pub record ItemsDone (row : ℕ) (f : Open) (rows : List ℕ) (b : Body) (k : Chains) (r : Open) (rows′ : List ℕ) : Type 0 where
   pub at-is : r .at + 1 ≡ f .at + size b
-  pub numbers-are : r ≡ numbers (r .at) (f .work + workOf b) (run (f .at) row b k)
+  pub numbers-are : r ≡ numbers (r .at) (f .work .0 + workOf b) (run (f .at) row b k)
   pub rows-are : (i : ℕ) → i < length rows → getD rows′ i 0 ≡ getD rows i 0 + gain row b i
 
 -- an invocation that has come to one chain
@@ -56,8 +56,8 @@ pub record BodyDone (n row : ℕ) (rows : List ℕ) (b : Body) (r : Open) (rows�
 -- is what this comes to from f and k on.
 pub record Turn (w : Weigh) (s : List ℕ) (row : ℕ) (f₀ : Open) (rows₀ : List ℕ) (b : Body) (k₀ : Chains) (f : Open) (rows : List ℕ) (left : Body) (k : Chains) : Type 0 where
   pub reads : Reads w s (f .at) row left
-  pub weighs : f ≡ numbers (f .at) (f .work) k
+  pub weighs : f ≡ numbers (f .at) (f .work .0) k
   pub same-end : f .at + size left ≡ f₀ .at + size b
-  pub same-work : f .work + workOf left ≡ f₀ .work + workOf b
+  pub same-work : f .work .0 + workOf left ≡ f₀ .work .0 + workOf b
   pub same-chains : run (f .at) row left k ≡ run (f₀ .at) row b k₀
   pub same-rows : (i : ℕ) → i < length rows₀ → getD rows i 0 + gain row left i ≡ getD rows₀ i 0 + gain row b i

@@ -1,17 +1,17 @@
 -- A trace that differs only in what its cost lines weigh, none of them more: the same invocations in every row, and no
 -- number above that of the other.
 use mathlib.Core.Path.{_≡_, refl, sym, _∙_, ap, subst}
-use mathlib.Core.Bool.{Bool, true, false, cond, _||_}
+use mathlib.Core.Bool.{Bool, true, false, cond, _&&_, _||_}
 use mathlib.Core.List.{List, [], _∷_}
 use Prim.Native.Nat.{ℕ, zero, suc, _+_, _-_, _≤_}
 use native.Mathlib.Omega.{arith}
 use lib.ListN.{length}
 use Rattle.line.specs.declared.Frame.{Frame}
-use Rattle.line.specs.declared.Frame.the-variants.{Site, Call, Spawn, Sync, Return, Cost}
+use Rattle.line.specs.declared.Frame.the-variants.{Site, Call, Spawn, Sync, Return, Cost, Instructions}
 use Rattle.chain.specs.Over as Over
-use Rattle.trace.specs.Shape.{root, step, openAt, has}
+use Rattle.trace.specs.Shape.{ifCost, ifInstructions, root, step, openAt, has, firstIs}
 use Rattle.trace.specs.Series.{value, valueAt, Chain, weight, Span}
-use Rattle.trace.specs.Rows.{makes, made, ofRow, hasOf, enclosed, unenclosed, counted, sumOf, total, inside, sum, Sum, calls, work, Spans}
+use Rattle.trace.specs.Rows.{makes, made, ofRow, hasOf, enclosed, unenclosed, counted, cycles, carried, instructions, sumOf, total, inside, direct, directOn, sum, Sum, calls, work, Spans, ilocal, ionSpan}
 use Rattle.weigh.proofs.Alike.{bare, ButCosts, alike-sym, step-alike, open-alike, chain-alike}
 
 -- ── the same invocations ──
@@ -23,6 +23,7 @@ makes-bare s (Spawn i) = refl
 makes-bare s Sync = refl
 makes-bare s Return = refl
 makes-bare s (Cost v) = refl
+makes-bare s (Instructions v) = refl
 
 made-alike : (n : ℕ) (t u : List Frame) (s : ℕ) → ButCosts t u → made n t s ≡ made n u s
 made-alike n [] [] s h = refl
@@ -58,6 +59,60 @@ module _ (t u : List Frame) (h : ButCosts t u) where
   pub counted-alike : (s : ℕ) → counted t s ≡ counted u s
   counted-alike s = unenclosed-alike s (ofRow t s) ∙ ap (unenclosed u s) (of-row-alike s)
 
+-- ── the same instructions ──
+
+carried-bare : (f : Frame) → ifInstructions (λ v. v) 0 f ≡ ifInstructions (λ v. v) 0 (bare f)
+carried-bare (Site s p) = refl
+carried-bare (Call s) = refl
+carried-bare (Spawn s) = refl
+carried-bare Sync = refl
+carried-bare Return = refl
+carried-bare (Cost v) = refl
+carried-bare (Instructions v) = refl
+
+carried-alike : (t u : List Frame) → ButCosts t u → carried t ≡ carried u
+carried-alike [] [] h = refl
+carried-alike [] (f ∷ u) h = absurd h
+carried-alike (e ∷ t) [] h = absurd h
+carried-alike (e ∷ t) (f ∷ u) h = carried-bare e ∙ ap (ifInstructions (λ v. v) 0) (h .0) ∙ sym (carried-bare f)
+
+cost-bare : (x : ℕ) (f : Frame) → ifCost (λ v. x) 0 f ≡ ifCost (λ v. x) 0 (bare f)
+cost-bare x (Site s p) = refl
+cost-bare x (Call s) = refl
+cost-bare x (Spawn s) = refl
+cost-bare x Sync = refl
+cost-bare x Return = refl
+cost-bare x (Cost v) = refl
+cost-bare x (Instructions v) = refl
+
+instructions-alike : (e f : Frame) (t u : List Frame) → bare e ≡ bare f → ButCosts t u → instructions e t ≡ instructions f u
+instructions-alike e f t u h k =
+    cost-bare (carried t) e ∙ ap (ifCost (λ v. carried t) 0) h ∙ sym (cost-bare (carried t) f) ∙ ap (λ (x : ℕ). ifCost (λ v. x) 0 f) (carried-alike t u k)
+
+sum-instructions : (p : ℕ → List ℕ → Bool) (n : ℕ) (o : List ℕ) (t u : List Frame) → ButCosts t u → sumOf instructions p n o t ≡ sumOf instructions p n o u
+sum-instructions p n o [] [] h = refl
+sum-instructions p n o [] (f ∷ u) h = absurd h
+sum-instructions p n o (e ∷ t) [] h = absurd h
+sum-instructions p n o (e ∷ t) (f ∷ u) h =
+    let first = ap (λ (x : ℕ). cond (p n o) x 0) (instructions-alike e f t u (h .0) (h .1)) in
+    let same = ap (λ (k : List ℕ). sumOf instructions p (suc n) k u) (step-alike n e f o (h .0)) in
+    omega (arith, first, sum-instructions p (suc n) (step n e o) t u (h .1), same)
+
+sums-same : (f g : ℕ → ℕ) → ((F : ℕ) → f F ≡ g F) → (l : List ℕ) → sum f l ≡ sum g l
+sums-same f g h [] = refl
+sums-same f g h (F ∷ l) = omega (arith, h F, sums-same f g h l)
+
+-- LAW: instructions are those of the other, local and on whatever chain
+pub ilocal-alike : (t u : List Frame) (h : ButCosts t u) (s : ℕ) → ilocal t s ≡ ilocal u s
+ilocal-alike t u h s =
+    sums-same (direct instructions t) (direct instructions u) (λ F. sum-instructions (λ k o. firstIs F o) 0 (root ∷ []) t u h) (ofRow t s)
+    ∙ ap (sum (direct instructions u)) (of-row-alike t u h s)
+
+pub ion-span-alike : (t u : List Frame) (h : ButCosts t u) (c : List ℕ) (s : ℕ) → ionSpan t c s ≡ ionSpan u c s
+ion-span-alike t u h c s =
+    sums-same (directOn instructions t c) (directOn instructions u c) (λ F. sum-instructions (λ k o. firstIs F o && has k c) 0 (root ∷ []) t u h) (ofRow t s)
+    ∙ ap (sum (directOn instructions u c)) (of-row-alike t u h s)
+
 -- ── no number is above ──
 
 -- each line of the second weighs at most what it weighs in the first
@@ -78,12 +133,12 @@ picked : (b : Bool) (x y : ℕ) → x ≤ y → cond b x 0 ≤ cond b y 0
 picked true x y l = l
 picked false x y l = omega arith
 
-sum-most : (p : ℕ → List ℕ → Bool) (n : ℕ) (o : List ℕ) (t u : List Frame) → ButCosts t u → AtMost t u → sumOf p n o u ≤ sumOf p n o t
+sum-most : (p : ℕ → List ℕ → Bool) (n : ℕ) (o : List ℕ) (t u : List Frame) → ButCosts t u → AtMost t u → sumOf cycles p n o u ≤ sumOf cycles p n o t
 sum-most p n o [] [] h m = omega arith
 sum-most p n o [] (f ∷ u) h m = absurd h
 sum-most p n o (e ∷ t) [] h m = absurd h
 sum-most p n o (e ∷ t) (f ∷ u) h m =
-    let same = ap (λ (k : List ℕ). sumOf p (suc n) k u) (step-alike n e f o (h .0)) in
+    let same = ap (λ (k : List ℕ). sumOf cycles p (suc n) k u) (step-alike n e f o (h .0)) in
     omega (arith, picked (p n o) (value f) (value e) (m .0), sum-most p (suc n) (step n e o) t u (h .1) (m .1), same)
 
 sums-most : (f g : ℕ → ℕ) → ((F : ℕ) → f F ≤ g F) → (l : List ℕ) → sum f l ≤ sum g l

@@ -12,7 +12,7 @@ use Rattle.line.specs.declared.Frame.{Frame}
 use Rattle.line.specs.declared.Frame.the-variants.{Cost}
 use Rattle.trace.specs.Shape.{Is, root, step, walk, openAt, has, sites}
 use Rattle.trace.specs.Series.{value, Chain, weight}
-use Rattle.trace.specs.Rows.{sumOf, costsWhere, total}
+use Rattle.trace.specs.Rows.{cycles, sumOf, costsWhere, total}
 use Rattle.trace.proofs.Basics.{cond-add}
 use Rattle.trace.proofs.AtMost.{on-chain}
 use Rattle.trace.proofs.Scan.{Fine}
@@ -113,7 +113,7 @@ one-fine g D M t k v f i low high =
 
 -- ── what is added up ──
 
-sum-from : (d : ℕ) (p : ℕ → List ℕ → Bool) (n : ℕ) (o : List ℕ) (t : List Frame) (k v : ℕ) → Is t k (Cost v) → sumOf p n o (raised t k d) ≡ sumOf p n o t + cond (p (n + k) (walk n o t k)) d 0
+sum-from : (d : ℕ) (p : ℕ → List ℕ → Bool) (n : ℕ) (o : List ℕ) (t : List Frame) (k v : ℕ) → Is t k (Cost v) → sumOf cycles p n o (raised t k d) ≡ sumOf cycles p n o t + cond (p (n + k) (walk n o t k)) d 0
 sum-from d p n o [] k v i = absurd i
 sum-from d p n o (e ∷ t) zero v i =
     let first : n + 0 ≡ n = omega arith in
@@ -123,7 +123,7 @@ sum-from d p n o (e ∷ t) zero v i =
       ap (λ (f : Frame). cond (p n o) (value f) 0) i,
       cond-add (p n o) v d,
       ap (λ (j : ℕ). cond (p j o) d 0) first,
-      ap (λ (q : List ℕ). sumOf p (suc n) q t) (step-alike n e (costing (λ x. x + d) e) o (costing-bare (λ x. x + d) e)),
+      ap (λ (q : List ℕ). sumOf cycles p (suc n) q t) (step-alike n e (costing (λ x. x + d) e) o (costing-bare (λ x. x + d) e)),
     )
 sum-from d p n o (e ∷ t) (suc k) v i =
     let next : n + suc k ≡ suc n + k = omega arith in
@@ -131,8 +131,8 @@ sum-from d p n o (e ∷ t) (suc k) v i =
 
 module _ (t : List Frame) (k v d : ℕ) (i : Is t k (Cost v)) where
   -- LAW: a sum of costs over lines grows by d where line k is one of them
-  pub costs-raised : (p : ℕ → List ℕ → Bool) → costsWhere (raised t k d) p ≡ costsWhere t p + cond (p k (openAt t k)) d 0
-  costs-raised p = let e : 0 + k ≡ k = omega arith in sum-from d p 0 (root ∷ []) t k v i ∙ ap (λ (j : ℕ). costsWhere t p + cond (p j (openAt t k)) d 0) e
+  pub costs-raised : (p : ℕ → List ℕ → Bool) → costsWhere cycles (raised t k d) p ≡ costsWhere cycles t p + cond (p k (openAt t k)) d 0
+  costs-raised p = let e : 0 + k ≡ k = omega arith in sum-from d p 0 (root ∷ []) t k v i ∙ ap (λ (j : ℕ). costsWhere cycles t p + cond (p j (openAt t k)) d 0) e
 
   -- LAW: so does the total work
   pub total-raised : total (raised t k d) ≡ total t + d

@@ -4,8 +4,8 @@ use mathlib.Core.List.{List, [], _∷_, _++_, append-assoc, append-nil}
 use Prim.Native.Nat.{ℕ, suc, _+_}
 use native.Mathlib.Omega.{arith}
 use Rattle.line.specs.declared.Frame.{Frame}
-use Rattle.line.specs.declared.Frame.the-variants.{Site, Call, Spawn, Sync, Return, Cost}
-use Rattle.trace.specs.Tree.{Way, call, spawn, opening, site, Leaf, spend, sync, note, lineOf, LeafWithin, Body, done, leaf, child, linesOf, size, Within}
+use Rattle.line.specs.declared.Frame.the-variants.{Site, Call, Spawn, Sync, Return, Cost, Instructions}
+use Rattle.trace.specs.Tree.{Way, call, spawn, opening, site, carry, Leaf, spend, sync, note, lineOf, LeafWithin, Body, done, leaf, child, linesOf, size, Within}
 use Rattle.weigh.specs.Cost.{costing}
 use Rattle.weigh.specs.Weighed.{Weigh, plainly, Tabled, weighedLeaf, weighed, innermost, rowStep, reweighed}
 
@@ -28,7 +28,7 @@ weighed-plainly (child y i g r) n s = rw (weighed-plainly g (suc n) i, weighed-p
 within-leaf : (w : Weigh) → Tabled w → (l : Leaf) (n s : ℕ) → LeafWithin l → LeafWithin (weighedLeaf w n s l)
 within-leaf w h (spend v) n s k = h n s v (k .0) (k .1)
 within-leaf w h sync n s k = tt
-within-leaf w h (note x) n s k = tt
+within-leaf w h (note x) n s k = k
 
 -- LAW: it keeps its sites and its depth, and its costs stay in the table
 pub weighed-within : (w : Weigh) → Tabled w → (m D d : ℕ) (b : Body) (n s : ℕ) → Within m D d b → Within m D d (weighed w n s b)
@@ -43,11 +43,13 @@ pub leaf-costing : (w : Weigh) (l : Leaf) (n s : ℕ) → costing (w n s) (lineO
 leaf-costing w (spend v) n s = refl
 leaf-costing w sync n s = refl
 leaf-costing w (note (site i p)) n s = refl
+leaf-costing w (note (carry v)) n s = refl
 
 leaf-rows : (l : Leaf) (o : List ℕ) → rowStep (lineOf l) o ≡ o
 leaf-rows (spend v) o = refl
 leaf-rows sync o = refl
 leaf-rows (note (site i p)) o = refl
+leaf-rows (note (carry v)) o = refl
 
 pub opening-costing : (g : ℕ → ℕ) (y : Way) (i : ℕ) → costing g (opening y i) ≡ opening y i
 opening-costing g call i = refl
@@ -92,6 +94,7 @@ same-costing g h k (Spawn s) = refl
 same-costing g h k Sync = refl
 same-costing g h k Return = refl
 same-costing g h k (Cost v) = ap Cost (k v)
+same-costing g h k (Instructions v) = refl
 
 -- LAW: the weighed trace is one where each line weighs the same
 pub reweighed-same : (w x : Weigh) → ((n s v : ℕ) → w n s v ≡ x n s v) → (t : List Frame) (n : ℕ) (o : List ℕ) → reweighed w n o t ≡ reweighed x n o t
@@ -107,6 +110,7 @@ plain-costing (Spawn s) = refl
 plain-costing Sync = refl
 plain-costing Return = refl
 plain-costing (Cost v) = refl
+plain-costing (Instructions v) = refl
 
 -- LAW: weighed as it stands, a trace is as it was
 pub reweighed-plainly : (t : List Frame) (n : ℕ) (o : List ℕ) → reweighed plainly n o t ≡ t

@@ -2,7 +2,7 @@
 use Prim.Native.Nat.{ℕ, suc, _+_, _≤_}
 use mathlib.Core.List.{List, [], _∷_}
 use Rattle.line.specs.declared.Frame.{Frame}
-use Rattle.line.specs.declared.Frame.the-variants.{Site, Call, Spawn, Sync, Return, Cost}
+use Rattle.line.specs.declared.Frame.the-variants.{Site, Call, Spawn, Sync, Return, Cost, Instructions}
 use Rattle.trace.specs.Shape.{closed}
 use Rattle.trace.specs.Tree.{Leaf, spend, sync, note, Body, done, leaf, child, size}
 use Rattle.weigh.specs.Cost.{costing}
@@ -44,6 +44,7 @@ rowStep (Spawn s) o = s ∷ o
 rowStep Sync o = o
 rowStep Return o = closed o
 rowStep (Cost v) o = o
+rowStep (Instructions v) o = o
 
 -- The trace so weighed, over its lines: t begins at line n, where invocations of the rows o are open, innermost first.
 abbrev pub reweighed : Weigh → ℕ → List ℕ → List Frame → List Frame

@@ -7,27 +7,27 @@ from itertools import accumulate, groupby
 from typing import Any, Dict, Iterator, List, NamedTuple
 
 from .. import api, arguments, show, streams
-from ..model import Profile
+from ..model import CALL, RETURN, SPAWN, Profile
 from ..names import Names
-from ..show import number, percent, share
-
-CALL, SPAWN, RETURN = 2, 3, 5
+from ..show import number, percent, ratio, share
 
 
 class Cost(NamedTuple):
-    """A cost line and the row that it stands directly in."""
+    """A cost line, the row that it stands directly in, and its instructions."""
 
     line: int
     row: int
     value: int
+    instructions: int
 
 
 class Stretch(NamedTuple):
-    """Costs of one row that follow one another on the chain, and what the chain weighs up to their end."""
+    """Costs of one row that follow one another on the chain, what the chain weighs up to their end, and their instructions."""
 
     costs: List[Cost]
     cost: int
     running: int
+    instructions: int
 
 
 def add(subparsers: Any) -> None:
@@ -73,14 +73,15 @@ def marked(trace: bytes, marks: bytes) -> Iterator[Cost]:
         elif kind == RETURN:
             open_rows.pop()
         elif mark:
-            yield Cost(line, open_rows[-1], api.line_at(trace, line).value)
+            yield Cost(line, open_rows[-1], api.line_at(trace, line).value, api.carried(trace, line))
 
 
 def stretches(costs: List[Cost]) -> List[Stretch]:
     """The chain's costs with those of one row that follow one another merged."""
     merged = [list(group) for _, group in groupby(costs, key=lambda cost: cost.row)]
     sums = [sum(cost.value for cost in group) for group in merged]
-    return [Stretch(*stretch) for stretch in zip(merged, sums, accumulate(sums))]
+    instructions = [sum(cost.instructions for cost in group) for group in merged]
+    return [Stretch(*stretch) for stretch in zip(merged, sums, accumulate(sums), instructions)]
 
 
 def fields(stretch: Stretch, profile: Profile, names: Names) -> Dict[str, Any]:
@@ -94,12 +95,14 @@ def fields(stretch: Stretch, profile: Profile, names: Names) -> Dict[str, Any]:
         "cost_percent": share(stretch.cost, profile.span),
         "running": stretch.running,
         "running_percent": share(stretch.running, profile.span),
+        "instructions": stretch.instructions,
     }
 
 
 def cells(stretch: Stretch, profile: Profile, names: Names) -> Dict[str, str]:
-    """A stretch for people."""
+    """A stretch for people, with its instructions where the trace has some."""
     first, last = stretch.costs[0].line, stretch.costs[-1].line
+    instructions = {"instructions": number(stretch.instructions), show.PER_CYCLE: ratio(stretch.instructions, stretch.cost)}
     return {
         "lines": str(first) if first == last else f"{first}-{last}",
         "costs": number(len(stretch.costs)),
@@ -107,4 +110,5 @@ def cells(stretch: Stretch, profile: Profile, names: Names) -> Dict[str, str]:
         "cost": number(stretch.cost),
         "of span": percent(stretch.cost, profile.span),
         "running": percent(stretch.running, profile.span),
+        **(instructions if profile.has_instructions else {}),
     }

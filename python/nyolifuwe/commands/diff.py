@@ -15,24 +15,30 @@ from ..names import ROOT, place_text
 from ..show import counted, number
 
 REFUSED, OVER = 1, 4
-FIELDS = (*Place._fields, "old", "new", "grown", "grown_percent")
+FIELDS = (*Place._fields, "old", "new", "grown", "grown_percent", "instructions_old", "instructions_new")
+
+# What each place has of something; the root is None.
+ByPlace = Dict[Optional[Place], Fraction]
 
 
 class Side(NamedTuple):
-    """A trace, or the mean of a night's accepted traces: work, span, and what each place has on the span (the root is None)."""
+    """A trace, or the mean of a night's accepted traces: work, span, and by place what is on the span, and its instructions."""
 
     traces: Optional[int]  # accepted ones of a night; None for a trace
     work: Fraction
     span: Fraction
-    on_span: Dict[Optional[Place], Fraction]
+    on_span: ByPlace
+    ion_span: ByPlace
 
 
 class Change(NamedTuple):
-    """What a place has on the span before and after; None where it is not declared."""
+    """What a place has on the span before and after, and its instructions there; None where it is not declared."""
 
     place: Optional[Place]
     old: Optional[Fraction]
     new: Optional[Fraction]
+    instructions_old: Optional[Fraction]
+    instructions_new: Optional[Fraction]
 
     @property
     def grown(self) -> Fraction:
@@ -94,15 +100,19 @@ def side(file: str, **limits: Any) -> Optional[Side]:
         streams.say(told(file, trace, refused))
         return None
     on_span = {row.place: Fraction(row.on_span) for row in profile.rows}
-    return Side(None, Fraction(profile.work), Fraction(profile.span), on_span)
+    ion_span = {row.place: Fraction(row.ion_span) for row in profile.rows}
+    return Side(None, Fraction(profile.work), Fraction(profile.span), on_span, ion_span)
 
 
 def night_side(night: store.Night) -> Side:
     """The mean over the accepted traces of a night."""
     totals = night.totals()
     count = totals.accepted or 1
-    on_span = {one.place: Fraction(one.numbers["on_span"], count) for one in night.by_place()}
-    return Side(totals.accepted, Fraction(totals.work, count), Fraction(totals.span, count), on_span)
+    places = night.by_place()
+    on_span, ion_span = (
+        {one.place: Fraction(one.numbers[column], count) for one in places} for column in ("on_span", "ion_span")
+    )
+    return Side(totals.accepted, Fraction(totals.work, count), Fraction(totals.span, count), on_span, ion_span)
 
 
 def over(old: Side, new: Side, allowed: Fraction) -> bool:
@@ -113,7 +123,8 @@ def over(old: Side, new: Side, allowed: Fraction) -> bool:
 def changes(old: Side, new: Side) -> List[Change]:
     """All places, first the one that grew most."""
     places = {**old.on_span, **new.on_span}
-    found = [Change(place, old.on_span.get(place), new.on_span.get(place)) for place in places]
+    sides = (old.on_span, new.on_span, old.ion_span, new.ion_span)
+    found = [Change(place, *(side.get(place) for side in sides)) for place in places]
     return sorted(found, key=lambda change: (-change.grown, change.place or ()))
 
 
@@ -126,7 +137,8 @@ def emit(args: argparse.Namespace, old: Side, new: Side) -> None:
     elif args.format == "json":
         show.emit_json({"old": totals(old), "new": totals(new), "places": [fields(change, old) for change in shown]})
     else:
-        table = show.table([cells(change, old) for change in shown]) if shown else "no place has more or less on the span\n"
+        some = any(old.ion_span.values()) or any(new.ion_span.values())
+        table = show.table([cells(change, old, some) for change in shown]) if shown else "no place has more or less on the span\n"
         beyond = len(kept) - len(shown)
         left = f"not shown: {counted(beyond, 'place')} beyond -n\n" if beyond else ""
         streams.emit(f"{headline(old, new)}\n\n{table}{left}")
@@ -157,14 +169,16 @@ def signed(grown: Fraction, old: Side) -> str:
     return f"{float(100 * grown / old.span):+.1f}%" if old.span else "-"
 
 
-def cells(change: Change, old: Side) -> Dict[str, str]:
-    """A place for people."""
+def cells(change: Change, old: Side, some: bool) -> Dict[str, str]:
+    """A place for people, with its instructions on the span where there are some."""
+    instructions = {"instr old": amount(change.instructions_old, old), "instr new": amount(change.instructions_new, old)}
     return {
         show.SITE: place_text(change.place) or ROOT,
         "old": amount(change.old, old),
         "new": amount(change.new, old),
         "grown": ("+" if change.grown > 0 else "") + amount(change.grown, old),
         "of old span": signed(change.grown, old),
+        **(instructions if some else {}),
     }
 
 
@@ -179,7 +193,8 @@ def fields(change: Change, old: Side) -> Dict[str, Any]:
     """A place for a program."""
     numbers = [plain(value, old) for value in (change.old, change.new, change.grown)]
     share = round(float(100 * change.grown / old.span), 3) if old.span else None
-    return dict(zip(FIELDS, [*(change.place or (None,) * 3), *numbers, share]))
+    instructions = [plain(value, old) for value in (change.instructions_old, change.instructions_new)]
+    return dict(zip(FIELDS, [*(change.place or (None,) * 3), *numbers, share, *instructions]))
 
 
 def totals(one: Side) -> Dict[str, Any]:

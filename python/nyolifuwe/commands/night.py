@@ -134,8 +134,9 @@ def texts(night: Night, totals: Totals, places: List[PlaceTotals], rows: int) ->
     refusals = night.refusals()
     parts = [headline(totals)]
     if places:
+        some = any(one.numbers["ilocal"] for one in places)
         left = f"not shown: {counted(len(places) - rows, 'place')} beyond -n\n" if len(places) > rows else ""
-        parts.append(show.table([place_cells(one, totals) for one in places[:rows]]) + left)
+        parts.append(show.table([place_cells(one, totals, some) for one in places[:rows]]) + left)
         parts.append("largest spans\n" + show.table([worst_cells(one) for one in night.worst(rows)]))
     if refusals:
         parts.append("refusals, each with its first trace\n" + show.table([refusal_cells(one) for one in refusals]))
@@ -149,13 +150,14 @@ def headline(totals: Totals) -> str:
     return f"{judged}\nof the accepted: {sums}, {counted(totals.lines, 'line')}\n"
 
 
-def place_cells(one: PlaceTotals, totals: Totals) -> Dict[str, str]:
-    """A place for people."""
+def place_cells(one: PlaceTotals, totals: Totals, some: bool) -> Dict[str, str]:
+    """A place for people, with its instructions where there are some."""
     return {
         show.SITE: place_text(one.place) or ROOT,
         "traces": number(one.traces),
-        **{name.replace("_", " "): number(value) for name, value in one.numbers.items()},
+        **show.cycle_cells(one.numbers),
         "of span": percent(one.numbers["on_span"], totals.span),
+        **show.instruction_cells(one.numbers, some),
     }
 
 

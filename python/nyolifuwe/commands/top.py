@@ -78,10 +78,11 @@ def cells(gain: Gain, profile: Profile, names: Names) -> Dict[str, str]:
     """A row for people."""
     return {
         **show.row_cells(gain.row, names),
-        **{column.replace("_", " "): number(getattr(gain.row, column)) for column in COLUMNS},
+        **show.cycle_cells(gain.row._asdict()),
         "of span": percent(gain.row.on_span, profile.span),
         "if halved": number(gain.halved),
         "gain": percent(gain.gain, profile.span),
+        **show.instruction_cells(gain.row._asdict(), profile.has_instructions),
     }
 
 

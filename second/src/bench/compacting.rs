@@ -3,6 +3,7 @@
 use super::timing::{medians, Run};
 use super::traces::{wordy, DEPTH, SHAPES};
 use crate::check::Limits;
+use crate::compare::instructions::put_in;
 use crate::library::Library;
 use crate::line::CHARS;
 use crate::plain;
@@ -55,18 +56,23 @@ pub fn goal(all: &[Compacted]) -> String {
     format!("plain/compact: {least:.2} to {most:.2} (goal: at least 1.0)")
 }
 
-/// Times both compactors on the four shapes, on the proxy and on a trace that says little, in room as long as the
-/// trace; and on the last in room just enough, where the result has to be measured first. Holds one result against the
+/// Times both compactors on the four shapes, on the proxy, on a trace with instructions behind every cost and on a trace that
+/// says little, in room as long as the trace; and on the last in room just enough, where the result has to be measured first. Holds one result against the
 /// other.
 pub fn measure(library: &dyn Library, samples: usize) -> Vec<Compacted> {
     let shapes = SHAPES[..4].iter().map(|shape| (shape.name, shape.trace(LINES, LIMITS.sites)));
     let wordy = wordy(LINES, LIMITS.sites);
-    let others = [("proxy", PROXY.to_vec()), ("wordy", wordy.clone())];
+    let others = [("proxy", PROXY.to_vec()), ("carried", carried(LINES)), ("wordy", wordy.clone())];
     let mut all: Vec<Compacted> =
         shapes.chain(others).map(|(shape, trace)| time(library, shape, &trace, trace.len(), samples)).collect();
     let just = all.last().map_or(0, |wordy| wordy.left * CHARS);
     all.push(time(library, "tight", &wordy, just, samples));
     all
+}
+
+/// A trace of at most so many lines that says little, with instructions behind every cost.
+fn carried(lines: usize) -> Vec<u8> {
+    put_in(&wordy(lines / 2, LIMITS.sites), |line| Some(line as u64 + 1))
 }
 
 fn time(library: &dyn Library, shape: &'static str, trace: &[u8], room: usize, samples: usize) -> Compacted {
@@ -100,6 +106,15 @@ mod tests {
         let left = 31 + 6 * 6 + 1;
         let wordy = time(&Second::by_paths(), "wordy", &wordy(31 + 10 * 6 + 1, 31), left * CHARS, 1);
         assert_eq!((wordy.lines, wordy.left), (31 + 10 * 6 + 1, left));
+    }
+
+    #[test]
+    fn with_instructions_nine_of_fifteen_lines_are_left() {
+        // Three of the costs are one, each with its 07 line: to the six lines that are left of ten come three of the five.
+        let lines = 31 + 15 * 6 + 1;
+        let trace = carried(2 * (31 + 10 * 6 + 1));
+        let carried = time(&Second::by_paths(), "carried", &trace, trace.len(), 1);
+        assert_eq!((carried.lines, carried.left), (lines, 31 + 9 * 6 + 1));
     }
 
     #[test]

@@ -1,7 +1,7 @@
 //! Traces whose sites are declared on the way, each directly before its first call, beside the same traces with all of them
 //! at the start: by the proved engines and the plain one.
 
-use super::engines::{rooms, runs, Room};
+use super::engines::{check, rooms, runs};
 use super::timing::{medians, Run};
 use super::traces::{DEPTH, SHAPES};
 use crate::check::Limits;
@@ -91,15 +91,6 @@ fn time(library: &dyn Library, shape: &'static str, first: &[u8], limits: Limits
     }
     let [first, met] = [0, ENGINES.len()].map(|from| std::array::from_fn(|engine| seconds[from + engine]));
     Declared { shape, lines, sites: limits.sites, first, met }
-}
-
-/// Holds what the engines have left of a trace against what the plain one gives.
-fn check(trace: &[u8], limits: Limits, [tables, marked]: &[Room; 2], shape: &str) {
-    let right = plain::profile(trace, limits, &limits.for_marks(marked.marks.len())).expect("a good trace");
-    let rows = right.rows.concat();
-    assert!(tables.rows == rows && tables.answer == right.answer, "the table engine on {shape}");
-    assert!(marked.rows == rows && marked.answer == right.answer, "the marks engine on {shape}");
-    assert_eq!(marked.marks, right.marks, "the marks on {shape}");
 }
 
 #[cfg(test)]

@@ -1,9 +1,10 @@
-//! Both proved engines as runs to time, and what they are lent.
+//! Both proved engines as runs to time, what they are lent, and that they have left what is right.
 
 use super::timing::Run;
 use crate::check::Limits;
 use crate::forecast::Entry;
 use crate::library::Library;
+use crate::plain;
 use std::hint::black_box;
 
 /// What an engine is lent; the table engine leaves the marks alone.
@@ -52,4 +53,13 @@ pub fn runs<'a>(
             assert_eq!(given, 0, "accepted");
         }),
     ]
+}
+
+/// Holds what the engines have left of a trace against what the plain one gives.
+pub fn check(trace: &[u8], limits: Limits, [tables, marked]: &[Room; 2], shape: &str) {
+    let right = plain::profile(trace, limits, &limits.for_marks(marked.marks.len())).expect("a good trace");
+    let rows = right.rows.concat();
+    assert!(tables.rows == rows && tables.answer == right.answer, "the table engine on {shape}");
+    assert!(marked.rows == rows && marked.answer == right.answer, "the marks engine on {shape}");
+    assert_eq!(marked.marks, right.marks, "the marks on {shape}");
 }

@@ -1,6 +1,6 @@
 //! `bench DIR [SAMPLES]`: times the proved engines against the plain one, the script and a pass that only sums the bytes; the
-//! proved writer of folded stacks, the proved forecasts and the proved compactor against plain ones; and sites declared on the
-//! way against sites at the start.
+//! proved writer of folded stacks, the proved forecasts and the proved compactor against plain ones; sites declared on the way
+//! against sites at the start; and traces with instructions behind every cost against the same without.
 //!
 //! Writes the traces and `bench.csv` to DIR, tells its progress, and prints the table and the goals. The numbers are
 //! medians of SAMPLES samples (101 if not said; the script's, of 3) of processor time. Each sample goes over all traces and
@@ -10,7 +10,7 @@
 use second::bench::table::{csv, goals, head, Measured};
 use second::bench::timing::{medians, Run};
 use second::bench::traces::{Shape, DEPTH, SHAPES};
-use second::bench::{compacting, declaring, folding, forecasting};
+use second::bench::{carrying, compacting, declaring, folding, forecasting};
 use second::check::{Lent, Limits};
 use second::library::{proved, Library};
 use second::plain;
@@ -79,6 +79,10 @@ fn measure(folder: &Path, samples: usize) -> Result<(), Box<dyn Error>> {
     println!("{}", declaring::head());
     declared.iter().for_each(|measured| println!("{}", measured.line()));
     println!("{}", declaring::goal(&declared));
+    let carried = carrying::measure(library, samples);
+    println!("{}", carrying::head());
+    carried.iter().for_each(|measured| println!("{}", measured.line()));
+    println!("{}", carrying::goal(&carried));
     Ok(())
 }
 

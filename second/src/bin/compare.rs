@@ -1,6 +1,6 @@
 //! `compare [CASES [SEED]] [--every LINES]`: holds the proved library against the second program.
 //!
-//! Compares the traces that the rules name, every trace of up to LINES lines of seven kinds after a site line (6 if not
+//! Compares the traces that the rules name, every trace of up to LINES lines of eight kinds after a site line (6 if not
 //! said), with both engines and the compactor, then CASES generated cases (10,000 if not said) of SEED (1 if not
 //! said), and tells its progress. At the first difference it prints the smallest case that shows it and ends with
 //! status 1. With `--stand-in` it needs no library: it holds the second program's own way for long traces against its

@@ -2,7 +2,7 @@
 
 use super::case::Spare;
 use super::rng::Rng;
-use super::sites;
+use super::{instructions, sites};
 use crate::check::Limits;
 use crate::line::CHARS;
 use std::ops::Range;
@@ -11,7 +11,7 @@ use std::ops::Range;
 pub fn some(rng: &mut Rng, trace: &mut Vec<u8>, limits: &mut Limits, spare: &mut Spare) {
     let times = rng.pick(&[1, 1, 1, 2, 3]);
     for _ in 0..times {
-        match rng.below(15) {
+        match rng.below(17) {
             0 => wrong_limits(rng, limits),
             1 => too_little_room(rng, spare),
             2 => cut(rng, trace),
@@ -25,7 +25,8 @@ pub fn some(rng: &mut Rng, trace: &mut Vec<u8>, limits: &mut Limits, spare: &mut
             10 => another_line(rng, trace),
             11 => line_after(rng, trace),
             12 => copy_place(rng, trace),
-            _ => sites::damage(rng, trace, limits),
+            13 | 14 => sites::damage(rng, trace, limits),
+            _ => instructions::damage(rng, trace),
         }
     }
 }
@@ -72,7 +73,7 @@ fn cut(rng: &mut Rng, trace: &mut Vec<u8>) {
 }
 
 /// The characters of some line, if there is one.
-fn any_line(rng: &mut Rng, trace: &[u8]) -> Option<Range<usize>> {
+pub fn any_line(rng: &mut Rng, trace: &[u8]) -> Option<Range<usize>> {
     let lines = trace.len() / CHARS;
     (lines > 0).then(|| rng.index(lines) * CHARS).map(|start| start..start + CHARS)
 }
@@ -109,7 +110,7 @@ fn wrong_character(rng: &mut Rng, trace: &mut [u8]) {
 /// Another kind for a line, known or not.
 fn wrong_kind(rng: &mut Rng, trace: &mut [u8]) {
     if let Some(line) = any_line(rng, trace) {
-        let kind = rng.pick(&[b"00", b"01", b"02", b"03", b"04", b"05", b"06", b"07", b"12", b"ff"]);
+        let kind = rng.pick(&[b"00", b"01", b"02", b"03", b"04", b"05", b"06", b"07", b"08", b"12", b"ff"]);
         trace[line][..2].copy_from_slice(kind);
     }
 }
@@ -163,5 +164,6 @@ fn good_line(rng: &mut Rng) -> &'static str {
         "0400000000000000000000\n",
         "0500000000000000000000\n",
         "0600000000000100000000\n",
+        "0700000000000100000000\n",
     ])
 }

@@ -1,13 +1,13 @@
 //! The traces that the rules name: the twelve, and the further ones that are to be run and compared; traces whose sites call
 //! themselves; the texts that tell good comma-separated text from any other; the lists that tell a name from none; the
 //! forecast entries that tell a good list from any other; traces whose lines say nothing; costs that move the span; traces
-//! with site lines on the way; and rows with and without calls.
+//! with site lines on the way; traces with 07 lines; and rows with and without calls.
 
 use super::case::{Case, Question, Spare};
-use super::{compacts, forecasts, moves, on_the_way, reports, sheets, stacks};
+use super::{carried, compacts, forecasts, moves, on_the_way, reports, sheets, stacks};
 use crate::check::{Limits, MOST_LINES};
 use crate::refusal::{Ground, Refusal};
-use crate::rows::Row;
+use crate::rows::Cycles;
 use crate::trace::Trace;
 
 /// One of the twelve: "events before the root's return", work, span, and on span for rows 0, 1 and 2.
@@ -101,12 +101,12 @@ impl Further {
     }
 }
 
-/// A trace in which sites call themselves, with its rows worked out by hand.
+/// A trace in which sites call themselves, with its rows worked out by hand, but for their instructions, which are zero.
 pub struct Recursive {
     pub name: &'static str,
     pub trace: Trace,
     pub limits: Limits,
-    pub rows: Vec<Row>,
+    pub rows: Vec<Cycles>,
 }
 
 /// Recursion in every form. "Columns 2 and 3 from now on count only invocations with no enclosing invocation from the same
@@ -127,7 +127,7 @@ pub fn recursive() -> Vec<Recursive> {
 }
 
 /// Each with the rows of the root and of sites 1 and 2.
-const BY_HAND: [(&str, &str, [Row; 3]); 13] = [
+const BY_HAND: [(&str, &str, [Cycles; 3]); 13] = [
     // The rules' K: 1 and 2 in the outer one, 2 again in the inner one, which does not count.
     ("called", "call 1 {1, call 1 {2}}", [[1, 3, 3, 0, 0], [2, 3, 3, 3, 3], [0; 5]]),
     // 1, then 4 beside 2: work 7, span 5. In the root 3 beside it.
@@ -177,7 +177,7 @@ const BY_HAND: [(&str, &str, [Row; 3]); 13] = [
 ];
 
 /// A recursive trace of two sites, with the greatest depth there may be.
-fn deep(name: &'static str, events: &str, rows: &[Row]) -> Recursive {
+fn deep(name: &'static str, events: &str, rows: &[Cycles]) -> Recursive {
     let limits = Limits { depth: 64, sites: 2 };
     Recursive { name, trace: Trace::from_events(2, events), limits, rows: rows.to_vec() }
 }
@@ -225,6 +225,7 @@ pub fn cases() -> Vec<Case> {
         compacts::cases(),
         moves::cases(),
         on_the_way::cases(),
+        carried::cases(),
         reports::cases(),
     ];
     traces.chain(asked.into_iter().flatten()).collect()

@@ -7,16 +7,16 @@ use super::{generate, sites};
 use crate::check::{Limits, MOST_LINES};
 use crate::forecast::{Entry, MOST_ENTRIES};
 use crate::line::CHARS;
-use crate::rows::Row;
+use crate::rows::Cycles;
 use crate::trace::Trace;
 
 /// A trace of two sites in the notation of the twelve with entries, row and factor each, and what comes of them by hand: the
-/// rows of the root and of both sites, or the number and the line of the refusal.
+/// rows of the root and of both sites without their instructions, which are zero, or the number and the line of the refusal.
 pub struct Asked {
     pub name: &'static str,
     pub events: &'static str,
     pub entries: &'static [(u64, u64)],
-    pub given: Result<[Row; 3], (u64, u64)>,
+    pub given: Result<[Cycles; 3], (u64, u64)>,
 }
 
 /// "Sites 1 and 2 declared, D = 4", and room for one site more than is declared.
@@ -34,10 +34,10 @@ impl Asked {
 
 /// The events of case I, and its rows as the rules print them.
 const I: &str = "call 1 {spawn 2 {7}, 1}, 2";
-const I_ROWS: [Row; 3] = [[1, 10, 9, 2, 2], [1, 8, 7, 1, 0], [1, 7, 7, 7, 7]];
+const I_ROWS: [Cycles; 3] = [[1, 10, 9, 2, 2], [1, 8, 7, 1, 0], [1, 7, 7, 7, 7]];
 
 /// Case I with entries.
-const fn of_i(name: &'static str, entries: &'static [(u64, u64)], rows: [Row; 3]) -> Asked {
+const fn of_i(name: &'static str, entries: &'static [(u64, u64)], rows: [Cycles; 3]) -> Asked {
     Asked { name, events: I, entries, given: Ok(rows) }
 }
 
@@ -129,7 +129,7 @@ pub const BY_HAND: [Asked; 37] = [
 ];
 
 /// What is lent: just enough, more, and one short of each; none of the last.
-const ROOMS: [Spare; 7] = [
+pub const ROOMS: [Spare; 7] = [
     Spare { scratch: 0, rows: 0, answer: 0, marks: 0 },
     Spare { scratch: 3, rows: 2, answer: 1, marks: 5 },
     Spare { scratch: -1, rows: 0, answer: 0, marks: 0 },

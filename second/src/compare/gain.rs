@@ -6,7 +6,7 @@ use crate::check::{self, Limits};
 use crate::forecast::{rewritten, Entry};
 use crate::library::Library;
 use crate::line::Line;
-use crate::rows::{CALLS, COLUMNS, LOCAL, ON_SPAN, SPAN, WORK};
+use crate::rows::{CALLS, COLUMNS, ILOCAL, LOCAL, ON_SPAN, SPAN, WORK};
 
 /// The laws that a program does not keep on a case; none where the case is no forecast.
 pub fn broken(case: &Case, library: &dyn Library) -> Vec<&'static str> {
@@ -109,6 +109,7 @@ impl Costs {
             ("no row's work is above the plain one", forecast.at_most(&plain, WORK)),
             ("no row's span is above the plain one", forecast.at_most(&plain, SPAN)),
             ("no row's own costs are above the plain ones", forecast.at_most(&plain, LOCAL)),
+            ("instructions stay as they are", plain.column(ILOCAL).eq(forecast.column(ILOCAL))),
             ("rows that are not on the span leave it as it is", !off_span || span.1 == span.0),
             ("the gain is at most what the chosen chain loses", span.0 <= span.1 + self.lost(plain.marks)),
         ]

@@ -28,14 +28,14 @@ pub fn case(seed: u64, number: u64) -> Case {
 }
 
 /// How many lines `every` tries in each place of a trace.
-pub const KINDS: u64 = 7;
+pub const KINDS: u64 = 8;
 
-/// Every trace that begins with a site line and has so many lines after it, each one of seven: costs of 1 and 2, a sync, a
-/// call, a spawn, a return and the next site line; for the engines and for the compactor.
+/// Every trace that begins with a site line and has so many lines after it, each one of eight: costs of 1 and 2, a sync, a
+/// call, a spawn, a return, the next site line and a 07 line of 3; for the engines and for the compactor.
 pub fn every(lines: u32) -> impl Iterator<Item = Case> {
     let of = move |number: u64| {
         let mut trace = Trace::with_sites(1);
-        (0..lines).for_each(|place| one_of_seven(&mut trace, number / KINDS.pow(place) % KINDS));
+        (0..lines).for_each(|place| one_of_eight(&mut trace, number / KINDS.pow(place) % KINDS));
         let trace = trace.chars;
         let compact = Question::Compact { trace: trace.clone(), limits: SMALL, spare: CompactSpare::default() };
         let engines = Question::Engines { trace, limits: SMALL, spare: Spare::default() };
@@ -47,13 +47,14 @@ pub fn every(lines: u32) -> impl Iterator<Item = Case> {
 /// Limits that some of those traces break.
 const SMALL: Limits = Limits { depth: 3, sites: 2 };
 
-fn one_of_seven(trace: &mut Trace, which: u64) {
+fn one_of_eight(trace: &mut Trace, which: u64) {
     match which {
         0 | 1 => trace.cost(which + 1),
         2 => trace.sync(),
         3 => trace.call(1),
         4 => trace.spawn(1),
         5 => trace.leave(),
+        6 => trace.carry(3),
         _ => trace.declare(sites::declared(&trace.chars) + 1),
     };
 }
@@ -146,6 +147,7 @@ fn fields(rng: &mut Rng) -> Fields {
         [4, 0, 0, 0, 0],
         [5, 0, 0, 0, 0],
         [6, 0, value, 0, 0],
+        [7, 0, value, 0, 0],
     ];
     let mut fields = rng.pick(&good);
     if rng.once_in(4) {
@@ -157,7 +159,7 @@ fn fields(rng: &mut Rng) -> Fields {
 
 /// A number and a line for the writer of a refusal.
 fn refusal(rng: &mut Rng) -> Question {
-    let number = if rng.once_in(4) { rng.pick(&[0, 255, 256, 1 << 32, u64::MAX]) } else { rng.between(1, 23) };
+    let number = if rng.once_in(4) { rng.pick(&[0, 255, 256, 1 << 32, u64::MAX]) } else { rng.between(1, 24) };
     let most = [0xffff_ffff, 0x1_0000_0000, u64::MAX];
     let line = if rng.once_in(4) { rng.pick(&most) } else { rng.below(65_537) };
     Question::Refusal { number, line, out: near(rng, REFUSAL_CHARS), written: near(rng, 1) }

@@ -5,7 +5,8 @@ use super::case::{Case, CompactSpare, FoldedSpare, Question, Spare};
 use super::compacts::{of, same, Compacted, ROOMS};
 use crate::check::{Limits, MOST_LINES};
 use crate::forecast::Entry;
-use crate::rows::Row;
+use crate::library::Second;
+use crate::rows::{all_cycles_alone, Cycles, Row};
 use crate::trace::Trace;
 
 /// A trace with its limits, and what comes of it by hand.
@@ -18,10 +19,21 @@ pub struct Met {
 }
 
 /// Total work, total span, sites and lines; the rows; and the lines of the chosen chain.
+#[derive(Debug, PartialEq, Eq)]
 pub struct Given {
     pub answer: [u64; 4],
     pub rows: Vec<Row>,
     pub chosen: Vec<usize>,
+}
+
+impl Met {
+    /// What the second program gives of the trace.
+    pub fn by(&self, second: &Second) -> Result<Given, (u64, u64)> {
+        let found = second.profile(&self.trace.chars, self.limits, &self.limits.for_marks(self.trace.lines()));
+        let found = found.map_err(|refusal| (refusal.number(), refusal.line))?;
+        let chosen = (0..found.marks.len()).filter(|&line| found.marks[line] == 1).collect();
+        Ok(Given { answer: found.answer, rows: found.rows, chosen })
+    }
 }
 
 /// The limits of every trace here that is written in events.
@@ -31,21 +43,22 @@ pub const LIMITS: Limits = Limits { depth: 4, sites: 3 };
 pub fn traces() -> Vec<Met> {
     let events = |(name, events): (_, &str)| (name, Trace::from_events(0, events), LIMITS);
     let accepted = ACCEPTED.iter().map(|(name, text, answer, rows, chosen)| {
-        let given = Given { answer: *answer, rows: rows.to_vec(), chosen: chosen.to_vec() };
+        let given = Given { answer: *answer, rows: all_cycles_alone(rows), chosen: chosen.to_vec() };
         met(events((*name, text)), Ok(given))
     });
     let refused = REFUSED.iter().map(|(name, text, given)| met(events((*name, text)), Err(*given)));
     accepted.chain(refused).chain([each_called(), each_spawned(), last_but_one()]).chain(larger_refused()).collect()
 }
 
-fn met((name, trace, limits): (&'static str, Trace, Limits), given: Result<Given, (u64, u64)>) -> Met {
+pub fn met((name, trace, limits): (&'static str, Trace, Limits), given: Result<Given, (u64, u64)>) -> Met {
     Met { name, trace, limits, given }
 }
 
-/// A name, events, and what is given: the answer, the rows and the lines of the chosen chain.
-type Accepted = (&'static str, &'static str, [u64; 4], &'static [Row], &'static [usize]);
+/// A name, events, and what is given: the answer, the rows without their instructions, which are zero, and the lines of the
+/// chosen chain.
+type Accepted = (&'static str, &'static str, [u64; 4], &'static [Cycles], &'static [usize]);
 
-const NOTHING: Row = [0; 5];
+const NOTHING: Cycles = [0; 5];
 
 const ACCEPTED: [Accepted; 11] = [
     // 0 site, 1 spawn, 2 site, 3 cost 4, 4 return, 5 cost 3, 6 return: 4 beside 3.
@@ -153,7 +166,7 @@ fn each_called() -> Met {
     let mut rows = vec![[1; 5]; 256];
     rows[0] = [1, 255, 255, 0, 0];
     let chosen = (0..255).map(|site| 4 * site + 2).collect();
-    let given = Given { answer: [255, 255, 255, 1021], rows, chosen };
+    let given = Given { answer: [255, 255, 255, 1021], rows: all_cycles_alone(&rows), chosen };
     met(("255 sites called", trace, Limits { depth: 2, sites: 255 }), Ok(given))
 }
 
@@ -162,10 +175,10 @@ fn each_spawned() -> Met {
     let mut trace = Trace::default();
     (1..=255).for_each(|site| _ = trace.declare(site).spawn(site).cost(site).leave());
     trace.leave();
-    let mut rows: Vec<Row> = (0..=255).map(|site| [1, site, site, site, 0]).collect();
+    let mut rows: Vec<Cycles> = (0..=255).map(|site| [1, site, site, site, 0]).collect();
     rows[0] = [1, 32_640, 255, 0, 0];
     rows[255] = [1, 255, 255, 255, 255];
-    let given = Given { answer: [32_640, 255, 255, 1021], rows, chosen: vec![1018] };
+    let given = Given { answer: [32_640, 255, 255, 1021], rows: all_cycles_alone(&rows), chosen: vec![1018] };
     met(("255 sites spawned", trace, Limits { depth: 2, sites: 255 }), Ok(given))
 }
 
@@ -174,7 +187,7 @@ fn last_but_one() -> Met {
     let mut trace = Trace::default();
     (0..MOST_LINES - 2).for_each(|_| _ = trace.cost(1));
     trace.declare(1).leave();
-    let rows = vec![[1, 65_534, 65_534, 65_534, 65_534], NOTHING];
+    let rows = all_cycles_alone(&[[1, 65_534, 65_534, 65_534, 65_534], NOTHING]);
     let given = Given { answer: [65_534, 65_534, 1, 65_536], rows, chosen: (0..65_534).collect() };
     met(("last but one of 65,536 lines", trace, LIMITS), Ok(given))
 }
@@ -231,16 +244,8 @@ pub const COMPACTED: [Compacted; 16] = [
 /// Every trace above for the engines, with forecast entries, as folded stacks and for the compactor; and those that the
 /// compactor is shown by hand, in each of its rooms.
 pub fn cases() -> Vec<Case> {
-    let names: Vec<u8> = (0..256).flat_map(|row| format!("name-{row}\n").into_bytes()).collect();
-    let asked = |Met { trace, limits, .. }: Met| {
-        let trace = || trace.chars.clone();
-        [
-            Question::Engines { trace: trace(), limits, spare: Spare::default() },
-            Question::Forecast { trace: trace(), limits, entries: entries(), spare: Spare::default() },
-            Question::Folded { trace: trace(), limits, lists: [names.clone(), vec![]], spare: FoldedSpare::default() },
-            Question::Compact { trace: trace(), limits, spare: CompactSpare::default() },
-        ]
-    };
+    let names = names();
+    let asked = |met: Met| met.questions(&names);
     let left = |compacted: &Compacted| {
         let trace = Trace::from_events(0, compacted.events).chars;
         ROOMS.map(|spare| Question::Compact { trace: trace.clone(), limits: LIMITS, spare })
@@ -249,7 +254,22 @@ pub fn cases() -> Vec<Case> {
     questions.map(|question| Case { question, rubbish: 1 }).collect()
 }
 
-/// The root's costs halved and those of site 1 by 3.
-fn entries() -> Vec<Entry> {
-    vec![Entry { row: 0, factor: 2 }, Entry { row: 1, factor: 3 }]
+impl Met {
+    /// The trace for the engines, with forecast entries (the root's costs halved and those of site 1 by 3), as folded stacks
+    /// and for the compactor.
+    pub fn questions(self, names: &[u8]) -> [Question; 4] {
+        let (limits, trace) = (self.limits, || self.trace.chars.clone());
+        let entries = vec![Entry { row: 0, factor: 2 }, Entry { row: 1, factor: 3 }];
+        [
+            Question::Engines { trace: trace(), limits, spare: Spare::default() },
+            Question::Forecast { trace: trace(), limits, entries, spare: Spare::default() },
+            Question::Folded { trace: trace(), limits, lists: [names.to_vec(), vec![]], spare: FoldedSpare::default() },
+            Question::Compact { trace: trace(), limits, spare: CompactSpare::default() },
+        ]
+    }
+}
+
+/// A name for each row that there may be.
+pub fn names() -> Vec<u8> {
+    (0..256).flat_map(|row| format!("name-{row}\n").into_bytes()).collect()
 }

@@ -35,11 +35,11 @@ pub const BY_HAND: [Calls; 12] = [
 ];
 
 impl Calls {
-    /// Five numbers a row: its calls, and four that no other row has, an idle one's too.
+    /// Seven numbers a row: its calls, and six that no other row has, an idle one's too.
     pub fn numbers(&self) -> Vec<u64> {
         let row = |(row, &calls): (usize, &u64)| {
             let of = 10 * row as u64;
-            [calls, of + 1, of + 2, of + 3, of + 4]
+            [calls, of + 1, of + 2, of + 3, of + 4, of + 5, of + 6]
         };
         self.calls.iter().enumerate().flat_map(row).collect()
     }

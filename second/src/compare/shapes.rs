@@ -1,17 +1,31 @@
 //! Good traces of many shapes.
 
 use super::rng::Rng;
-use super::sites;
+use super::{instructions, sites};
 use crate::check::MOST_LINES;
 use crate::trace::Trace;
 
-/// A good trace of some shape and length, its site lines at the start or on the way.
+/// A good trace of some shape and length, its site lines at the start or on the way, half of them without 07 lines.
 pub fn trace(rng: &mut Rng) -> Trace {
     let lines = length(rng);
     let shape = rng.pick(&SHAPES);
     let mut trace = shape(rng, lines);
+    carry(rng, &mut trace);
     sites::scatter(rng, &mut trace);
     trace
+}
+
+/// Puts 07 lines behind the costs of a good trace: behind none, all, or some of them, as long as there are lines left.
+fn carry(rng: &mut Rng, trace: &mut Trace) {
+    let once_in = rng.pick(&[0, 0, 1, 1, 2, 5]);
+    if once_in > 0 {
+        let (values, mut left) = (Costs::any(rng), MOST_LINES - trace.lines());
+        trace.chars = instructions::put_in(&trace.chars, |_| {
+            let carries = left > 0 && rng.once_in(once_in);
+            left -= usize::from(carries);
+            carries.then(|| values.draw(rng))
+        });
+    }
 }
 
 /// A length in lines: mostly short, now and then long, seldom the most there may be.
@@ -31,7 +45,7 @@ type Make = fn(&mut Rng, usize) -> Trace;
 
 const SHAPES: [Make; 10] = [mixed, mixed, deep, wide, recursive, idle, empty, fib, pipeline, wordy];
 
-/// How costs are drawn.
+/// How costs and instructions are drawn.
 #[derive(Clone, Copy)]
 enum Costs {
     /// All alike, so that chains tie.

@@ -3,75 +3,80 @@
 use super::case::{Case, Question};
 use super::generate::near;
 use super::rng::Rng;
+use crate::rows::COLUMNS;
 use crate::sheet;
 
-/// Whole texts.
-const WHOLE: [&str; 12] = [
+/// Whole texts; the last but one is a sheet as it was before there were instructions.
+const WHOLE: [&str; 15] = [
     "",
     "\r\n",
-    "row,calls,work,span,local,onspan",
-    "row,calls,work,span,local,onspan\r\n",
-    "row,calls,work,span,local,onspan\n0,1,2,3,4,5\r\n",
-    "row,calls,work,span,onspan,local\r\n0,1,2,3,4,5\r\n",
-    "row,calls,work,span,local\r\n0,1,2,3,4\r\n",
-    "row,calls,work,span,local,onspan,more\r\n0,1,2,3,4,5,6\r\n",
-    "Row,calls,work,span,local,onspan\r\n0,1,2,3,4,5\r\n",
-    "row, calls,work,span,local,onspan\r\n0,1,2,3,4,5\r\n",
-    "\"row\",calls,\"work\",span,local,\"onspan\"\r\n0,1,2,3,4,5\r\n",
-    "\u{feff}row,calls,work,span,local,onspan\r\n0,1,2,3,4,5\r\n",
+    "row,calls,work,span,local,onspan,ilocal,ionspan",
+    "row,calls,work,span,local,onspan,ilocal,ionspan\r\n",
+    "row,calls,work,span,local,onspan,ilocal,ionspan\n0,1,2,3,4,5,6,7\r\n",
+    "row,calls,work,span,onspan,local,ilocal,ionspan\r\n0,1,2,3,4,5,6,7\r\n",
+    "row,calls,work,span,local,onspan,ionspan,ilocal\r\n0,1,2,3,4,5,6,7\r\n",
+    "row,calls,work,span,local,onspan,ilocal\r\n0,1,2,3,4,5,6\r\n",
+    "row,calls,work,span,local,onspan,ilocal,ionspan,more\r\n0,1,2,3,4,5,6,7,8\r\n",
+    "Row,calls,work,span,local,onspan,ilocal,ionspan\r\n0,1,2,3,4,5,6,7\r\n",
+    "row, calls,work,span,local,onspan,ilocal,ionspan\r\n0,1,2,3,4,5,6,7\r\n",
+    "\"row\",calls,\"work\",span,local,\"onspan\",ilocal,\"ionspan\"\r\n0,1,2,3,4,5,6,7\r\n",
+    "\u{feff}row,calls,work,span,local,onspan,ilocal,ionspan\r\n0,1,2,3,4,5,6,7\r\n",
+    "row,calls,work,span,local,onspan\r\n0,1,2,3,4,5\r\n",
+    "row,calls,work,span,local,onspan\r\n0,1,2,3,4,5,6,7\r\n",
 ];
 
 /// Records below the header.
-const BELOW: [&str; 33] = [
-    "0,1,2,3,4,5\r\n",
-    "0,1,2,3,4,5",
-    "0,1,2,3,4,5\n",
-    "0,1,2,3,4,5\r",
-    "0,1,2,3,4,5\r1,1,2,3,4,5\r\n",
-    "0,1,2,3,4,5\r\n\r\n",
-    "0,1,2,3,4, 5\r\n",
-    "0,1,2,3,4,+5\r\n",
-    "0,1,2,3,4,05\r\n",
-    "0,0,0,0,0,0\r\n",
-    "0,1,2,3,4,00\r\n",
-    "00,1,2,3,4,5\r\n",
-    "0,1,2,3,4,\r\n",
-    "0,1,2,3,4,\"\"\r\n",
-    "0,1,2,3,4,18446744073709551615\r\n",
-    "0,1,2,3,4,18446744073709551616\r\n",
-    "0,1,2,3,4,1.84E+019\r\n",
-    "0,1,2,3,4,1\"5\r\n",
-    "0,1,2,3,4,\"1\"\"5\"\r\n",
-    "0,1,2,3,4,\"1\"5\r\n",
-    "0,1,2,3,4,\"5\r\n",
-    "0,1,2,3,4,\"5\r\n1,1,2,3,4,5\"\r\n",
+const BELOW: [&str; 34] = [
+    "0,1,2,3,4,5,6,7\r\n",
+    "0,1,2,3,4,5,6,7",
+    "0,1,2,3,4,5,6,7\n",
+    "0,1,2,3,4,5,6,7\r",
+    "0,1,2,3,4,5,6,7\r1,1,2,3,4,5,6,7\r\n",
+    "0,1,2,3,4,5,6,7\r\n\r\n",
+    "0,1,2,3,4,5,6, 7\r\n",
+    "0,1,2,3,4,5,6,+7\r\n",
+    "0,1,2,3,4,5,6,07\r\n",
+    "0,0,0,0,0,0,0,0\r\n",
+    "0,1,2,3,4,5,6,00\r\n",
+    "00,1,2,3,4,5,6,7\r\n",
+    "0,1,2,3,4,5,6,\r\n",
+    "0,1,2,3,4,5,6,\"\"\r\n",
+    "0,1,2,3,4,5,6,18446744073709551615\r\n",
+    "0,1,2,3,4,5,6,18446744073709551616\r\n",
+    "0,1,2,3,4,5,6,1.84E+019\r\n",
+    "0,1,2,3,4,5,6,1\"5\r\n",
+    "0,1,2,3,4,5,6,\"1\"\"5\"\r\n",
+    "0,1,2,3,4,5,6,\"1\"5\r\n",
+    "0,1,2,3,4,5,6,\"7\r\n",
+    "0,1,2,3,4,5,6,\"7\r\n1,1,2,3,4,5,6,7\"\r\n",
     "\"0\",\"1\",2,3,4,\"5\"\r\n",
-    "0,1,2,3,4,\"5\"",
-    "0,1,2,3,4,5\r\n2,1,2,3,4,5\r\n",
-    "0,1,2,3,4,5\r\n0,1,2,3,4,5\r\n",
-    "1,1,2,3,4,5\r\n0,1,2,3,4,5\r\n",
-    "0,1,2,3,4,5\r\n1,6,7,8,9,10",
+    "0,1,2,3,4,5,6,\"7\"",
+    "0,1,2,3,4,5,6,7\r\n2,1,2,3,4,5,6,7\r\n",
+    "0,1,2,3,4,5,6,7\r\n0,1,2,3,4,5,6,7\r\n",
+    "1,1,2,3,4,5,6,7\r\n0,1,2,3,4,5,6,7\r\n",
+    "0,1,2,3,4,5,6,7\r\n1,6,7,8,9,10,11,12",
+    "0,1,2,3,4,5,6,7,8\r\n",
+    "0,1,2,3,4,5\r\n",
     "0,1,2,3,4,5,6\r\n",
-    "0,1,2,3,4\r\n",
-    "0,1,2,3,4,5\0\r\n",
-    "\"\",1,2,3,4,5\r\n",
-    "\"0,1,2,3,4,5\"\r\n",
+    "0,1,2,3,4,5,6,7\0\r\n",
+    "\"\",1,2,3,4,5,6,7\r\n",
+    "\"0,1,2,3,4,5,6,7\"\r\n",
 ];
 
 /// Every text above with room for its rows, one number less, and none for the count; 256 records and 257; and writers with
 /// each slice just long enough and one short.
 pub fn cases() -> Vec<Case> {
     let top = |records: &str| WHOLE[3].to_owned() + records;
-    let many = |count| top(&(0..count).map(|row| format!("{row},1,2,3,4,5\r\n")).collect::<String>());
+    let many = |count| top(&(0..count).map(|row| format!("{row},1,2,3,4,5,6,7\r\n")).collect::<String>());
     let texts = WHOLE.map(String::from).into_iter().chain(BELOW.map(top)).chain([many(256), many(257)]);
     let reads = texts.flat_map(|text| {
-        let need = 5 * (text.matches('\n').count() + 1);
-        let rooms = (0..=need + 1).filter(move |room| *room < 12 || *room + 12 > need);
+        let need = COLUMNS * (text.matches('\n').count() + 1);
+        let rooms = (0..=need + 1).filter(move |room| *room < 16 || *room + 16 > need);
         let of = move |(rows, count)| Question::ReadSheet { text: text.clone().into_bytes(), rows, count };
         rooms.map(|rows| (rows, 1)).chain([(need, 0), (need, 2)]).map(of).collect::<Vec<_>>()
     });
     let writes = [0, 2, 255].into_iter().flat_map(|count| {
-        let rows: Vec<u64> = (0..5 * (count + 1)).map(|n| u64::MAX >> (n % 64)).collect();
+        let rows: Vec<u64> = (0..COLUMNS as u64 * (count + 1)).map(|n| u64::MAX >> (n % 64)).collect();
         let length = length(&rows, count);
         let of = move |(less, out, written)| {
             let rows = rows[..rows.len() - less].to_vec();
@@ -92,7 +97,7 @@ fn length(rows: &[u64], count: u64) -> usize {
 pub fn write(rng: &mut Rng) -> Question {
     let sites = sites(rng);
     let count = if rng.once_in(8) { rng.pick(&[256, 257, 1 << 32, 1 << 60, u64::MAX]) } else { sites };
-    let all: Vec<u64> = (0..5 * (sites + 1)).map(|_| number(rng)).collect();
+    let all: Vec<u64> = (0..COLUMNS as u64 * (sites + 1)).map(|_| number(rng)).collect();
     let out = near(rng, length(&all, sites));
     let mut rows = all;
     rows.resize(near(rng, rows.len()), 7);
@@ -102,9 +107,10 @@ pub fn write(rng: &mut Rng) -> Question {
 /// Characters for the reader: as often good as damaged in some way.
 pub fn read(rng: &mut Rng) -> Question {
     let rows = 1 + sites(rng) as usize;
-    let mut records = vec![["row", "calls", "work", "span", "local", "onspan"].map(String::from).to_vec()];
+    let header = ["row", "calls", "work", "span", "local", "onspan", "ilocal", "ionspan"];
+    let mut records = vec![header.map(String::from).to_vec()];
     for row in 0..rows {
-        let numbers = (0..5).map(|_| number(rng).to_string());
+        let numbers = (0..COLUMNS).map(|_| number(rng).to_string());
         records.push([row.to_string()].into_iter().chain(numbers).collect());
     }
     let damaged = rng.once_in(2);
@@ -115,7 +121,7 @@ pub fn read(rng: &mut Rng) -> Question {
     if damaged {
         (0..rng.pick(&[0, 1, 1, 2])).for_each(|_| wrong_character(rng, &mut text));
     }
-    Question::ReadSheet { text, rows: near(rng, 5 * rows), count: near(rng, 1) }
+    Question::ReadSheet { text, rows: near(rng, COLUMNS * rows), count: near(rng, 1) }
 }
 
 fn sites(rng: &mut Rng) -> u64 {

@@ -10,6 +10,9 @@ use std::ops::Range;
 /// How much is tried for one case, counted in lines of all smaller cases together; a case counts as no less than 100.
 const MOST_TRIED: usize = 40_000_000;
 
+/// The most costs of which two at a time are lowered.
+const MOST_PAIRED: usize = 12;
+
 /// How many items in a row are left out at once, the most first.
 const RUNS: [usize; 7] = [4096, 1024, 256, 64, 16, 4, 1];
 
@@ -36,6 +39,7 @@ impl<D: Fn(&Case) -> bool> Shrinker<D> {
         smaller |= self.leave_out_sites();
         smaller |= self.unwrap_invocations();
         smaller |= self.smaller_values();
+        smaller |= self.smaller_pairs();
         smaller | self.smaller_room()
     }
 
@@ -125,6 +129,16 @@ impl<D: Fn(&Case) -> bool> Shrinker<D> {
         smaller
     }
 
+    /// Takes the lesser of two costs off both wherever that keeps the difference: equal chains stay equal. Of many costs that
+    /// would be too much to try.
+    fn smaller_pairs(&mut self) -> bool {
+        let costs = self.trace().map(costs).filter(|costs| costs.len() <= MOST_PAIRED).unwrap_or_default();
+        let pairs = (0..costs.len()).flat_map(|j| (0..j).map(move |i| (i, j)));
+        let lower: Vec<Vec<u8>> =
+            pairs.filter_map(|(i, j)| self.trace().map(|trace| lower_pair(trace, costs[i], costs[j]))).collect();
+        lower.into_iter().any(|trace| self.keep_trace(trace))
+    }
+
     /// Lowers limits and lends no more than is needed wherever that keeps the difference.
     fn smaller_room(&mut self) -> bool {
         lower_questions(&self.case.question).into_iter().any(|question| self.keep(question))
@@ -208,6 +222,20 @@ fn lower_lines(trace: &[u8], line: usize) -> Vec<Vec<u8>> {
         lower.extend([one, all]);
     }
     lower
+}
+
+/// A trace with two of its costs, each a line and its value, lower by the lesser of them; one of which nothing is left is left
+/// out, with its 07 line.
+fn lower_pair(trace: &[u8], one: (usize, u64), other: (usize, u64)) -> Vec<u8> {
+    let less = one.1.min(other.1);
+    let lines: Vec<&[u8]> = trace.chunks(CHARS).collect();
+    let lower = |number: usize| match [one, other].iter().find(|(line, _)| *line == number) {
+        Some((_, value)) if *value > less => chars(&[Kind::Cost.number(), 0, value - less, 0, 0]),
+        Some(_) => vec![],
+        None => lines[number].to_vec(),
+    };
+    let carries = |number: usize| lines[number].starts_with(b"07") && number > 0 && lower(number - 1).is_empty();
+    (0..lines.len()).filter(|&number| !carries(number)).flat_map(lower).collect()
 }
 
 /// Fields with one of them lower and not zero; of kinds only a spawn becomes a call.

@@ -15,13 +15,14 @@ pub fn scatter(rng: &mut Rng, trace: &mut Trace) {
 }
 
 /// A good trace with its site lines elsewhere. Each in turn goes before one of the other lines, which are counted from 0:
-/// `before` chooses it from the first to the last that there may be.
+/// `before` chooses it from the first to the last that there may be; where that is a 07 line, it goes before its cost.
 pub fn moved(trace: &[u8], mut before: impl FnMut(usize, usize) -> usize) -> Vec<u8> {
     let (sites, others): (Vec<&[u8]>, Vec<&[u8]>) = trace.chunks(CHARS).partition(|line| line.starts_with(b"01"));
     let mut moved = Vec::with_capacity(trace.len());
     let mut next = 0;
     for (site, last) in sites.iter().zip(last(&others, sites.len())) {
         let chosen = before(next, last);
+        let chosen = chosen - usize::from(others[chosen].starts_with(b"07"));
         moved.extend(others[next..chosen].concat());
         moved.extend(*site);
         next = chosen;

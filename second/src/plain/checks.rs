@@ -1,6 +1,6 @@
 //! The checks of a trace line by line, for the plain writers.
 
-use super::{Fields, CALL, RETURN, SITE, SPAWN};
+use super::{Fields, CALL, COST, INSTRUCTIONS, RETURN, SITE, SPAWN};
 use crate::check::{before_lines, Limits};
 use crate::line::CHARS;
 use crate::refusal::{Ground, Refusal};
@@ -14,7 +14,7 @@ pub fn each_line(
     mut take: impl FnMut(&Fields),
 ) -> Result<usize, Refusal> {
     let lines = before_lines(trace, limits, short).map_err(|ground| ground.at(0))?;
-    let mut checks = Checks { limits, places: vec![], open: 1 };
+    let mut checks = Checks { limits, places: vec![], open: 1, before: SITE };
     for (number, chars) in trace.chunks_exact(CHARS).enumerate() {
         let chars = chars.try_into().expect("a whole line");
         take(&checks.line(chars).map_err(|ground| ground.at(number))?);
@@ -29,6 +29,8 @@ struct Checks {
     limits: Limits,
     places: Vec<u64>,
     open: u64,
+    /// The kind of the line before; at the start one that carries nothing.
+    before: u8,
 }
 
 impl Checks {
@@ -42,8 +44,10 @@ impl Checks {
             CALL | SPAWN => self.enter(fields.site)?,
             RETURN => self.open -= 1,
             SITE => self.site(&fields)?,
+            INSTRUCTIONS if self.before != COST => return Err(Ground::Stray),
             _ => (),
         }
+        self.before = fields.kind;
         Ok(fields)
     }
 

@@ -2,9 +2,9 @@
 //! character of the slow way, with which the tests hold it equal.
 //!
 //! One pass checks the lines and keeps those that are left; then they are written. A sync waits until a line that is
-//! no sync stands behind it, and a sum until a line that is no cost does.
+//! no sync stands behind it, and two sums, of cycles and of instructions, until a line that is no cost does.
 
-use super::{checks, Fields, CALL, COST, RETURN, SPAWN, SYNC};
+use super::{checks, Fields, CALL, COST, INSTRUCTIONS, RETURN, SPAWN, SYNC};
 use crate::check::Limits;
 use crate::line::CHARS;
 use crate::refusal::{Ground, Refusal};
@@ -30,17 +30,22 @@ struct Left {
     waits: bool,
     /// The sum of the costs directly before; 0 for none.
     held: u32,
+    /// The last of them.
+    last: u32,
+    /// The sum of their instructions.
+    carried: u32,
 }
 
 impl Left {
     fn new(lines: usize) -> Left {
-        Left { lines: Vec::with_capacity(lines), spawned: vec![false], waits: false, held: 0 }
+        Left { lines: Vec::with_capacity(lines), spawned: vec![false], waits: false, held: 0, last: 0, carried: 0 }
     }
 
     fn take(&mut self, line: &Fields) {
         match line.kind {
             SYNC => self.waits |= self.spawned.last_mut().is_some_and(std::mem::take),
             COST => self.spend(line.value),
+            INSTRUCTIONS => self.carry(line.value),
             kind => {
                 self.settle(kind != RETURN);
                 self.lines.push(*line);
@@ -51,6 +56,7 @@ impl Left {
 
     /// Adds a cost to the sum, if no sync stands between them and it fits.
     fn spend(&mut self, value: u32) {
+        self.last = value;
         match self.held.checked_add(value).filter(|_| !self.waits) {
             Some(sum) => self.held = sum,
             None => {
@@ -60,10 +66,25 @@ impl Left {
         }
     }
 
-    /// Leaves the sum and, where it says something, the sync that waits.
+    /// Adds the last cost's instructions to their sum; where that does not fit, the last cost is taken out of its own again.
+    fn carry(&mut self, value: u32) {
+        match self.carried.checked_add(value) {
+            Some(sum) => self.carried = sum,
+            None => {
+                self.held -= self.last;
+                self.settle(true);
+                (self.held, self.carried) = (self.last, value);
+            }
+        }
+    }
+
+    /// Leaves the sums and, where it says something, the sync that waits.
     fn settle(&mut self, says: bool) {
         if self.held > 0 {
             self.lines.push(Fields { value: std::mem::take(&mut self.held), ..Fields::of(COST) });
+        }
+        if self.carried > 0 {
+            self.lines.push(Fields { value: std::mem::take(&mut self.carried), ..Fields::of(INSTRUCTIONS) });
         }
         if std::mem::take(&mut self.waits) && says {
             self.lines.push(Fields::of(SYNC));

@@ -1,10 +1,13 @@
--- `admit::judge_whole` meets its contract: a line that reads as a frame is stepped over with what the lookup found.
+-- `admit::judge_whole` meets its contract: a line that reads as a frame is stepped over with what the lookup found. It is
+-- no 07 line: that would have been seen.
 use mathlib.Core.Path.{_≡_, refl, sym, ap, _∙_}
-use mathlib.Core.Bool.{Bool}
+use mathlib.Core.Bool.{Bool, _||_, or-false}
 use borrow.Author.Needs.{needs}
 use Rattle.line.specs.declared.Read.the-variants.{Line, Refused}
 use Rattle.line.specs.Read.{readAt}
-use Rattle.admit.specs.Step.{stepped}
+use Rattle.line.specs.Seeing.{glanced}
+use Rattle.admit.specs.Step.{stepped, seen}
+use Rattle.admit.proofs.Strays.{unseen-stray}
 use Rattle.admit.proofs.judge_whole.Statement.{statement}
 use Rattle.admit.proofs.judge_whole.Tie as tie
 
@@ -38,13 +41,16 @@ returns c =
     let g = c .before .before .before .before .before .before .before .before .before .frame .given in
     let o = c .before .before .before .before .before .again .ensures in
     let e : readAt (a .trace .now) (a .t .lines) ≡ Line (g .0 .0) (g .0 .1 .0) = sym (c .before .before .before .before .before .before .before .before .before .before .before .read-at .ensures) ∙ g .1 in
-    rw e (c .updated .ensures ∙ ap (λ (b : Bool). stepped (a .depth) (a .sites) b (a .t) (g .0 .1 .0)) (o .0), o .1)
+    let f = g .0 .1 .0 in
+    let z = unseen-stray (a .trace .now) (a .t .lines) f (sym (ap glanced e) ∙ c .before .before .before .before .before .before .before .before .before .before .before .before .before .before .before .pre .1) in
+    let k = seen (a .keys .now) (a .t .sites) f in
+    rw e (c .updated .ensures ∙ ap (λ (b : Bool). stepped (a .depth) (a .sites) b (a .t) f) (o .0 ∙ sym (ap (λ (b : Bool). k || b) z ∙ or-false k)), o .1)
 
 returns-2 : tie.Need-returns-2
 returns-2 c =
     let a = c .before .before .before .before .before .before .before .before .args in
     let e : readAt (a .trace .now) (a .t .lines) ≡ Refused _ _ = sym (c .before .before .before .before .read-at .ensures) ∙ c .before .before .number .given .1 in
-    rw e (c .refuse .ensures, (refl, c .before .before .before .before .before .before .before .before .pre .tagged))
+    rw e (c .refuse .ensures, (refl, c .before .before .before .before .before .before .before .before .pre .0 .tagged))
 
 pub judge-whole-spec : {M : Type 1} → statement M
 judge-whole-spec =

@@ -58,6 +58,12 @@ enum-told-3 c = search needs
 onward-requires-3 : tie.Need-onward-requires-3
 onward-requires-3 c κs = search needs
 
+enum-told-4 : tie.Need-enum-told-4
+enum-told-4 c = search needs
+
+carry-requires : tie.Need-carry-requires
+carry-requires c κs = search needs
+
 returns-2 : tie.Need-returns-2
 returns-2 c = rw (c .before .before .frame .given .1, ne-eqb _ _ (c .before .before .before .before .if1 .left)) (c .declare .ensures)
 
@@ -75,6 +81,9 @@ returns-6 c = rw (c .before .before .enum-told2 .given .1, ne-eqb _ _ (c .before
 
 returns-7 : tie.Need-returns-7
 returns-7 c = rw (c .before .enum-told3 .given .1, ne-eqb _ _ (c .before .before .before .if1 .left)) (c .onward3 .ensures)
+
+returns-8 : tie.Need-returns-8
+returns-8 c = rw (c .before .enum-told4 .given .1, ne-eqb _ _ (c .before .before .before .if1 .left)) (c .carry .ensures)
 
 pub step-spec : {M : Type 1} → statement M
 step-spec =
@@ -98,9 +107,12 @@ step-spec =
     onward-requires-2
     enum-told-3
     onward-requires-3
+    enum-told-4
+    carry-requires
     returns-2
     returns-3
     returns-4
     returns-5
     returns-6
-    returns-7)
+    returns-7
+    returns-8)

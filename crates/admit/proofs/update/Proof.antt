@@ -66,23 +66,23 @@ stayed = (stay-ref (0 ∷ []) tt (plain (λ _. T.the-row)), (stay-none (λ _. F.
 abbrev Step : {M : Type 1} (𝓤 : URA M) (H : Heap 𝓤) (A : Atoms 𝓤) (mem : Memory → SProp 𝓤) (run : Routine → Fun 𝓤) → Contract 𝓤
 Step 𝓤 H A mem run = tripleOf 𝓤 H A step.signature (step.spec 𝓤 H A mem run)
 
--- the tally t is lent at (b, o) under γ; beside it the frame f, whether its place is declared again, and the limits D
+-- the tally t is lent at (b, o) under γ; beside it the frame f, what the lines before say against it, and the limits D
 -- and L
-module _ {M : Type 1} (𝓤 : URA M) (H : Heap 𝓤) (A : Atoms 𝓤) (W : Given 𝓤 H A) (at-mem : Memory → SProp 𝓤) (run : Routine → Fun 𝓤) (κ : Lft) (q : Share) (b o : ℕ) (γ : GName) (t : Tally) (f : Frame) (again : Bool) (D L : ℕ) where
+module _ {M : Type 1} (𝓤 : URA M) (H : Heap 𝓤) (A : Atoms 𝓤) (W : Given 𝓤 H A) (at-mem : Memory → SProp 𝓤) (run : Routine → Fun 𝓤) (κ : Lft) (q : Share) (b o : ℕ) (γ : GName) (t : Tally) (f : Frame) (against : Bool) (D L : ℕ) where
   abbrev x : Denots Beside
-  x = (f, (again, (D, (L, tt))))
+  x = (f, (against, (D, (L, tt))))
 
   abbrev xs : Valss Beside
   xs = valss Beside beside-vals x
 
   abbrev passed : List Val
-  passed = frameVal f ∷ vbool again ∷ vint w64 D ∷ vint w64 L ∷ []
+  passed = frameVal f ∷ vbool against ∷ vint w64 D ∷ vint w64 L ∷ []
 
   abbrev lent : RefT Tally
   lent = record { ptr = (b, o); name = γ; now = t }
 
   abbrev behind : Tallied
-  behind = stepped D L again t f
+  behind = stepped D L against t f
 
   abbrev Post : Val → SProp 𝓤
   Post = walkOf 𝓤 H A update.ended stayed (update.clauses 𝓤 H A at-mem run) .post (((κ, tt), (q, tt), tt, (lent, x), (vptr b o ∷ [], xs)), tt)

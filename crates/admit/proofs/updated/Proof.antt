@@ -82,19 +82,19 @@ module _ {M : Type 1} (𝓤 : URA M) (H : Heap 𝓤) (A : Atoms 𝓤) (W : Given
       move ! (1 ∷ []) $ peeks ! T.the-row (Is T.the-row) (shows 𝓤 H A T.the-row) t (tallyVal t ∷ []) (λ is. drop ! $
       use1 W (‵ (fat fullShare T′.mir l 0 (tallyVal t))) (W .laws .raw-at fullShare T′.mir l 0 (tallyVal t)) $ check ! is $ done !))
 
--- the tally t; beside it the frame f, whether its place is declared again, and the limits D and L
-module _ {M : Type 1} (𝓤 : URA M) (H : Heap 𝓤) (A : Atoms 𝓤) (W : Given 𝓤 H A) (at-mem : Memory → SProp 𝓤) (run : Routine → Fun 𝓤) (t : Tally) (f : Frame) (again : Bool) (D L : ℕ) where
+-- the tally t; beside it the frame f, what the lines before say against it, and the limits D and L
+module _ {M : Type 1} (𝓤 : URA M) (H : Heap 𝓤) (A : Atoms 𝓤) (W : Given 𝓤 H A) (at-mem : Memory → SProp 𝓤) (run : Routine → Fun 𝓤) (t : Tally) (f : Frame) (against : Bool) (D L : ℕ) where
   abbrev x : Denots Beside
-  x = (f, (again, (D, (L, tt))))
+  x = (f, (against, (D, (L, tt))))
 
   abbrev xs : Valss Beside
   xs = valss Beside beside-vals x
 
   abbrev passed : List Val
-  passed = tallyVal t ∷ frameVal f ∷ vbool again ∷ vint w64 D ∷ vint w64 L ∷ []
+  passed = tallyVal t ∷ frameVal f ∷ vbool against ∷ vint w64 D ∷ vint w64 L ∷ []
 
   abbrev behind : Tallied
-  behind = stepped D L again t f
+  behind = stepped D L against t f
 
   abbrev Post : Val → SProp 𝓤
   Post = walkOf 𝓤 H A updated.ended stayed (updated.clauses 𝓤 H A at-mem run) .post ((tt, tt, tt, (t, x), (tallyVal t ∷ [], xs)), tt)

@@ -3,10 +3,11 @@
 use borrow.Author.Needs.{needs}
 use Prim.Native.Nat.{_-_}
 use mathlib.Core.Path.{_≡_, refl, sym, _∙_, subst}
+use native.Mathlib.Omega.{arith}
 use lib.ListN.{length}
 use Rattle.compact.specs.Pass.{Fits}
 use Rattle.compact.specs.declared.step.State.{State}
-use Rattle.compact.proofs.Passes.{Writing, writing-start, writing-small, writing-asks, writing-on, writing-end}
+use Rattle.compact.proofs.Passes.{Writing, writing-start, writing-ready, writing-asks, writing-on, writing-end}
 use Rattle.compact.proofs.write.Statement.{statement}
 use Rattle.compact.proofs.write.Tie as tie
 
@@ -20,21 +21,15 @@ new-requires : tie.Need-new-requires Inv-loop μ-loop
 new-requires c κs = search needs
 
 loop-holds : tie.Need-loop-holds Inv-loop μ-loop
-loop-holds c = (refl, λ q. subst (λ (a : State). Writing (q .trace) (c .before .before .before .args .out .now) a (c .before .before .before .args .out .now) 0 0) (sym (c .new .ensures)) (writing-start (q .trace) (c .before .before .before .args .out .now)))
+loop-holds c =
+    let out = c .before .before .before .args .out .now in
+    (refl, λ q. subst (λ (a : State). Writing (q .trace) out a out 0 0) (sym (c .new .ensures)) (writing-start (q .trace) out))
 
-kind-at-requires : tie.Need-kind-at-requires Inv-loop μ-loop
-kind-at-requires c κs = search needs
-
-value-at-requires : tie.Need-value-at-requires Inv-loop μ-loop
-value-at-requires c κs = search needs
-
-step-requires : tie.Need-step-requires Inv-loop μ-loop
-step-requires c κs = let q = c .before .before .before .before .before .before .before .pre in writing-small (q .trace) (c .before .before .before .loop .inv .1 q) (c .before .before .loop-test .taken)
+given-requires : tie.Need-given-requires Inv-loop μ-loop
+given-requires c κs = let q = c .before .before .before .before .before .pre in (omega (arith, c .loop-test .taken), writing-ready (q .trace) (c .before .loop .inv .1 q) (c .loop-test .taken))
 
 lines-requires : tie.Need-lines-requires Inv-loop μ-loop
-lines-requires c κs =
-    let q = c .before .before .before .before .before .before .before .before .before .pre in
-    writing-asks (q .trace) (c .before .before .before .kind-at .result) (c .before .before .value-at .result) (c .before .step .result) (c .before .before .before .kind-at .ensures) (c .before .before .value-at .ensures) (c .before .step .ensures) (q .fits) (c .before .before .before .before .before .loop .inv .1 q) (c .before .before .before .before .loop-test .taken) (c .before .before .before .before .before .loop .inv .0)
+lines-requires c κs = let q = c .before .before .before .before .before .before .before .pre in writing-asks (q .trace) (c .before .given .result) (c .before .given .ensures) (q .fits) (c .before .before .before .loop .inv .1 q) (c .before .before .loop-test .taken) (c .before .before .before .loop .inv .0)
 
 add-n : tie.Need-add-n Inv-loop μ-loop
 add-n c = search needs
@@ -45,7 +40,7 @@ loop-less c = search needs
 loop-again : tie.Need-loop-again Inv-loop μ-loop
 loop-again c =
     let w = c .before .before .before .lines in
-    (w .kept .1 .1 .0 ∙ c .before .before .before .before .before .before .before .before .before .loop .inv .0, λ q. writing-on (q .trace) (c .before .before .before .before .before .before .before .kind-at .result) (c .before .before .before .before .before .before .value-at .result) (c .before .before .before .before .before .step .result) (c .before .before .before .before .before .before .before .kind-at .ensures) (c .before .before .before .before .before .before .value-at .ensures) (c .before .before .before .before .before .step .ensures) (q .fits) (c .before .before .before .before .before .before .before .before .before .loop .inv .1 q) (c .before .before .before .before .before .before .before .before .loop-test .taken) (w .ensures))
+    (w .kept .1 .1 .0 ∙ c .before .before .before .before .before .before .before .loop .inv .0, λ q. writing-on (q .trace) (c .before .before .before .before .before .given .result) (c .before .before .before .before .before .given .ensures) (q .fits) (c .before .before .before .before .before .before .before .loop .inv .1 q) (c .before .before .before .before .before .before .loop-test .taken) (w .ensures))
 
 same-length : tie.Need-same-length Inv-loop μ-loop
 same-length c = c .before .loop .inv .0
@@ -54,19 +49,4 @@ returns : tie.Need-returns Inv-loop μ-loop
 returns c = λ q. writing-end (q .trace) (c .before .loop .inv .1 q) (c .loop-test .left)
 
 pub write-spec : {M : Type 1} → statement M
-write-spec =
-    tie.close
-    (tie.spec
-    Inv-loop
-    μ-loop
-    new-requires
-    loop-holds
-    kind-at-requires
-    value-at-requires
-    step-requires
-    lines-requires
-    add-n
-    loop-less
-    loop-again
-    same-length
-    returns)
+write-spec = tie.close (tie.spec Inv-loop μ-loop new-requires loop-holds given-requires lines-requires add-n loop-less loop-again same-length returns)

@@ -1,8 +1,6 @@
 -- `line::framed` meets its contract: its arms are the lines of the table. Assumes nothing.
-use mathlib.Core.Bool.{and-true}
-use borrow.Author.Tests.{le-leb, ne-eqb}
-use mathlib.Core.Path.{_≡_}
-use native.Mathlib.Omega.{arith}
+use borrow.Author.Tests.{ne-eqb}
+use mathlib.Core.Path.{_≡_, sym}
 use borrow.Author.Needs.{needs}
 use Rattle.line.proofs.framed.Statement.{statement}
 use Rattle.line.proofs.framed.Tie as tie
@@ -25,6 +23,15 @@ listed-requires-5 c κs = search needs
 listed-requires-6 : tie.Need-listed-requires-6
 listed-requires-6 c κs = search needs
 
+listed-requires-7 : tie.Need-listed-requires-7
+listed-requires-7 c κs = search needs
+
+value-only-requires : tie.Need-value-only-requires
+value-only-requires c κs = search needs
+
+value-only-requires-2 : tie.Need-value-only-requires-2
+value-only-requires-2 c κs = search needs
+
 returns : tie.Need-returns
 returns c = let e : c .before .before .args .kind ≡ 1 = c .before .match .keys1 in rw e (c .listed .ensures)
 
@@ -41,13 +48,17 @@ returns-5 : tie.Need-returns-5
 returns-5 c = let e : c .before .before .args .kind ≡ 5 = c .before .match .keys5 in rw e (c .listed5 .ensures)
 
 returns-6 : tie.Need-returns-6
-returns-6 c = let e : c .before .before .args .kind ≡ 6 = c .before .match .keys6 in
-    rw e (simp (le-leb (c .before .before .args .value) 4294967295 (omega arith), and-true) (c .listed6 .ensures))
+returns-6 c = let e : c .before .before .before .args .kind ≡ 6 = c .before .before .match .keys6 in
+    rw (e, sym (c .before .value-only .ensures)) (c .listed6 .ensures)
 
 returns-7 : tie.Need-returns-7
-returns-7 c =
+returns-7 c = let e : c .before .before .before .args .kind ≡ 7 = c .before .before .match .keys7 in
+    rw (e, sym (c .before .value-only2 .ensures)) (c .listed7 .ensures)
+
+returns-8 : tie.Need-returns-8
+returns-8 c =
     let r = c .match .rest in
-    simp (ne-eqb _ 1 (r .0 .0 .0 .0 .0 .1), ne-eqb _ 2 (r .0 .0 .0 .0 .1), ne-eqb _ 3 (r .0 .0 .0 .1), ne-eqb _ 4 (r .0 .0 .1), ne-eqb _ 5 (r .0 .1), ne-eqb _ 6 (r .1))
+    simp (ne-eqb _ 1 (r .0 .0 .0 .0 .0 .0 .1), ne-eqb _ 2 (r .0 .0 .0 .0 .0 .1), ne-eqb _ 3 (r .0 .0 .0 .0 .1), ne-eqb _ 4 (r .0 .0 .0 .1), ne-eqb _ 5 (r .0 .0 .1), ne-eqb _ 6 (r .0 .1), ne-eqb _ 7 (r .1))
 
 pub framed-spec : {M : Type 1} → statement M
 framed-spec =
@@ -58,11 +69,15 @@ framed-spec =
     listed-requires-3
     listed-requires-4
     listed-requires-5
+    value-only-requires
     listed-requires-6
+    value-only-requires-2
+    listed-requires-7
     returns
     returns-2
     returns-3
     returns-4
     returns-5
     returns-6
-    returns-7)
+    returns-7
+    returns-8)

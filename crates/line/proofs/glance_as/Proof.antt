@@ -1,29 +1,29 @@
 -- `line::glance_as` meets its contract: for each kind, what is seen is what reading the line gives (`Seeing`).
 use mathlib.Core.Bool.{cond}
 use mathlib.Core.Path.{_≡_, _∙_}
-use Rattle.line.specs.declared.Frame.the-variants.{Call, Spawn, Sync, Return, Cost}
+use Rattle.line.specs.declared.Frame.the-variants.{Call, Spawn, Sync, Return, Cost, Instructions}
 use Rattle.line.specs.declared.Sight.the-variants.{Seen, Other}
 use Rattle.digits.specs.Word.{plainly}
 use Rattle.line.specs.Read.{part}
-use Rattle.line.specs.Seeing.{isBare, isMade, isCost}
-use Rattle.line.proofs.Seeing.{see-cost, see-return, see-sync, see-spawn, see-call, see-other}
+use Rattle.line.specs.Seeing.{isBare, isMade, isValued}
+use Rattle.line.proofs.Seeing.{see-cost, see-return, see-sync, see-spawn, see-call, see-instructions, see-other}
 use borrow.Author.Needs.{needs}
 use Rattle.line.proofs.glance_as.Statement.{statement}
 use Rattle.line.proofs.glance_as.Tie as tie
 use Rattle.line.proofs.glance_as.Reads as reads
 use Rattle.line.proofs.glance_as.Lts as lts
 use Rattle.line.proofs.bare.Reads as bare-reads
-use Rattle.line.proofs.cost.Reads as cost-reads
 use Rattle.line.proofs.made.Reads as made-reads
 use Rattle.line.proofs.seen.Reads as seen-reads
 use Rattle.line.proofs.site_of.Reads as site-of-reads
 use Rattle.line.proofs.value_of.Reads as value-of-reads
+use Rattle.line.proofs.valued.Reads as valued-reads
 
 shared-slice-read-kind : tie.Need-shared-slice-read-kind
 shared-slice-read-kind c = search needs
 
-cost-requires : tie.Need-cost-requires
-cost-requires c κs = search needs
+valued-requires : tie.Need-valued-requires
+valued-requires c κs = search needs
 
 value-of-requires : tie.Need-value-of-requires
 value-of-requires c κs = search needs
@@ -34,7 +34,7 @@ seen-requires c κs = search needs
 returns : tie.Need-returns
 returns c n =
     let a = c .before .before .before .before .before .before in
-    let e : c .seen .result ≡ cond (isCost (a .args .s .now)) (Seen (Cost (plainly (part (a .args .s .now) 6 8)))) Other = cc (c .seen .ensures, c .before .value-of .ensures, c .before .before .cost .ensures) in
+    let e : c .seen .result ≡ cond (isValued (a .args .s .now)) (Seen (Cost (plainly (part (a .args .s .now) 6 8)))) Other = cc (c .seen .ensures, c .before .value-of .ensures, c .before .before .valued .ensures) in
     e ∙ see-cost (a .args .s .now) n (a .pre) (c .before .before .before .if1 .taken)
 
 bare-requires : tie.Need-bare-requires
@@ -91,17 +91,32 @@ returns-5 c n =
     let e : c .seen5 .result ≡ cond (isMade (a .args .s .now)) (Seen (Call (plainly (part (a .args .s .now) 2 4)))) Other = cc (c .seen5 .ensures, c .before .site-of2 .ensures, c .before .before .made2 .ensures) in
     e ∙ see-call (a .args .s .now) n (a .pre) (c .before .before .before .if5 .taken)
 
+valued-requires-2 : tie.Need-valued-requires-2
+valued-requires-2 c κs = search needs
+
+value-of-requires-2 : tie.Need-value-of-requires-2
+value-of-requires-2 c κs = search needs
+
+seen-requires-6 : tie.Need-seen-requires-6
+seen-requires-6 c κs = search needs
+
 returns-6 : tie.Need-returns-6
 returns-6 c n =
-    let a = c .before .before .before .before .before .before .before in
-    see-other (a .args .s .now) n (a .pre) (c .before .before .before .before .if1 .left) (c .before .before .before .if2 .left) (c .before .before .if3 .left) (c .before .if4 .left) (c .if5 .left)
+    let a = c .before .before .before .before .before .before .before .before .before .before .before in
+    let e : c .seen6 .result ≡ cond (isValued (a .args .s .now)) (Seen (Instructions (plainly (part (a .args .s .now) 6 8)))) Other = cc (c .seen6 .ensures, c .before .value-of2 .ensures, c .before .before .valued2 .ensures) in
+    e ∙ see-instructions (a .args .s .now) n (a .pre) (c .before .before .before .if6 .taken)
+
+returns-7 : tie.Need-returns-7
+returns-7 c n =
+    let a = c .before .before .before .before .before .before .before .before in
+    see-other (a .args .s .now) n (a .pre) (c .before .before .before .before .before .if1 .left) (c .before .before .before .before .if2 .left) (c .before .before .before .if3 .left) (c .before .before .if4 .left) (c .before .if5 .left) (c .if6 .left)
 
 pub glance-as-spec : {M : Type 1} → statement M
 glance-as-spec =
     tie.close
     (tie.spec
     shared-slice-read-kind
-    cost-requires
+    valued-requires
     value-of-requires
     seen-requires
     returns
@@ -119,4 +134,8 @@ glance-as-spec =
     site-of-requires-2
     seen-requires-5
     returns-5
-    returns-6)
+    valued-requires-2
+    value-of-requires-2
+    seen-requires-6
+    returns-6
+    returns-7)

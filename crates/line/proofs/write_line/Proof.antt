@@ -2,8 +2,8 @@
 use mathlib.Core.Path.{refl}
 use mathlib.Core.Bool.{true}
 use native.Mathlib.Omega.{arith}
-use Rattle.line.specs.declared.Frame.the-variants.{Site, Call, Spawn, Sync, Return, Cost}
-use Rattle.line.proofs.Writable.{writable-site, writable-call, writable-spawn, writable-cost, writes}
+use Rattle.line.specs.declared.Frame.the-variants.{Site, Call, Spawn, Sync, Return, Cost, Instructions}
+use Rattle.line.proofs.Writable.{writable-site, writable-call, writable-spawn, writable-value, writes}
 use borrow.Author.Needs.{needs}
 use Rattle.line.proofs.write_line.Statement.{statement}
 use Rattle.line.proofs.write_line.Tie as tie
@@ -44,6 +44,12 @@ enum-known-f-4 c = search needs
 put-fields-requires-6 : tie.Need-put-fields-requires-6
 put-fields-requires-6 c κs = search needs
 
+enum-known-f-5 : tie.Need-enum-known-f-5
+enum-known-f-5 c = search needs
+
+put-fields-requires-7 : tie.Need-put-fields-requires-7
+put-fields-requires-7 c κs = search needs
+
 returns : tie.Need-returns
 returns c =
     let v = c .before .before .before .before .before .f .given in
@@ -68,7 +74,12 @@ returns-5 c = rw (c .before .enum-told2 .given .1) (writes Return true _ _ refl 
 returns-6 : tie.Need-returns-6
 returns-6 c =
     let v = c .before .before .f4 .given in
-    rw (v .1) (writes (Cost (v .0 .0)) _ _ _ (writable-cost (v .0 .0) (omega arith)) (c .put-fields6 .ensures))
+    rw (v .1) (writes (Cost (v .0 .0)) _ _ _ (writable-value (Cost (v .0 .0)) (v .0 .0) (omega arith)) (c .put-fields6 .ensures))
+
+returns-7 : tie.Need-returns-7
+returns-7 c =
+    let v = c .before .before .f5 .given in
+    rw (v .1) (writes (Instructions (v .0 .0)) _ _ _ (writable-value (Instructions (v .0 .0)) (v .0 .0) (omega arith)) (c .put-fields7 .ensures))
 
 pub write-line-spec : {M : Type 1} → statement M
 write-line-spec =
@@ -86,9 +97,12 @@ write-line-spec =
     put-fields-requires-5
     enum-known-f-4
     put-fields-requires-6
+    enum-known-f-5
+    put-fields-requires-7
     returns
     returns-2
     returns-3
     returns-4
     returns-5
-    returns-6)
+    returns-6
+    returns-7)

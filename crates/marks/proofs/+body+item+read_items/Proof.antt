@@ -2,6 +2,7 @@
 use Prim.Native.Nat.{ℕ, _+_, _*_, _-_, _<_}
 use mathlib.Core.List.{List}
 use mathlib.Core.Path.{_≡_, refl, _∙_, ap, subst}
+use mathlib.Core.Logic.{inl, inr}
 use native.Mathlib.Omega.{arith}
 use lib.ListN.{length, take, drop}
 use borrow.Author.Needs.{needs}
@@ -40,6 +41,7 @@ use Rattle.walk.proofs.Open.new.Reads as new-reads
 use Rattle.walk.proofs.returned.Reads as returned-reads
 use Rattle.walk.proofs.spend.Reads as spend-reads′
 use Rattle.walk.proofs.weight_at.Reads as weight-at-reads
+use Rattle.walk.proofs.instructions_at.Reads as instructions-at-reads
 use Rattle.marks.proofs.+body+item+read_items.{statement}
 use Rattle.marks.proofs.+body+item+read_items.Tie.{close}
 
@@ -78,7 +80,7 @@ abbrev items-calls : ℕ → items-lts.Claims
 items-calls t = (kind-at-reads.Asked, kind-at-reads.Learnt, item-below t, item.Post)
 
 abbrev item-calls : ℕ → item-lts.Claims
-item-calls t = (weight-at-reads.Asked, weight-at-reads.Learnt, spend-reads′.Asked, spend-reads′.Learnt, spend-reads.Asked, spend-reads.Learnt, join-reads.Asked, join-reads.Learnt, pass-reads.Asked, pass-reads.Learnt, site-at-reads.Asked, site-at-reads.Learnt, credit-of-reads.Asked, credit-of-reads.Learnt, store-reads.Asked, store-reads.Learnt, body-below t, body.Post, load-reads.Asked, load-reads.Learnt, returned-reads.Asked, returned-reads.Learnt, called-reads.Asked, called-reads.Learnt, spawned-reads.Asked, spawned-reads.Learnt)
+item-calls t = (weight-at-reads.Asked, weight-at-reads.Learnt, instructions-at-reads.Asked, instructions-at-reads.Learnt, spend-reads′.Asked, spend-reads′.Learnt, spend-reads.Asked, spend-reads.Learnt, join-reads.Asked, join-reads.Learnt, pass-reads.Asked, pass-reads.Learnt, site-at-reads.Asked, site-at-reads.Learnt, credit-of-reads.Asked, credit-of-reads.Learnt, store-reads.Asked, store-reads.Learnt, body-below t, body.Post, load-reads.Asked, load-reads.Learnt, returned-reads.Asked, returned-reads.Learnt, called-reads.Asked, called-reads.Learnt, spawned-reads.Asked, spawned-reads.Learnt)
 
 abbrev Inv-loop : items-lts.InvT-loop
 Inv-loop trace deep t₀ marks₀ rows₀ factors z₀ kind₀ t marks rows z kind = Loop (byFactors factors) trace deep z₀ t₀ marks₀ rows₀ t marks rows z kind
@@ -220,8 +222,11 @@ module _ (t : ℕ) where
   abbrev weight-test : Item item-lts.After-weight-at → Item item-lts.After-shared-slice-known2
   weight-test c = c .before .before
 
-  abbrev rows-weight : Item item-lts.After-spend → Item item-lts.After-weight-at
-  rows-weight c = c .before .before
+  abbrev instructions-weight : Item item-lts.After-instructions-at → Item item-lts.After-weight-at
+  instructions-weight c = c .before .before
+
+  abbrev rows-instructions : Item item-lts.After-spend → Item item-lts.After-instructions-at
+  rows-instructions c = c .before
 
   abbrev spend-rows : Item item-lts.After-spend-arg2 → Item item-lts.After-spend
   spend-rows c = c .before .before .before
@@ -241,14 +246,23 @@ module _ (t : ℕ) where
   abbrev pass-test : Item item-lts.After-pass-arg → Item item-lts.Then3
   pass-test c = c .before
 
-  abbrev note-start : Item item-lts.Then3 → Item item-lts.Start
-  note-start c = item-start (c .before .before .before)
+  abbrev carry-start : Item item-lts.Then3 → Item item-lts.Start
+  carry-start c = item-start (c .before .before .before)
 
   abbrev item-pass : Item item-lts.After-slice-known7 → Item item-lts.After-pass
   item-pass c = c .before .before
 
+  abbrev note-test : Item item-lts.After-pass-arg2 → Item item-lts.Then4
+  note-test c = c .before
+
+  abbrev note-start : Item item-lts.Then4 → Item item-lts.Start
+  note-start c = item-start (c .before .before .before .before)
+
+  abbrev item-note : Item item-lts.After-slice-known8 → Item item-lts.After-pass2
+  item-note c = c .before .before
+
   abbrev child-start : Item item-lts.After-site-at → Item item-lts.Start
-  child-start c = item-start (c .before .before .before .before)
+  child-start c = item-start (c .before .before .before .before .before)
 
   abbrev credit-site : Item item-lts.After-credit-of → Item item-lts.After-site-at
   credit-site c = c .before .before
@@ -259,10 +273,10 @@ module _ (t : ℕ) where
   abbrev store-site : Item item-lts.After-store → Item item-lts.After-site-at
   store-site c = credit-site (store-credit c)
 
-  abbrev part-store : Item item-lts.After-slice-known8 → Item item-lts.After-store
+  abbrev part-store : Item item-lts.After-slice-known9 → Item item-lts.After-store
   part-store c = c .before .before
 
-  abbrev body-part : Item item-lts.After-body-arg3 → Item item-lts.After-slice-known8
+  abbrev body-part : Item item-lts.After-body-arg3 → Item item-lts.After-slice-known9
   body-part c = c .before .before .before
 
   abbrev body-store : Item item-lts.After-body → Item item-lts.After-store
@@ -274,19 +288,19 @@ module _ (t : ℕ) where
   abbrev returned-load : Item item-lts.After-returned-arg → Item item-lts.After-load
   returned-load c = c .before .before .before
 
-  abbrev test-returned : Item item-lts.After-slice-known13 → Item item-lts.After-returned
+  abbrev test-returned : Item item-lts.After-slice-known14 → Item item-lts.After-returned
   test-returned c = c .before .before
 
-  abbrev called-test : Item item-lts.After-called-arg → Item item-lts.Then4
+  abbrev called-test : Item item-lts.After-called-arg → Item item-lts.Then5
   called-test c = c .before
 
-  abbrev spawned-test : Item item-lts.After-spawned-arg → Item item-lts.Else4
+  abbrev spawned-test : Item item-lts.After-spawned-arg → Item item-lts.Else5
   spawned-test c = c .before
 
-  abbrev item-called : Item item-lts.After-slice-known14 → Item item-lts.After-called
+  abbrev item-called : Item item-lts.After-slice-known15 → Item item-lts.After-called
   item-called c = c .before .before
 
-  abbrev item-spawned : Item item-lts.After-slice-known15 → Item item-lts.After-spawned
+  abbrev item-spawned : Item item-lts.After-slice-known16 → Item item-lts.After-spawned
   item-spawned c = c .before .before
 
   -- what the child left of the scratch, of the marks and of the rows
@@ -299,15 +313,18 @@ module _ (t : ℕ) where
   abbrev body-rows : Item item-lts.After-body → List ℕ
   body-rows c = c .body .last .1 .1 .1 .1 .1 .1 .0
 
-  -- what is known where a weight was read
-  at-weight : (c : Item item-lts.After-weight-at) → (
-      let a = item-start (weight-test c) .args in Costs (byFactors (a .factors .now)) (a .trace .now) (a .deep) (a .z) (a .t .now) (a .marks .now) (a .rows .now) (a .kind) (c .weight-at .result))
-  at-weight c = record { asks = item-start (weight-test c) .pre .1; weight-is = c .weight-at .ensures; cost = c .before .if1 .taken }
+  -- what is known where a weight and instructions were read
+  at-cost : (c : Item item-lts.After-instructions-at) → (
+      let w = instructions-weight c in
+      let a = item-start (weight-test w) .args in Costs (byFactors (a .factors .now)) (a .trace .now) (a .deep) (a .z) (a .t .now) (a .marks .now) (a .rows .now) (a .kind) (w .weight-at .result .0) (c .instructions-at .result .0))
+  at-cost c =
+      let w = instructions-weight c in
+      record { asks = item-start (weight-test w) .pre .1; weight-is = w .weight-at .ensures; instructions-are = c .instructions-at .ensures; cost = w .before .if1 .taken }
 
   -- where a site was read
   at-site : (c : Item item-lts.After-site-at) → (
       let a = child-start c .args in Calls (byFactors (a .factors .now)) (a .trace .now) (a .deep) (a .z) (a .t .now) (a .marks .now) (a .rows .now) (a .kind) (c .site-at .result))
-  at-site c = record { asks = child-start c .pre .1; site-is = c .site-at .ensures; no-cost = c .before .before .before .if1 .left; no-sync = c .before .before .if2 .left; no-note = c .before .if3 .left }
+  at-site c = record { asks = child-start c .pre .1; site-is = c .site-at .ensures; no-cost = c .before .before .before .before .if1 .left; no-sync = c .before .before .before .if2 .left; no-instructions = c .before .before .if3 .left; no-note = c .before .if4 .left }
 
   -- where the invocation is stored
   at-store : (c : Item item-lts.After-store) → (
@@ -328,11 +345,14 @@ module _ (t : ℕ) where
   item-weight-at-requires : Item item-lts.Need-weight-at-requires
   item-weight-at-requires c κs = search needs
 
+  item-instructions-at-requires : Item item-lts.Need-instructions-at-requires
+  item-instructions-at-requires c κs = line-fits (item-start (weight-test (c .before)) .pre .1 .lent)
+
   item-spend-requires : Item item-lts.Need-spend-requires
-  item-spend-requires c κs = rows-asks (at-weight (c .before))
+  item-spend-requires c κs = rows-asks (at-cost c)
 
   item-spend-requires-2 : Item item-lts.Need-spend-requires-2
-  item-spend-requires-2 c κs = spend-asks (at-weight (rows-weight (spend-rows c)))
+  item-spend-requires-2 c κs = spend-asks (at-cost (rows-instructions (spend-rows c)))
 
   item-same-length : Item item-lts.Need-same-length
   item-same-length c = search needs
@@ -344,7 +364,7 @@ module _ (t : ℕ) where
   item-returns c =
       let e = item-spend c in
       let r = spend-rows (e .before) in
-      (cost-leaves (at-weight (rows-weight r)) (e .spend2 .result) (e .spend2 .last .0) (r .spend .last .0) (r .spend .ensures) (e .spend2 .ensures), refl)
+      (cost-leaves (at-cost (rows-instructions r)) (e .spend2 .result) (e .spend2 .last .0) (r .spend .last .0) (r .spend .ensures) (e .spend2 .ensures), refl)
 
   item-join-requires : Item item-lts.Need-join-requires
   item-join-requires c κs = join-asks (sync-start (join-test c) .pre .1 .lent)
@@ -360,7 +380,7 @@ module _ (t : ℕ) where
       (sync-leaves (a .pre .1 .lent) (a .args .kind) (a .pre .1 .kind-is) (e .if2 .taken) (j .join .result) (j .join .last .0) (j .join .ensures), refl)
 
   item-pass-requires : Item item-lts.Need-pass-requires
-  item-pass-requires c κs = let l = note-start (pass-test c) .pre .1 .lent in (join-asks l, line-fits l)
+  item-pass-requires c κs = let l = carry-start (pass-test c) .pre .1 .lent in (join-asks l, line-fits l)
 
   item-same-length-4 : Item item-lts.Need-same-length-4
   item-same-length-4 c = search needs
@@ -369,8 +389,21 @@ module _ (t : ℕ) where
   item-returns-3 c =
       let j = item-pass c in
       let e = pass-test (j .before) in
+      let a = carry-start e in
+      (note-leaves (a .pre .1 .lent) (a .args .kind) (a .pre .1 .kind-is) (inr (e .if3 .taken)) (j .pass .result) (j .pass .last .0) (j .pass .ensures), refl)
+
+  item-pass-requires-2 : Item item-lts.Need-pass-requires-2
+  item-pass-requires-2 c κs = let l = note-start (note-test c) .pre .1 .lent in (join-asks l, line-fits l)
+
+  item-same-length-5 : Item item-lts.Need-same-length-5
+  item-same-length-5 c = search needs
+
+  item-returns-4 : Item item-lts.Need-returns-4
+  item-returns-4 c =
+      let j = item-note c in
+      let e = note-test (j .before) in
       let a = note-start e in
-      (note-leaves (a .pre .1 .lent) (a .args .kind) (a .pre .1 .kind-is) (e .if3 .taken) (j .pass .result) (j .pass .last .0) (j .pass .ensures), refl)
+      (note-leaves (a .pre .1 .lent) (a .args .kind) (a .pre .1 .kind-is) (inl (e .if4 .taken)) (j .pass2 .result) (j .pass2 .last .0) (j .pass2 .ensures), refl)
 
   item-site-at-requires : Item item-lts.Need-site-at-requires
   item-site-at-requires c κs = search needs
@@ -418,54 +451,54 @@ module _ (t : ℕ) where
       let l = returned-load (test-returned (called-test c .before) .before) in
       rw (loaded l) (called-asks _ (at-body (load-body (l .before))))
 
-  item-same-length-5 : Item item-lts.Need-same-length-5
-  item-same-length-5 c = ap length (unloaded (returned-load (test-returned (called-test (item-called c .before) .before) .before)))
-
   item-same-length-6 : Item item-lts.Need-same-length-6
-  item-same-length-6 c =
-      let r = item-called c in
-      r .called .kept .0 ∙ at-body (load-body (returned-load (test-returned (called-test (r .before) .before) .before) .before)) .marks-long
+  item-same-length-6 c = ap length (unloaded (returned-load (test-returned (called-test (item-called c .before) .before) .before)))
 
   item-same-length-7 : Item item-lts.Need-same-length-7
   item-same-length-7 c =
+      let r = item-called c in
+      r .called .kept .0 ∙ at-body (load-body (returned-load (test-returned (called-test (r .before) .before) .before) .before)) .marks-long
+
+  item-same-length-8 : Item item-lts.Need-same-length-8
+  item-same-length-8 c =
       let k = test-returned (called-test (item-called c .before) .before) in
       k .returned .kept .0 ∙ at-body (load-body (returned-load (k .before) .before)) .rows-long
 
-  item-returns-4 : Item item-lts.Need-returns-4
-  item-returns-4 c =
+  item-returns-5 : Item item-lts.Need-returns-5
+  item-returns-5 c =
       let r = item-called c in
       let e = called-test (r .before) in
       let k = test-returned (e .before) in
       let l = returned-load (k .before) in
       let b = load-body (l .before) in
-      (call-leaves _ (at-body b) (k .returned .ensures) (r .called .result) (r .called .last .0) (e .if4 .taken) (subst (λ (x : Zones). Called (body-marks b) x (b .body .result) (r .called .result) (r .called .last .0)) (loaded l) (r .called .ensures)), unloaded l)
+      (call-leaves _ (at-body b) (k .returned .ensures) (r .called .result) (r .called .last .0) (e .if5 .taken) (subst (λ (x : Zones). Called (body-marks b) x (b .body .result) (r .called .result) (r .called .last .0)) (loaded l) (r .called .ensures)), unloaded l)
 
   item-spawned-requires : Item item-lts.Need-spawned-requires
   item-spawned-requires c κs =
       let l = returned-load (test-returned (spawned-test c .before) .before) in
       rw (loaded l) (spawned-asks _ (at-body (load-body (l .before))))
 
-  item-same-length-8 : Item item-lts.Need-same-length-8
-  item-same-length-8 c = ap length (unloaded (returned-load (test-returned (spawned-test (item-spawned c .before) .before) .before)))
-
   item-same-length-9 : Item item-lts.Need-same-length-9
-  item-same-length-9 c =
-      let r = item-spawned c in
-      r .spawned .kept .0 ∙ at-body (load-body (returned-load (test-returned (spawned-test (r .before) .before) .before) .before)) .marks-long
+  item-same-length-9 c = ap length (unloaded (returned-load (test-returned (spawned-test (item-spawned c .before) .before) .before)))
 
   item-same-length-10 : Item item-lts.Need-same-length-10
   item-same-length-10 c =
+      let r = item-spawned c in
+      r .spawned .kept .0 ∙ at-body (load-body (returned-load (test-returned (spawned-test (r .before) .before) .before) .before)) .marks-long
+
+  item-same-length-11 : Item item-lts.Need-same-length-11
+  item-same-length-11 c =
       let k = test-returned (spawned-test (item-spawned c .before) .before) in
       k .returned .kept .0 ∙ at-body (load-body (returned-load (k .before) .before)) .rows-long
 
-  item-returns-5 : Item item-lts.Need-returns-5
-  item-returns-5 c =
+  item-returns-6 : Item item-lts.Need-returns-6
+  item-returns-6 c =
       let r = item-spawned c in
       let e = spawned-test (r .before) in
       let k = test-returned (e .before) in
       let l = returned-load (k .before) in
       let b = load-body (l .before) in
-      (spawn-leaves _ (at-body b) (k .returned .ensures) (r .spawned .result) (r .spawned .last .0) (e .if4 .left) (subst (λ (x : Zones). Spawned (body-marks b) x (b .body .result) (r .spawned .result) (r .spawned .last .0)) (loaded l) (r .spawned .ensures)), unloaded l)
+      (spawn-leaves _ (at-body b) (k .returned .ensures) (r .spawned .result) (r .spawned .last .0) (e .if5 .left) (subst (λ (x : Zones). Spawned (body-marks b) x (b .body .result) (r .spawned .result) (r .spawned .last .0)) (loaded l) (r .spawned .ensures)), unloaded l)
 
 pub +body+item+read-items-spec : {M : Type 1} → statement M
 +body+item+read-items-spec = close μ-body μ-item μ-items (λ t. body-lts.spec (body-calls t)
@@ -483,6 +516,7 @@ pub +body+item+read-items-spec : {M : Type 1} → statement M
     (item-at t)
     item.Post
     (item-weight-at-requires t)
+    (item-instructions-at-requires t)
     (item-spend-requires t)
     (item-spend-requires-2 t)
     (item-same-length t)
@@ -494,6 +528,9 @@ pub +body+item+read-items-spec : {M : Type 1} → statement M
     (item-pass-requires t)
     (item-same-length-4 t)
     (item-returns-3 t)
+    (item-pass-requires-2 t)
+    (item-same-length-5 t)
+    (item-returns-4 t)
     (item-site-at-requires t)
     (item-cast-site t)
     (item-credit-of-requires t)
@@ -507,15 +544,15 @@ pub +body+item+read-items-spec : {M : Type 1} → statement M
     (item-load-requires t)
     (item-returned-requires t)
     (item-called-requires t)
-    (item-same-length-5 t)
     (item-same-length-6 t)
     (item-same-length-7 t)
-    (item-returns-4 t)
-    (item-spawned-requires t)
     (item-same-length-8 t)
+    (item-returns-5 t)
+    (item-spawned-requires t)
     (item-same-length-9 t)
     (item-same-length-10 t)
-    (item-returns-5 t))
+    (item-same-length-11 t)
+    (item-returns-6 t))
     λ t. items-lts.spec (items-calls t)
     (items-at t)
     items.Post

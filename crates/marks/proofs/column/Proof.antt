@@ -1,4 +1,4 @@
--- `marks::column` meets its contract: line by line, what is marked of a row is in its column 5.
+-- `marks::column` meets its contract: line by line, what is marked of a row is in its columns 5 and 7.
 use Prim.Native.Nat.{_-_}
 use mathlib.Core.Path.{_≡_, ap}
 use lib.ListN.{length}

@@ -11,23 +11,23 @@ slice-read-t5 c = search needs
 slice-read-t8 : tie.Need-slice-read-t8
 slice-read-t8 c = search needs
 
-slice-read-t10 : tie.Need-slice-read-t10
-slice-read-t10 c = search needs
-
-slice-read-t12 : tie.Need-slice-read-t12
-slice-read-t12 c = search needs
+slice-read-t11 : tie.Need-slice-read-t11
+slice-read-t11 c = search needs
 
 slice-read-t14 : tie.Need-slice-read-t14
 slice-read-t14 c = search needs
 
+slice-read-t17 : tie.Need-slice-read-t17
+slice-read-t17 c = search needs
+
 slice-read-t5-2 : tie.Need-slice-read-t5-2
 slice-read-t5-2 c = search needs
 
-slice-read-t14-2 : tie.Need-slice-read-t14-2
-slice-read-t14-2 c = search needs
+slice-read-t17-2 : tie.Need-slice-read-t17-2
+slice-read-t17-2 c = search needs
 
-slice-read-t10-2 : tie.Need-slice-read-t10-2
-slice-read-t10-2 c = search needs
+slice-read-t8-2 : tie.Need-slice-read-t8-2
+slice-read-t8-2 c = search needs
 
 slice-write-t : tie.Need-slice-write-t
 slice-write-t c = search needs
@@ -65,12 +65,12 @@ load-spec =
     (tie.spec
     slice-read-t5
     slice-read-t8
-    slice-read-t10
-    slice-read-t12
+    slice-read-t11
     slice-read-t14
+    slice-read-t17
     slice-read-t5-2
-    slice-read-t14-2
-    slice-read-t10-2
+    slice-read-t17-2
+    slice-read-t8-2
     slice-write-t
     slice-write-t-2
     slice-write-t-3

@@ -1,4 +1,5 @@
 -- `marks::on_line` meets its contract: what a line asks for and leaves, by its kind.
+use mathlib.Core.Logic.{inl, inr}
 use Rattle.marks.proofs.Columns.{leave-asks, enter-asks, sync-leaves, note-leaves, return-leaves, add-asks, cost-leaves, child-leaves}
 use borrow.Author.Needs.{needs}
 use Rattle.marks.proofs.on_line.Statement.{statement}
@@ -29,7 +30,10 @@ other-kind c = c .before .before
 abbrev late-kind : tie.Else3 → tie.After-kind-at
 late-kind c = other-kind (c .before)
 
-abbrev child-test : tie.After-site-at → tie.Else4
+abbrev last-kind : tie.Else4 → tie.After-kind-at
+last-kind c = late-kind (c .before)
+
+abbrev child-test : tie.After-site-at → tie.Else5
 child-test c = c .before .before
 
 abbrev end-child : tie.After-slice-known5 → tie.After-enter
@@ -41,7 +45,8 @@ kind-at-requires c κs = search needs
 add-marked-requires : tie.Need-add-marked-requires
 add-marked-requires c κs =
     let k = c .before .before in
-    add-asks (start k .pre) (k .kind-at .result) (k .kind-at .ensures) (c .before .if1 .taken)
+    let a = add-asks (start k .pre) (k .kind-at .result) (k .kind-at .ensures) (c .before .if1 .taken) in
+    (a .0, (a .1, a .2))
 
 same-length : tie.Need-same-length
 same-length c = search needs
@@ -73,7 +78,12 @@ returns-3 c =
 returns-4 : tie.Need-returns-4
 returns-4 c =
     let k = late-kind (c .before) in
-    note-leaves (start k .pre) (k .kind-at .result) (k .kind-at .ensures) (c .if4 .taken)
+    note-leaves (start k .pre) (k .kind-at .result) (k .kind-at .ensures) (inr (c .if4 .taken))
+
+returns-5 : tie.Need-returns-5
+returns-5 c =
+    let k = last-kind (c .before) in
+    note-leaves (start k .pre) (k .kind-at .result) (k .kind-at .ensures) (inl (c .if5 .taken))
 
 site-at-requires : tie.Need-site-at-requires
 site-at-requires c κs = search needs
@@ -82,18 +92,18 @@ cast-enter : tie.Need-cast-enter
 cast-enter c = search needs
 
 enter-requires : tie.Need-enter-requires
-enter-requires c κs = enter-asks (start (late-kind (child-test c .before)) .pre)
+enter-requires c κs = enter-asks (start (last-kind (child-test c .before)) .pre)
 
 same-length-3 : tie.Need-same-length-3
 same-length-3 c = search needs
 
-returns-5 : tie.Need-returns-5
-returns-5 c =
+returns-6 : tie.Need-returns-6
+returns-6 c =
     let r = end-child c in
     let s = r .before in
     let e = child-test s in
-    let k = late-kind (e .before) in
-    child-leaves (start k .pre) (k .kind-at .result) (k .kind-at .ensures) (s .site-at .result) (s .site-at .ensures) (e .before .before .before .if1 .left) (e .before .before .if2 .left) (e .before .if3 .left) (e .if4 .left) (r .enter .result) (r .enter .last .0) (r .enter .ensures .0) (r .enter .ensures .1)
+    let k = last-kind (e .before) in
+    child-leaves (start k .pre) (k .kind-at .result) (k .kind-at .ensures) (s .site-at .result) (s .site-at .ensures) (e .before .before .before .before .if1 .left) (e .before .before .before .if2 .left) (e .before .before .if3 .left) (e .before .if4 .left) (e .if5 .left) (r .enter .result) (r .enter .last .0) (r .enter .ensures .0) (r .enter .ensures .1)
 
 pub on-line-spec : {M : Type 1} → statement M
 on-line-spec =
@@ -108,8 +118,9 @@ on-line-spec =
     returns-2
     returns-3
     returns-4
+    returns-5
     site-at-requires
     cast-enter
     enter-requires
     same-length-3
-    returns-5)
+    returns-6)

@@ -16,7 +16,7 @@ same-length c = search needs
 returns : tie.Need-returns
 returns c =
     let a = c .before .before .before in
-    rw (c .spent .ensures) (spent-done (a .args .marks .now) (a .args .z) (a .pre .0 .room) (a .args .v))
+    rw (c .spent .ensures) (spent-done (a .args .marks .now) (a .args .z) (a .pre .0 .room) (a .args .v .0))
 
 pub spend-spec : {M : Type 1} → statement M
 spend-spec = tie.close (tie.spec slice-write-marks spent-requires same-length returns)

@@ -6,9 +6,6 @@ use Rattle.nyolifuwe.proofs.fields_of.Tie as tie
 enum-known-f : tie.Need-enum-known-f
 enum-known-f c = search needs
 
-cast-t8 : tie.Need-cast-t8
-cast-t8 c = search needs
-
 cast-t9 : tie.Need-cast-t9
 cast-t9 c = search needs
 
@@ -18,17 +15,20 @@ cast-t10 c = search needs
 cast-t11 : tie.Need-cast-t11
 cast-t11 c = search needs
 
+cast-t12 : tie.Need-cast-t12
+cast-t12 c = search needs
+
 enum-known-f-2 : tie.Need-enum-known-f-2
 enum-known-f-2 c = search needs
 
-cast-t12 : tie.Need-cast-t12
-cast-t12 c = search needs
+cast-t13 : tie.Need-cast-t13
+cast-t13 c = search needs
 
 enum-known-f-3 : tie.Need-enum-known-f-3
 enum-known-f-3 c = search needs
 
-cast-t13 : tie.Need-cast-t13
-cast-t13 c = search needs
+cast-t14 : tie.Need-cast-t14
+cast-t14 c = search needs
 
 enum-told : tie.Need-enum-told
 enum-told c = search needs
@@ -39,8 +39,14 @@ enum-told-2 c = search needs
 enum-known-f-4 : tie.Need-enum-known-f-4
 enum-known-f-4 c = search needs
 
-cast-t14 : tie.Need-cast-t14
-cast-t14 c = search needs
+cast-t15 : tie.Need-cast-t15
+cast-t15 c = search needs
+
+enum-known-f-5 : tie.Need-enum-known-f-5
+enum-known-f-5 c = search needs
+
+cast-t16 : tie.Need-cast-t16
+cast-t16 c = search needs
 
 returns : tie.Need-returns
 returns c = rw (c .before .before .before .before .f .given .1)
@@ -60,26 +66,32 @@ returns-5 c = rw (c .enum-told2 .given .1)
 returns-6 : tie.Need-returns-6
 returns-6 c = rw (c .before .f4 .given .1)
 
+returns-7 : tie.Need-returns-7
+returns-7 c = rw (c .before .f5 .given .1)
+
 pub fields-of-spec : {M : Type 1} → statement M
 fields-of-spec =
     tie.close
     (tie.spec
     enum-known-f
-    cast-t8
     cast-t9
     cast-t10
     cast-t11
-    enum-known-f-2
     cast-t12
-    enum-known-f-3
+    enum-known-f-2
     cast-t13
+    enum-known-f-3
+    cast-t14
     enum-told
     enum-told-2
     enum-known-f-4
-    cast-t14
+    cast-t15
+    enum-known-f-5
+    cast-t16
     returns
     returns-2
     returns-3
     returns-4
     returns-5
-    returns-6)
+    returns-6
+    returns-7)

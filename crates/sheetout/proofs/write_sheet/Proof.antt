@@ -8,7 +8,7 @@ use lib.ListN.{length, drop}
 use Rattle.report.proofs.Decisions.{refused, written, fitting-short, fitting-text}
 use Rattle.sheet.specs.Text.{sheetText}
 use Rattle.sheet.proofs.Decisions.{writing-1, writing-4, writing-fitting}
-use Rattle.sheetout.proofs.Counting.{header-length, text-length, text-laid}
+use Rattle.sheetout.proofs.Counting.{headerSize, header-length, text-length, text-laid}
 use Rattle.sheetout.proofs.write_sheet.Statement.{statement}
 use Rattle.sheetout.proofs.write_sheet.Tie as tie
 
@@ -66,7 +66,7 @@ returns-4 c =
     let s = sheetText rows (a .count) in
     let room = length (a .out .now) in
     let n = c .before .before .before .before .before .before .before .before .before .records-size in
-    let size : length s ≡ 34 + n .result = omega (arith, header-length, text-length rows (a .count), n .ensures .0) in
+    let size : length s ≡ headerSize + n .result = omega (arith, header-length, text-length rows (a .count), n .ensures .0) in
     let fits : length s ≤ room = omega (arith, size, c .before .before .before .before .before .before .before .before .if3 .left) in
     let decided = writing-fitting rows (a .count) room (c .before .before .before .before .before .before .before .before .before .before .before .if1 .left) (c .before .before .before .before .before .before .before .before .before .before .if2 .left) ∙ fitting-text 16 s room fits in
     written s (a .out .now) _ _ decided size

@@ -3,11 +3,12 @@ use Prim.Native.Nat.{ℕ, _+_, _*_, _-_, _^_, _<_}
 use mathlib.Core.List.{List}
 use lib.ListN.{length}
 use mathlib.Core.Path.{_∙_}
+use mathlib.Core.Logic.{inl, inr}
 use native.Mathlib.Omega.{arith}
 use borrow.Author.Needs.{needs}
 use Rattle.walk.specs.Weight.{byFactors}
 use Rattle.tables.proofs.Bodies.{begins, Loop, loop-start, loop-asks, Next, loop-less, loop-again, loop-done, body-leaves}
-use Rattle.tables.proofs.Items.{line-fits, own-room, join-asks, sync-leaves, note-leaves, Costs, rows-asks, spend-asks, cost-leaves, Calls, deeper, room, credit-asks, body-asks, Back, back-long, count-asks, called-asks, spawned-asks, call-leaves, spawn-leaves}
+use Rattle.tables.proofs.Items.{line-fits, blocks-fit, join-asks, sync-leaves, note-leaves, Costs, rows-asks, spend-asks, cost-leaves, Calls, deeper, room, credit-asks, body-asks, Back, back-long, count-asks, called-asks, spawned-asks, call-leaves, spawn-leaves}
 use borrow.Fn.Kinds.{In, Out}
 use borrow.Fn.PlainCycle.{Measures, is, falls, and}
 use Rattle.tables.proofs.body.Reads as body
@@ -32,6 +33,7 @@ use Rattle.walk.proofs.Open.new.Reads as new-reads
 use Rattle.walk.proofs.returned.Reads as returned-reads
 use Rattle.walk.proofs.spend.Reads as spend-reads′
 use Rattle.walk.proofs.weight_at.Reads as weight-at-reads
+use Rattle.walk.proofs.instructions_at.Reads as instructions-at-reads
 use Rattle.tables.proofs.+body+item+read_items.{statement}
 use Rattle.tables.proofs.+body+item+read_items.Tie.{close}
 
@@ -70,7 +72,7 @@ abbrev items-calls : ℕ → items-lts.Claims
 items-calls t = (kind-at-reads.Asked, kind-at-reads.Learnt, item-below t, item.Post)
 
 abbrev item-calls : ℕ → item-lts.Claims
-item-calls t = (weight-at-reads.Asked, weight-at-reads.Learnt, spend-reads′.Asked, spend-reads′.Learnt, spend-reads.Asked, spend-reads.Learnt, join-reads.Asked, join-reads.Learnt, passed-reads.Asked, passed-reads.Learnt, site-at-reads.Asked, site-at-reads.Learnt, child-part-reads.Asked, child-part-reads.Learnt, credit-of-reads.Asked, credit-of-reads.Learnt, body-below t, body.Post, returned-reads.Asked, returned-reads.Learnt, called-reads.Asked, called-reads.Learnt, spawned-reads.Asked, spawned-reads.Learnt)
+item-calls t = (weight-at-reads.Asked, weight-at-reads.Learnt, instructions-at-reads.Asked, instructions-at-reads.Learnt, spend-reads′.Asked, spend-reads′.Learnt, spend-reads.Asked, spend-reads.Learnt, join-reads.Asked, join-reads.Learnt, passed-reads.Asked, passed-reads.Learnt, site-at-reads.Asked, site-at-reads.Learnt, child-part-reads.Asked, child-part-reads.Learnt, credit-of-reads.Asked, credit-of-reads.Learnt, body-below t, body.Post, returned-reads.Asked, returned-reads.Learnt, called-reads.Asked, called-reads.Learnt, spawned-reads.Asked, spawned-reads.Learnt)
 
 abbrev Inv-loop : items-lts.InvT-loop
 Inv-loop trace row deep t₀ rows₀ w factors f₀ kind₀ t rows f kind = Loop (byFactors factors) trace row deep f₀ t₀ rows₀ t rows (w + 1) w f kind
@@ -194,11 +196,14 @@ module _ (t : ℕ) where
   abbrev item-start : Item item-lts.After-shared-slice-known2 → Item item-lts.Start
   item-start c = c .before .before .before .before
 
-  abbrev weight-test : Item item-lts.After-weight-at → Item item-lts.After-shared-slice-known2
-  weight-test c = c .before .before
+  abbrev cost-test : Item item-lts.After-instructions-at → Item item-lts.Then1
+  cost-test c = c .before .before
 
-  abbrev rows-weight : Item item-lts.After-spend → Item item-lts.After-weight-at
-  rows-weight c = c .before .before
+  abbrev cost-start : Item item-lts.After-instructions-at → Item item-lts.Start
+  cost-start c = item-start (cost-test c .before)
+
+  abbrev rows-cost : Item item-lts.After-spend → Item item-lts.After-instructions-at
+  rows-cost c = c .before .before
 
   abbrev spend-rows : Item item-lts.After-spend-arg2 → Item item-lts.After-spend
   spend-rows c = c .before .before .before
@@ -215,11 +220,14 @@ module _ (t : ℕ) where
   abbrev item-join : Item item-lts.After-slice-known5 → Item item-lts.After-join
   item-join c = c .before .before
 
-  abbrev note-start : Item item-lts.Then3 → Item item-lts.Start
-  note-start c = item-start (c .before .before .before)
+  abbrev carry-start : Item item-lts.Then3 → Item item-lts.Start
+  carry-start c = item-start (c .before .before .before)
+
+  abbrev note-start : Item item-lts.Then4 → Item item-lts.Start
+  note-start c = item-start (c .before .before .before .before)
 
   abbrev child-start : Item item-lts.After-site-at → Item item-lts.Start
-  child-start c = item-start (c .before .before .before .before)
+  child-start c = item-start (c .before .before .before .before .before)
 
   abbrev credit-part : Item item-lts.After-credit-of → Item item-lts.After-child-part
   credit-part c = c .before .before
@@ -236,7 +244,7 @@ module _ (t : ℕ) where
   abbrev test-returned : Item item-lts.After-slice-known8 → Item item-lts.After-returned
   test-returned c = c .before .before
 
-  abbrev spawned-test : Item item-lts.After-spawned-arg → Item item-lts.Else4
+  abbrev spawned-test : Item item-lts.After-spawned-arg → Item item-lts.Else5
   spawned-test c = c .before
 
   abbrev item-spawned : Item item-lts.After-slice-known9 → Item item-lts.After-spawned
@@ -253,16 +261,16 @@ module _ (t : ℕ) where
   abbrev body-rows : Item item-lts.After-body → List ℕ
   body-rows c = c .body .last .1 .1 .1 .1 .1 .0
 
-  -- what is known where a weight was read, where the child's part is known, and where the child has returned
-  at-weight : (c : Item item-lts.After-weight-at) → (
-      let a = item-start (weight-test c) .args in Costs (byFactors (a .factors .now)) (a .trace .now) (a .kind) (a .row) (a .deep) (a .f) (a .t .now) (a .rows .now) (a .w + 1) (a .w) (c .weight-at .result))
-  at-weight c = record { asks = item-start (weight-test c) .pre .1; weight-is = c .weight-at .ensures; cost = c .before .if1 .taken }
+  -- what is known where a cost was read, where the child's part is known, and where the child has returned
+  at-cost : (c : Item item-lts.After-instructions-at) → (
+      let a = cost-start c .args in Costs (byFactors (a .factors .now)) (a .trace .now) (a .kind) (a .row) (a .deep) (a .f) (a .t .now) (a .rows .now) (a .w + 1) (a .w) (c .before .weight-at .result .0) (c .instructions-at .result .0))
+  at-cost c = record { asks = cost-start c .pre .1; weight-is = c .before .weight-at .ensures; instructions-are = c .instructions-at .ensures; cost = cost-test c .if1 .taken }
 
   at-part : (c : Item item-lts.After-child-part) → (
       let a = child-start (c .before) .args in Calls (byFactors (a .factors .now)) (a .trace .now) (a .kind) (a .row) (a .deep) (a .f) (a .t .now) (a .rows .now) (a .w + 1) (a .w) (c .before .site-at .result) (c .child-part .result))
   at-part c =
       let e = c .before .before in
-      record { asks = child-start (c .before) .pre .1; site-is = c .before .site-at .ensures; no-cost = e .before .before .if1 .left; no-sync = e .before .if2 .left; no-note = e .if3 .left; begins = c .child-part .ensures }
+      record { asks = child-start (c .before) .pre .1; site-is = c .before .site-at .ensures; no-cost = e .before .before .before .if1 .left; no-sync = e .before .before .if2 .left; no-note = e .if4 .left; no-carry = e .before .if3 .left; begins = c .child-part .ensures }
 
   at-body : (c : Item item-lts.After-body) → Back (at-part (body-part (c .before))) (body-credit (c .before) .credit-of .result) (c .body .result) (body-scratch c) (body-rows c)
   at-body c = record { taken = body-credit (c .before) .credit-of .ensures; part-long = c .body .kept .1 .1 .1 .1 .0; rows-long = c .body .kept .1 .1 .1 .1 .1 .0; leaves = c .body .ensures }
@@ -273,11 +281,14 @@ module _ (t : ℕ) where
   item-weight-at-requires : Item item-lts.Need-weight-at-requires
   item-weight-at-requires c κs = search needs
 
+  item-instructions-at-requires : Item item-lts.Need-instructions-at-requires
+  item-instructions-at-requires c κs = line-fits (item-start (c .before .before) .pre .1 .lent)
+
   item-spend-requires : Item item-lts.Need-spend-requires
-  item-spend-requires c κs = rows-asks (at-weight (c .before))
+  item-spend-requires c κs = rows-asks (at-cost (c .before))
 
   item-spend-requires-2 : Item item-lts.Need-spend-requires-2
-  item-spend-requires-2 c κs = spend-asks (at-weight (rows-weight (spend-rows c)))
+  item-spend-requires-2 c κs = spend-asks (at-cost (rows-cost (spend-rows c)))
 
   item-same-length : Item item-lts.Need-same-length
   item-same-length c = search needs
@@ -289,7 +300,7 @@ module _ (t : ℕ) where
   item-returns c =
       let e = item-spend c in
       let r = spend-rows (e .before) in
-      cost-leaves (at-weight (rows-weight r)) (e .spend2 .result) (e .spend2 .last .0) (r .spend .last .0) (r .spend .ensures) (e .spend2 .ensures)
+      cost-leaves (at-cost (rows-cost r)) (e .spend2 .result) (e .spend2 .last .0) (r .spend .last .0) (r .spend .ensures) (e .spend2 .ensures)
 
   item-join-requires : Item item-lts.Need-join-requires
   item-join-requires c κs = join-asks (sync-start (join-test c) .pre .1 .lent)
@@ -305,13 +316,22 @@ module _ (t : ℕ) where
       sync-leaves (a .pre .1 .lent) (a .args .kind) (a .pre .1 .kind-is) (e .if2 .taken) (j .join .result) (j .join .last .0) (j .join .ensures)
 
   item-passed-requires : Item item-lts.Need-passed-requires
-  item-passed-requires c κs = line-fits (note-start c .pre .1 .lent)
+  item-passed-requires c κs = line-fits (carry-start c .pre .1 .lent)
 
   item-returns-3 : Item item-lts.Need-returns-3
   item-returns-3 c =
       let e = c .before in
+      let a = carry-start e in
+      note-leaves (a .pre .1 .lent) (a .args .kind) (a .pre .1 .kind-is) (inr (e .if3 .taken)) (c .passed .result) (c .passed .ensures)
+
+  item-passed-requires-2 : Item item-lts.Need-passed-requires-2
+  item-passed-requires-2 c κs = line-fits (note-start c .pre .1 .lent)
+
+  item-returns-4 : Item item-lts.Need-returns-4
+  item-returns-4 c =
+      let e = c .before in
       let a = note-start e in
-      note-leaves (a .pre .1 .lent) (a .args .kind) (a .pre .1 .kind-is) (e .if3 .taken) (c .passed .result) (c .passed .ensures)
+      note-leaves (a .pre .1 .lent) (a .args .kind) (a .pre .1 .kind-is) (inl (e .if4 .taken)) (c .passed2 .result) (c .passed2 .ensures)
 
   item-site-at-requires : Item item-lts.Need-site-at-requires
   item-site-at-requires c κs = search needs
@@ -320,9 +340,7 @@ module _ (t : ℕ) where
   item-cast-site c = search needs
 
   item-child-part-requires : Item item-lts.Need-child-part-requires
-  item-child-part-requires c κs =
-      let a = child-start c in
-      omega (arith, own-room (a .pre .1 .lent), scratch-fits a)
+  item-child-part-requires c κs = blocks-fit (child-start c .pre .1 .lent)
 
   item-credit-of-requires : Item item-lts.Need-credit-of-requires
   item-credit-of-requires c κs = credit-asks (at-part (c .before))
@@ -365,15 +383,15 @@ module _ (t : ℕ) where
       let k = test-returned (c .before .before) in
       k .returned .kept .0 ∙ at-body (returned-body (k .before)) .rows-long
 
-  item-returns-4 : Item item-lts.Need-returns-4
-  item-returns-4 c =
+  item-returns-5 : Item item-lts.Need-returns-5
+  item-returns-5 c =
       let k = test-returned (c .before .before) in
-      call-leaves _ (at-body (returned-body (k .before))) (k .returned .ensures) (c .called .result) (c .before .if4 .taken) (c .called .ensures)
+      call-leaves _ (at-body (returned-body (k .before))) (k .returned .ensures) (c .called .result) (c .before .if5 .taken) (c .called .ensures)
 
   item-spawned-requires : Item item-lts.Need-spawned-requires
   item-spawned-requires c κs =
       let e = spawned-test c in
-      spawned-asks _ (at-body (returned-body (test-returned (e .before) .before))) (e .if4 .left)
+      spawned-asks _ (at-body (returned-body (test-returned (e .before) .before))) (e .if5 .left)
 
   item-same-length-6 : Item item-lts.Need-same-length-6
   item-same-length-6 c =
@@ -385,12 +403,12 @@ module _ (t : ℕ) where
       let k = test-returned (spawned-test (item-spawned c .before) .before) in
       k .returned .kept .0 ∙ at-body (returned-body (k .before)) .rows-long
 
-  item-returns-5 : Item item-lts.Need-returns-5
-  item-returns-5 c =
+  item-returns-6 : Item item-lts.Need-returns-6
+  item-returns-6 c =
       let r = item-spawned c in
       let e = spawned-test (r .before) in
       let k = test-returned (e .before) in
-      spawn-leaves _ (at-body (returned-body (k .before))) (k .returned .ensures) (r .spawned .result) (e .if4 .left) (r .spawned .last .0) (r .spawned .ensures)
+      spawn-leaves _ (at-body (returned-body (k .before))) (k .returned .ensures) (r .spawned .result) (e .if5 .left) (r .spawned .last .0) (r .spawned .ensures)
 
 pub +body+item+read-items-spec : {M : Type 1} → statement M
 +body+item+read-items-spec = close μ-body μ-item μ-items (λ t. body-lts.spec (body-calls t)
@@ -408,6 +426,7 @@ pub +body+item+read-items-spec : {M : Type 1} → statement M
     item.Post
     (item-add-n t)
     (item-weight-at-requires t)
+    (item-instructions-at-requires t)
     (item-spend-requires t)
     (item-spend-requires-2 t)
     (item-same-length t)
@@ -418,6 +437,8 @@ pub +body+item+read-items-spec : {M : Type 1} → statement M
     (item-returns-2 t)
     (item-passed-requires t)
     (item-returns-3 t)
+    (item-passed-requires-2 t)
+    (item-returns-4 t)
     (item-site-at-requires t)
     (item-cast-site t)
     (item-child-part-requires t)
@@ -433,11 +454,11 @@ pub +body+item+read-items-spec : {M : Type 1} → statement M
     (item-called-requires t)
     (item-same-length-4 t)
     (item-same-length-5 t)
-    (item-returns-4 t)
+    (item-returns-5 t)
     (item-spawned-requires t)
     (item-same-length-6 t)
     (item-same-length-7 t)
-    (item-returns-5 t))
+    (item-returns-6 t))
     λ t. items-lts.spec (items-calls t)
     (items-at t)
     items.Post

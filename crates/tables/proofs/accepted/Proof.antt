@@ -105,6 +105,9 @@ sub-body c = limits (cleared (body-zeros c .before) .pre .0) .0
 add-body : tie.Need-add-body
 add-body c = let l = limits (begun c .pre .0) in omega (arith, l .2, l .3)
 
+mul-body : tie.Need-mul-body
+mul-body c = let l = limits (begun c .pre .0) in omega (arith, l .2, l .3)
+
 body-requires : tie.Need-body-requires
 body-requires c κs = root-asks (begun c .pre .0) (byFactors (begun c .args .factors .now)) (tabled (begun c)) (blank (body-zeros (body-credit c)))
 
@@ -143,6 +146,7 @@ accepted-spec =
     credit-of-requires
     sub-body
     add-body
+    mul-body
     body-requires
     returned-requires
     add-settle

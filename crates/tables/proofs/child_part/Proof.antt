@@ -11,7 +11,7 @@ part-requires c κs = search needs
 returns : tie.Need-returns
 returns c =
     let a = c .before .before in
-    c .part .ensures ∙ sym (child-spawned (a .args .kind) (a .args .n) (a .args .f .longest) (c .before .if1 .taken))
+    c .part .ensures ∙ sym (child-spawned (a .args .kind) (a .args .n) (a .args .f .longest .0) (c .before .if1 .taken))
 
 since-requires : tie.Need-since-requires
 since-requires c κs = search needs
@@ -19,7 +19,7 @@ since-requires c κs = search needs
 returns-2 : tie.Need-returns-2
 returns-2 c =
     let a = c .before .before in
-    c .since .ensures ∙ sym (child-called (a .args .kind) (a .args .n) (a .args .f .longest) (c .before .if1 .left))
+    c .since .ensures ∙ sym (child-called (a .args .kind) (a .args .n) (a .args .f .longest .0) (c .before .if1 .left))
 
 pub child-part-spec : {M : Type 1} → statement M
 child-part-spec = tie.close (tie.spec part-requires returns since-requires returns-2)

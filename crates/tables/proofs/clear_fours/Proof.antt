@@ -1,4 +1,4 @@
--- `tables::clear_fours` meets its contract. The invariant: the rows up to four `c` are clear, and `left` is the word from
+-- `tables::clear_fours` meets its contract. The invariant: the numbers up to four `c` are clear, and `left` is the word from
 -- there on. The measure is `left`.
 use mathlib.Core.Path.{_≡_, refl, _∙_, sym}
 use Prim.Native.Nat.{_*_, _/_, _^_, _<_}
@@ -14,7 +14,7 @@ use Rattle.tables.proofs.clear_fours.Statement.{statement}
 use Rattle.tables.proofs.clear_fours.Tie as tie
 
 abbrev Inv-loop : tie.InvT-loop
-Inv-loop t₀ a w word left₀ c₀ t left c = (left ≡ word / 2 ^ c) × (length t ≡ length t₀) × Cleared a w 0 (4 * c) t₀ t
+Inv-loop t₀ a w word left₀ c₀ t left c = (left ≡ word / 2 ^ c) × (length t ≡ length t₀) × Cleared a w 0 (8 * c) t₀ t
 
 abbrev μ-loop : tie.MeasureT-loop
 μ-loop t₀ a w word left₀ c₀ t left c = left

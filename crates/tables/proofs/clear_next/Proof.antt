@@ -22,7 +22,7 @@ returns : tie.Need-returns
 returns c =
     let r = c .before .before in
     let a = r .before .before .before .before in
-    cleared-same (a .args .w) (a .args .from + 4) (λ i f s w. (s, s)) (λ i f s w. (w, omega arith)) (r .clear-rows .ensures)
+    cleared-same (a .args .w) (a .args .from + 8) (λ i f s w. (s, s)) (λ i f s w. (w, omega arith)) (r .clear-rows .ensures)
 
 clear-rows-requires-2 : tie.Need-clear-rows-requires-2
 clear-rows-requires-2 c κs = search needs
@@ -34,7 +34,7 @@ returns-2 : tie.Need-returns-2
 returns-2 c =
     let r = c .before .before in
     let a = r .before .before .before .before in
-    cleared-same (a .args .w) (a .args .from + 4) (λ i f s w. (w, w)) (λ i f s w. (omega arith, w)) (r .clear-rows2 .ensures)
+    cleared-same (a .args .w) (a .args .from + 8) (λ i f s w. (w, w)) (λ i f s w. (omega arith, w)) (r .clear-rows2 .ensures)
 
 pub clear-next-spec : {M : Type 1} → statement M
 clear-next-spec =

@@ -1,11 +1,10 @@
 -- `tables::join` meets its contract: the prefix takes in the table of the chain that wins, and that of the loser goes.
-use Prim.Native.Nat.{_+_, _*_, _^_, _<_}
-use mathlib.Core.List.{[]}
+use Prim.Native.Nat.{_+_, _^_, _<_}
 use native.Mathlib.Omega.{arith}
 use borrow.Author.Needs.{needs}
 use Rattle.tables.specs.Blocks.{Shows, behind}
 use Rattle.tables.proofs.Held.{some-longest}
-use Rattle.tables.proofs.Steps.{load-fits, prefix-fits, join-none, join-since, join-longest, third, since-takes, longest-takes}
+use Rattle.tables.proofs.Steps.{load-fits, prefix-fits, iprefix-fits, join-none, join-since, join-longest, since-takes, longest-takes}
 use Rattle.tables.proofs.join.Statement.{statement}
 use Rattle.tables.proofs.join.Tie as tie
 
@@ -29,7 +28,7 @@ abbrev child-taken : tie.After-slice-known3 → tie.After-take-in2
 child-taken c = c .before .before
 
 -- the invocation's own numbers fit
-own-fits : (c : tie.Start) → (c .args .f .at + 1 < 2 ^ 64) × (c .args .f .prefix + (c .args .f .longest + c .args .f .since) < 2 ^ 64)
+own-fits : (c : tie.Start) → (c .args .f .at + 1 < 2 ^ 64) × (c .args .f .prefix .0 + (c .args .f .longest .0 + c .args .f .since .0) < 2 ^ 64)
 own-fits c = (c .pre .1, omega (arith, load-fits (c .pre .0)))
 
 -- a child is the longest: each block shows its own chain
@@ -66,9 +65,7 @@ take-in-requires c κs =
     let l = c .before .before in
     let a = asked-start l in
     let r = a .pre .0 in
-    let k = behind (r .q) (r .k) in
-    let s = shows l in
-    since-takes (a .args .n) (a .args .w) (r .blocks) (a .args .t .now) (3 * a .args .n) (omega arith) (omega (arith, r .room)) k (r .g) s ([], third (a .args .n) (a .args .w) (r .blocks) (a .args .t .now) k (r .g) s) (omega (arith, prefix-fits r))
+    since-takes (a .args .n) (a .args .w) (r .blocks) (a .args .t .now) (r .wide (l .before .if1 .left)) (behind (r .q) (r .k)) (r .g) (shows l) (r .even) (omega (arith, prefix-fits r)) (omega (arith, iprefix-fits r))
 
 joined-requires-2 : tie.Need-joined-requires-2
 joined-requires-2 c κs = own-fits (asked-start (since-test (since-taken c) .before))
@@ -89,7 +86,7 @@ take-in-requires-2 c κs =
     let l = c .before .before in
     let a = asked-start l in
     let r = a .pre .0 in
-    longest-takes (a .args .n) (a .args .w) (r .blocks) (a .args .t .now) (r .room) (behind (r .q) (r .k)) (r .g) (shows l) (omega (arith, prefix-fits r))
+    longest-takes (a .args .n) (a .args .w) (r .blocks) (a .args .t .now) (r .wide (l .before .if1 .left)) (behind (r .q) (r .k)) (r .g) (shows l) (r .even) (omega (arith, prefix-fits r)) (omega (arith, iprefix-fits r))
 
 joined-requires-3 : tie.Need-joined-requires-3
 joined-requires-3 c κs = own-fits (asked-start (child-test (child-taken c) .before))

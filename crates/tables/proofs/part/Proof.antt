@@ -8,7 +8,7 @@ use Rattle.tables.proofs.part.Tie as tie
 returns : tie.Need-returns
 returns c =
     let a = c .before .before in
-    sym (part-first (a .args .n) (a .args .f .longest) (c .if1 .taken))
+    sym (part-first (a .args .n) (a .args .f .longest .0) (c .if1 .taken))
 
 mul-result : tie.Need-mul-result
 mul-result c = search needs
@@ -16,7 +16,7 @@ mul-result c = search needs
 returns-2 : tie.Need-returns-2
 returns-2 c =
     let a = c .before .before in
-    sym (part-later (a .args .n) (a .args .f .longest) (c .if1 .left))
+    sym (part-later (a .args .n) (a .args .f .longest .0) (c .if1 .left))
 
 pub part-spec : {M : Type 1} → statement M
 part-spec = tie.close (tie.spec returns mul-result returns-2)

@@ -1,63 +1,86 @@
--- `tables::put_four` meets its contract, store by store.
-use native.Mathlib.Omega.{arith}
-use lib.ListN.{length-set}
+-- `tables::put_four` meets its contract, row by row.
+use mathlib.Core.Path.{_∙_}
 use borrow.Author.Needs.{needs}
+use Rattle.tables.proofs.Fours.{laid-so}
+use native.Mathlib.Omega.{arith}
 use Rattle.tables.proofs.put_four.Statement.{statement}
 use Rattle.tables.proofs.put_four.Tie as tie
 
-mul-t : tie.Need-mul-t
-mul-t c = search needs
+-- from each store to the one before it
+abbrev start : tie.After-put-pair → tie.Start
+start c = c .before .before .before
 
-slice-write-t : tie.Need-slice-write-t
-slice-write-t c = search needs
+abbrev first : tie.After-put-pair2 → tie.After-put-pair
+first c = c .before .before .before .before
 
-add-t : tie.Need-add-t
-add-t c = search needs
+abbrev second : tie.After-put-pair3 → tie.After-put-pair2
+second c = c .before .before .before .before
 
-mul-t-2 : tie.Need-mul-t-2
-mul-t-2 c = search needs
+abbrev third : tie.After-put-pair4 → tie.After-put-pair3
+third c = c .before .before .before .before
 
-slice-write-t-2 : tie.Need-slice-write-t-2
-slice-write-t-2 c = simp length-set (omega (arith, c .pre))
+put-pair-requires : tie.Need-put-pair-requires
+put-pair-requires c κs = search needs
 
-add-t-2 : tie.Need-add-t-2
-add-t-2 c = search needs
+add-put-pair : tie.Need-add-put-pair
+add-put-pair c =
+    let a = start (c .before .before .before) in
+    record { fits = omega (arith, a .pre) }
 
-mul-t-3 : tie.Need-mul-t-3
-mul-t-3 c = search needs
+put-pair-requires-2 : tie.Need-put-pair-requires-2
+put-pair-requires-2 c κs =
+    let u = c .before .before .before in
+    omega (arith, start u .pre, u .put-pair .kept .0)
 
-slice-write-t-3 : tie.Need-slice-write-t-3
-slice-write-t-3 c = simp length-set (omega (arith, c .pre))
+add-put-pair-2 : tie.Need-add-put-pair-2
+add-put-pair-2 c =
+    let a = start (first (c .before .before .before)) in
+    record { fits = omega (arith, a .pre) }
 
-add-t-3 : tie.Need-add-t-3
-add-t-3 c = search needs
+put-pair-requires-3 : tie.Need-put-pair-requires-3
+put-pair-requires-3 c κs =
+    let v = c .before .before .before in
+    let u = first v in
+    omega (arith, start u .pre, u .put-pair .kept .0, v .put-pair2 .kept .0)
 
-mul-t-4 : tie.Need-mul-t-4
-mul-t-4 c = search needs
+add-put-pair-3 : tie.Need-add-put-pair-3
+add-put-pair-3 c =
+    let a = start (first (second (c .before .before .before))) in
+    record { fits = omega (arith, a .pre) }
 
-slice-write-t-4 : tie.Need-slice-write-t-4
-slice-write-t-4 c = simp length-set (omega (arith, c .pre))
+put-pair-requires-4 : tie.Need-put-pair-requires-4
+put-pair-requires-4 c κs =
+    let r = c .before .before .before in
+    let v = second r in
+    let u = first v in
+    omega (arith, start u .pre, u .put-pair .kept .0, v .put-pair2 .kept .0, r .put-pair3 .kept .0)
 
 same-length : tie.Need-same-length
-same-length c = search needs
+same-length c =
+    let s = c .before .before in
+    let r = third s in
+    let v = second r in
+    s .put-pair4 .kept .0 ∙ r .put-pair3 .kept .0 ∙ v .put-pair2 .kept .0 ∙ first v .put-pair .kept .0
 
 returns : tie.Need-returns
-returns c = search needs
+returns c =
+    let s = c .before .before in
+    let r = third s in
+    let v = second r in
+    let u = first v in
+    let a = start u in
+    laid-so (a .args .t .now) (a .args .i) (a .args .x) (u .put-pair .last .0) (u .put-pair .ensures) (v .put-pair2 .last .0) (v .put-pair2 .ensures) (r .put-pair3 .last .0) (r .put-pair3 .ensures) (s .put-pair4 .last .0) (s .put-pair4 .ensures)
 
 pub put-four-spec : {M : Type 1} → statement M
 put-four-spec =
     tie.close
     (tie.spec
-    mul-t
-    slice-write-t
-    add-t
-    mul-t-2
-    slice-write-t-2
-    add-t-2
-    mul-t-3
-    slice-write-t-3
-    add-t-3
-    mul-t-4
-    slice-write-t-4
+    put-pair-requires
+    add-put-pair
+    put-pair-requires-2
+    add-put-pair-2
+    put-pair-requires-3
+    add-put-pair-3
+    put-pair-requires-4
     same-length
     returns)

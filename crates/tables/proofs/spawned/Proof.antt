@@ -1,11 +1,11 @@
 -- `tables::spawned` meets its contract: where the child is longer its table comes to the longest child's place, else it is
 -- cleared.
-use Prim.Native.Nat.{_+_, _*_, _^_, _<_}
+use Prim.Native.Nat.{_+_, _^_, _<_}
 use native.Mathlib.Omega.{arith}
 use borrow.Author.Needs.{needs}
 use Rattle.tables.specs.Blocks.{Shows, behind}
 use Rattle.tables.proofs.Held.{some-longest}
-use Rattle.tables.proofs.Steps.{load-fits, prefix-fits, spawned-first, spawned-longer, spawned-shorter, since-takes}
+use Rattle.tables.proofs.Steps.{load-fits, prefix-fits, iprefix-fits, spawned-first, spawned-longer, spawned-shorter, since-takes}
 use Rattle.tables.proofs.spawned.Statement.{statement}
 use Rattle.tables.proofs.spawned.Tie as tie
 
@@ -29,8 +29,8 @@ abbrev cleared : tie.After-slice-known3 → tie.After-clear
 cleared c = c .before .before
 
 -- the invocation's own numbers and the child's fit
-both-fit : (c : tie.Start) → (c .args .f .work + c .args .c .work < 2 ^ 64) × (c .args .f .prefix + c .args .f .since < 2 ^ 64)
-both-fit c = (c .pre .1 .1, omega (arith, load-fits (c .pre .0)))
+both-fit : (c : tie.Start) → (c .args .f .work .0 + c .args .c .work .0 < 2 ^ 64) × (c .args .f .prefix .0 + c .args .f .since .0 < 2 ^ 64)
+both-fit c = (c .pre .1, omega (arith, load-fits (c .pre .0)))
 
 -- a child is the longest: each block shows its own chain
 shows : (c : tie.After-child-longer2) → (
@@ -66,8 +66,7 @@ take-in-requires c κs =
     let l = c .before .before in
     let a = asked-start l in
     let r = a .pre .0 in
-    let s = shows l in
-    since-takes (a .args .n) (a .args .w) (r .blocks) (a .args .t .now) (4 * a .args .n) (omega arith) (omega (arith, a .pre .1 .0)) (behind (r .q) (r .k)) (r .g) s (r .g, s .G) (omega (arith, prefix-fits r))
+    since-takes (a .args .n) (a .args .w) (r .blocks) (a .args .t .now) (r .wide (l .before .if1 .left)) (behind (r .q) (r .k)) (r .g) (shows l) (r .even) (omega (arith, prefix-fits r)) (omega (arith, iprefix-fits r))
 
 spawned-requires-2 : tie.Need-spawned-requires-2
 spawned-requires-2 c κs = both-fit (asked-start (taken-test (taken c) .before))
@@ -88,7 +87,7 @@ clear-requires c κs =
     let l = c .before .before in
     let a = asked-start l in
     let r = a .pre .0 in
-    (omega (arith, r .blocks, a .pre .1 .0), (r .g, shows l .G))
+    (omega (arith, r .blocks, r .wide (l .before .if1 .left)), (r .g, shows l .G))
 
 spawned-requires-3 : tie.Need-spawned-requires-3
 spawned-requires-3 c κs = both-fit (asked-start (cleared-test (cleared c) .before))

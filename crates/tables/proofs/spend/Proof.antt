@@ -1,7 +1,7 @@
--- `tables::spend` meets its contract: the cost is put into the continuation's table, its number and its bit.
-use native.Mathlib.Omega.{arith}
-use Rattle.tables.proofs.Steps.{load-fits, since-le, since-room, spent-done}
+-- `tables::spend` meets its contract: the cost is put into the continuation's table, its numbers and its bit.
+use Rattle.tables.proofs.Steps.{load-fits, row-fits, since-room, spent-done}
 use borrow.Author.Needs.{needs}
+use native.Mathlib.Omega.{arith}
 use Rattle.tables.proofs.spend.Statement.{statement}
 use Rattle.tables.proofs.spend.Tie as tie
 
@@ -21,6 +21,9 @@ put c = c .before .before
 since-requires : tie.Need-since-requires
 since-requires c κs = search needs
 
+mul-add : tie.Need-mul-add
+mul-add c = search needs
+
 add-add : tie.Need-add-add
 add-add c =
     let a = start (c .before) in
@@ -31,12 +34,11 @@ add-requires : tie.Need-add-requires
 add-requires c κs =
     let a = start (c .before) in
     let r = a .pre .0 in
-    rw (c .before .since .ensures) (omega (arith, since-room r, a .pre .1 .0), omega (arith, since-le r (a .args .s) (a .pre .1 .0), r .fits))
+    rw (c .before .since .ensures) (omega (arith, since-room r, a .pre .1 .0), row-fits r (a .args .s) (a .pre .1 .0))
 
 add-put-row : tie.Need-add-put-row
 add-put-row c =
-    let d = added c in
-    let e = since d in
+    let e = since (added c) in
     let r = since-room (start e .pre .0) in
     record { fits = rw (e .since .ensures) (omega arith) }
 
@@ -63,13 +65,14 @@ returns c =
     let e = since d in
     let a = start e in
     let r = a .pre .0 in
-    spent-done (a .args .n) (a .args .w) (r .blocks) (a .args .t .now) (a .args .f) (a .args .s) (a .args .v) (a .pre .1 .0) (a .pre .1 .1 .1 .0) (r .room) (e .since .result) (e .since .ensures) (d .add .last .0) (d .add .ensures) (u .put-row .last .0) (u .put-row .ensures) (c .spent .result) (c .spent .ensures)
+    spent-done (a .args .n) (a .args .w) (r .blocks) (a .args .t .now) (a .args .f) (a .args .s) (a .args .cycles .0) (a .args .instructions .0) (a .pre .1 .0) (a .pre .1 .1 .1 .0) (r .room) (r .wide) (e .since .result) (e .since .ensures) (d .add .last .0) (d .add .ensures) (u .put-row .last .0) (u .put-row .ensures) (c .spent .result) (c .spent .ensures)
 
 pub spend-spec : {M : Type 1} → statement M
 spend-spec =
     tie.close
     (tie.spec
     since-requires
+    mul-add
     add-add
     add-requires
     add-put-row

@@ -13,7 +13,7 @@ take-four-requires : tie.Need-take-four-requires
 take-four-requires c κs =
     let i = c .before in
     let a = i .before .before in
-    (fewer (a .args .from + 4) (i .if1 .taken) (a .pre .0), λ k l. a .pre .1 .0 k (omega arith))
+    (fewer (a .args .from + 8) (i .if1 .taken) (a .pre .0), λ k l. a .pre .1 .0 k (omega arith))
 
 same-length : tie.Need-same-length
 same-length c = search needs
@@ -22,7 +22,7 @@ returns : tie.Need-returns
 returns c =
     let r = c .before .before in
     let a = r .before .before .before .before in
-    taken-same (a .args .w) (a .args .from + 4) (λ i f s w. (s, s)) (λ i f s w. (w, omega arith)) (r .take-four .ensures)
+    taken-same (a .args .w) (a .args .from + 8) (λ i f s w. (s, s)) (λ i f s w. (w, omega arith)) (r .take-four .ensures)
 
 take-rows-requires : tie.Need-take-rows-requires
 take-rows-requires c κs = search needs
@@ -34,7 +34,7 @@ returns-2 : tie.Need-returns-2
 returns-2 c =
     let r = c .before .before in
     let a = r .before .before .before .before in
-    taken-same (a .args .w) (a .args .from + 4) (λ i f s w. (w, w)) (λ i f s w. (omega arith, w)) (r .take-rows .ensures)
+    taken-same (a .args .w) (a .args .from + 8) (λ i f s w. (w, w)) (λ i f s w. (omega arith, w)) (r .take-rows .ensures)
 
 pub take-next-spec : {M : Type 1} → statement M
 take-next-spec =

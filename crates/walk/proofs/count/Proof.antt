@@ -5,29 +5,45 @@ use Rattle.walk.proofs.Rows.{grown-one}
 use Rattle.walk.proofs.count.Statement.{statement}
 use Rattle.walk.proofs.count.Tie as tie
 
--- from each place that has a name to the one before it
-abbrev start : tie.After-add → tie.Start
-start c = c .before .before .before
+mul-i : tie.Need-mul-i
+mul-i c = search needs
 
-abbrev added : tie.After-slice-known2 → tie.After-add
-added c = c .before .before
+add-i : tie.Need-add-i
+add-i c = search needs
 
-mul-add : tie.Need-mul-add
-mul-add c = search needs
+mul-rows : tie.Need-mul-rows
+mul-rows c = search needs
 
-add-add : tie.Need-add-add
-add-add c = search needs
+slice-read-rows : tie.Need-slice-read-rows
+slice-read-rows c = search needs
 
-add-requires : tie.Need-add-requires
-add-requires c κs = search needs
+add-rows : tie.Need-add-rows
+add-rows c = search needs
+
+mul-rows-2 : tie.Need-mul-rows-2
+mul-rows-2 c = search needs
+
+slice-write-rows : tie.Need-slice-write-rows
+slice-write-rows c = search needs
 
 same-length : tie.Need-same-length
 same-length c = search needs
 
 returns : tie.Need-returns
 returns c =
-    let a = start (added c) .args in
-    rw (added c .add .ensures) (grown-one (a .rows .now) (slot (a .s) Column.calls) 1)
+    let a = c .before .args in
+    grown-one (a .rows .now) (slot (a .s) Column.calls) 1
 
 pub count-spec : {M : Type 1} → statement M
-count-spec = tie.close (tie.spec mul-add add-add add-requires same-length returns)
+count-spec =
+    tie.close
+    (tie.spec
+    mul-i
+    add-i
+    mul-rows
+    slice-read-rows
+    add-rows
+    mul-rows-2
+    slice-write-rows
+    same-length
+    returns)

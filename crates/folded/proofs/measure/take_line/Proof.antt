@@ -2,7 +2,7 @@
 use borrow.Author.Needs.{needs}
 use native.Mathlib.Omega.{arith}
 use Rattle.digits.proofs.Figures.{decimal-length, decimal-few}
-use Rattle.folded.proofs.Measuring.{some-open, within, top, cost-left, return-left, sync-left, site-left, made-known, made-room, made-left}
+use Rattle.folded.proofs.Measuring.{some-open, within, top, cost-left, return-left, passed-left, site-left, made-known, made-room, made-left}
 use Rattle.folded.proofs.measure.take_line.Statement.{statement}
 use Rattle.folded.proofs.measure.take_line.Tie as tie
 
@@ -50,7 +50,7 @@ returns-2 : tie.Need-returns-2
 returns-2 c = λ q. return-left q (c .before .before .kind-at .result) (c .before .before .kind-at .ensures) (c .if2 .taken)
 
 returns-3 : tie.Need-returns-3
-returns-3 c = λ q. sync-left q (c .before .before .before .kind-at .result) (c .before .before .before .kind-at .ensures) (c .if3 .taken)
+returns-3 c = λ q. passed-left q (c .before .before .before .kind-at .result) (c .before .before .before .kind-at .ensures) (c .before .before .if1 .left) (c .before .if2 .left) (c .if3 .taken)
 
 returns-4 : tie.Need-returns-4
 returns-4 c = λ q. site-left q (c .before .before .before .before .kind-at .result) (c .before .before .before .before .kind-at .ensures) (c .if4 .taken)
@@ -74,13 +74,13 @@ minus-requires : tie.Need-minus-requires
 minus-requires c κs = search needs
 
 without-requires : tie.Need-without-requires
-without-requires c κs = made-known (c .before .before .before .before .before .before .before .before .before .before .before .before .before .before .pre) (c .before .before .before .before .before .before .before .kind-at .result) (c .before .before .before .before .before .before .before .kind-at .ensures) (c .before .before .before .before .before .before .if1 .left) (c .before .before .before .before .before .if2 .left) (c .before .before .before .before .if3 .left) (c .before .before .before .if4 .left) (c .before .before .site-at .result) (c .before .before .site-at .ensures)
+without-requires c κs = made-known (c .before .before .before .before .before .before .before .before .before .before .before .before .before .before .pre) (c .before .before .before .before .before .before .before .kind-at .result) (c .before .before .before .before .before .before .before .kind-at .ensures) (c .before .before .before .before .if3 .left) (c .before .before .before .if4 .left) (c .before .before .site-at .result) (c .before .before .site-at .ensures)
 
 mul-t : tie.Need-mul-t
 mul-t c = search needs
 
 slice-write-t : tie.Need-slice-write-t
-slice-write-t c = made-room (c .before .before .before .before .before .before .before .before .before .before .before .before .before .before .before .pre) (c .before .before .before .before .before .before .before .before .kind-at .result) (c .before .before .before .before .before .before .before .before .kind-at .ensures) (c .before .before .before .before .before .before .before .if1 .left) (c .before .before .before .before .before .before .if2 .left) (c .before .before .before .before .before .if3 .left) (c .before .before .before .before .if4 .left) (c .before .before .before .site-at .result) (c .before .before .before .site-at .ensures)
+slice-write-t c = made-room (c .before .before .before .before .before .before .before .before .before .before .before .before .before .before .before .pre) (c .before .before .before .before .before .before .before .before .kind-at .result) (c .before .before .before .before .before .before .before .before .kind-at .ensures) (c .before .before .before .before .before .if3 .left) (c .before .before .before .before .if4 .left) (c .before .before .before .site-at .result) (c .before .before .before .site-at .ensures)
 
 add-t26 : tie.Need-add-t26
 add-t26 c = search needs
@@ -89,7 +89,7 @@ same-length : tie.Need-same-length
 same-length c = search needs
 
 returns-5 : tie.Need-returns-5
-returns-5 c = λ q. made-left q (c .before .before .before .before .before .before .before .before .kind-at .result) (c .before .before .before .before .before .before .before .before .kind-at .ensures) (c .before .before .before .before .before .before .before .if1 .left) (c .before .before .before .before .before .before .if2 .left) (c .before .before .before .before .before .if3 .left) (c .before .before .before .before .if4 .left) (c .before .before .before .site-at .result) (c .before .before .before .site-at .ensures) (c .without .result) (c .before .minus .result) (c .before .minus .ensures) (c .without .ensures)
+returns-5 c = λ q. made-left q (c .before .before .before .before .before .before .before .before .kind-at .result) (c .before .before .before .before .before .before .before .before .kind-at .ensures) (c .before .before .before .before .before .if3 .left) (c .before .before .before .before .if4 .left) (c .before .before .before .site-at .result) (c .before .before .before .site-at .ensures) (c .without .result) (c .before .minus .result) (c .before .minus .ensures) (c .without .ensures)
 
 pub take-line-spec : {M : Type 1} → statement M
 take-line-spec =

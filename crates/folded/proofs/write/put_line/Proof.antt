@@ -1,7 +1,7 @@
 -- `folded::write::put_line` meets its contract, kind by kind. Assumes nothing.
 use borrow.Author.Needs.{needs}
 use native.Mathlib.Omega.{arith}
-use Rattle.folded.proofs.Writing.{some-open, within, stack-asked, cost-fits, cost-from, cost-left, close-asked, return-left, sync-left, site-left, made-room, made-left}
+use Rattle.folded.proofs.Writing.{some-open, within, stack-asked, cost-fits, cost-from, cost-left, close-asked, return-left, passed-left, site-left, made-room, made-left}
 use Rattle.folded.proofs.write.put_line.Statement.{statement}
 use Rattle.folded.proofs.write.put_line.Tie as tie
 
@@ -54,7 +54,7 @@ returns-2 : tie.Need-returns-2
 returns-2 c = λ q. return-left q (c .before .before .before .before .kind-at .result) (c .before .before .before .before .kind-at .ensures) (c .before .before .if2 .taken) (c .close .result) (c .close .ensures)
 
 returns-3 : tie.Need-returns-3
-returns-3 c = λ q. sync-left q (c .before .before .before .kind-at .result) (c .before .before .before .kind-at .ensures) (c .if3 .taken)
+returns-3 c = λ q. passed-left q (c .before .before .before .kind-at .result) (c .before .before .before .kind-at .ensures) (c .before .before .if1 .left) (c .before .if2 .left) (c .if3 .taken)
 
 returns-4 : tie.Need-returns-4
 returns-4 c = λ q. site-left q (c .before .before .before .before .kind-at .result) (c .before .before .before .before .kind-at .ensures) (c .if4 .taken)
@@ -69,7 +69,7 @@ mul-t : tie.Need-mul-t
 mul-t c = search needs
 
 slice-write-t : tie.Need-slice-write-t
-slice-write-t c = made-room (c .before .before .before .before .before .before .before .before .before .before .before .before .before .pre) (c .before .before .before .before .before .kind-at .result) (c .before .before .before .before .before .kind-at .ensures) (c .before .before .before .before .if1 .left) (c .before .before .before .if2 .left) (c .before .before .if3 .left) (c .before .if4 .left) (c .site-at .result) (c .site-at .ensures)
+slice-write-t c = made-room (c .before .before .before .before .before .before .before .before .before .before .before .before .before .pre) (c .before .before .before .before .before .kind-at .result) (c .before .before .before .before .before .kind-at .ensures) (c .before .before .if3 .left) (c .before .if4 .left) (c .site-at .result) (c .site-at .ensures)
 
 add-t33 : tie.Need-add-t33
 add-t33 c = search needs
@@ -78,7 +78,7 @@ same-length-3 : tie.Need-same-length-3
 same-length-3 c = search needs
 
 returns-5 : tie.Need-returns-5
-returns-5 c = λ q. made-left q (c .before .before .before .before .before .kind-at .result) (c .before .before .before .before .before .kind-at .ensures) (c .before .before .before .before .if1 .left) (c .before .before .before .if2 .left) (c .before .before .if3 .left) (c .before .if4 .left) (c .site-at .result) (c .site-at .ensures)
+returns-5 c = λ q. made-left q (c .before .before .before .before .before .kind-at .result) (c .before .before .before .before .before .kind-at .ensures) (c .before .before .if3 .left) (c .before .if4 .left) (c .site-at .result) (c .site-at .ensures)
 
 pub put-line-spec : {M : Type 1} → statement M
 put-line-spec =

@@ -3,23 +3,23 @@ use borrow.Author.Needs.{needs}
 use Rattle.walk.proofs.Open.joined.Statement.{statement}
 use Rattle.walk.proofs.Open.joined.Tie as tie
 
-add-t4 : tie.Need-add-t4
-add-t4 c = search needs
-
-add-t5 : tie.Need-add-t5
-add-t5 c = search needs
-
-returns : tie.Need-returns
-returns c = simp (c .before .before .if1 .taken)
-
 add-t6 : tie.Need-add-t6
 add-t6 c = search needs
 
-add-t7 : tie.Need-add-t7
-add-t7 c = search needs
+plus-requires : tie.Need-plus-requires
+plus-requires c κs = search needs
+
+returns : tie.Need-returns
+returns c = rw (c .plus .ensures, c .before .before .if1 .taken)
+
+add-t10 : tie.Need-add-t10
+add-t10 c = search needs
+
+plus-requires-2 : tie.Need-plus-requires-2
+plus-requires-2 c κs = search needs
 
 returns-2 : tie.Need-returns-2
-returns-2 c = simp (c .before .before .if1 .left)
+returns-2 c = rw (c .plus2 .ensures, c .before .before .if1 .left)
 
 pub joined-spec : {M : Type 1} → statement M
-joined-spec = tie.close (tie.spec add-t4 add-t5 returns add-t6 add-t7 returns-2)
+joined-spec = tie.close (tie.spec add-t6 plus-requires returns add-t10 plus-requires-2 returns-2)

@@ -3,20 +3,17 @@ use borrow.Author.Needs.{needs}
 use Rattle.walk.proofs.Open.spawned.Statement.{statement}
 use Rattle.walk.proofs.Open.spawned.Tie as tie
 
-add-t5 : tie.Need-add-t5
-add-t5 c = search needs
+plus-requires : tie.Need-plus-requires
+plus-requires c κs = search needs
 
-add-t6 : tie.Need-add-t6
-add-t6 c = search needs
+plus-requires-2 : tie.Need-plus-requires-2
+plus-requires-2 c κs = search needs
 
 returns : tie.Need-returns
-returns c = simp (c .before .before .before .if1 .taken)
-
-add-t7 : tie.Need-add-t7
-add-t7 c = search needs
+returns c = rw (c .before .before .plus .ensures, c .plus2 .ensures, c .before .if1 .taken)
 
 returns-2 : tie.Need-returns-2
-returns-2 c = simp (c .before .before .if1 .left)
+returns-2 c = rw (c .before .plus .ensures, c .if1 .left)
 
 pub spawned-spec : {M : Type 1} → statement M
-spawned-spec = tie.close (tie.spec add-t5 add-t6 returns add-t7 returns-2)
+spawned-spec = tie.close (tie.spec plus-requires plus-requires-2 returns returns-2)

@@ -1,11 +1,11 @@
--- `line::cost` meets its contract: what is around, no site, and a value of digits that are not all 0.
+-- `line::valued` meets its contract: what is around, no site, and a value of digits that are not all 0.
 use borrow.Author.Needs.{needs}
 use mathlib.Core.Bool.{not, _&&_}
 use mathlib.Core.Path.{ap, ap₂}
-use Rattle.line.proofs.cost.Statement.{statement}
-use Rattle.line.proofs.cost.Tie as tie
-use Rattle.line.proofs.cost.Reads as reads
-use Rattle.line.proofs.cost.Lts as lts
+use Rattle.line.proofs.valued.Statement.{statement}
+use Rattle.line.proofs.valued.Tie as tie
+use Rattle.line.proofs.valued.Reads as reads
+use Rattle.line.proofs.valued.Lts as lts
 use Rattle.line.proofs.eight_digits.Reads as eight-digits-reads
 use Rattle.line.proofs.eight_zeros.Reads as eight-zeros-reads
 use Rattle.line.proofs.four_zeros.Reads as four-zeros-reads
@@ -56,8 +56,8 @@ returns c =
     (ap₂ _&&_ (ap₂ _&&_ (c .around .ensures) (c .before .before .before .before .before .four-zeros .ensures)) (c .before .eight-digits .ensures))
     (ap not (c .before .before .before .eight-zeros .ensures))
 
-pub cost-spec : {M : Type 1} → statement M
-cost-spec =
+pub valued-spec : {M : Type 1} → statement M
+valued-spec =
     tie.close
     (tie.spec
     sub-four-zeros
