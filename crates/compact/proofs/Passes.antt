@@ -33,9 +33,10 @@ use Rattle.walk.specs.Weight.{instructionsAt}
 use Rattle.walk.proofs.Room.{line-whole}
 use Rattle.compact.specs.Compact.{carrying, summed}
 use Rattle.compact.specs.Machine.{bit, start, step, stepped, emitted, outs, pairSize, sizeOf, pieces, Fitting, Ready, Room}
-use Rattle.compact.specs.Pass.{carriedAt, steppedAt, Lines}
+use Rattle.compact.specs.Pass.{carriedAt, itemAt, steppedAt, Lines}
 use Rattle.compact.specs.declared.step.State.{State}
 use Rattle.compact.specs.declared.step.Given.{Given}
+use Rattle.compact.specs.declared.step.Item.{Item}
 use Rattle.compact.proofs.Machine.{step-fitting}
 
 -- ── what goes out at a line ──
@@ -225,13 +226,18 @@ cost-carries Return u = refl
 cost-carries (Cost v) u = refl
 cost-carries (Instructions v) u = refl
 
--- the step by what is read of line n
-pub given-is : (s : List ℕ) (n : ℕ) (a : State) (kind v : ℕ) (i : Instructions′) (g : Given) → kind ≡ kindAt s n → v ≡ valueAt s n → i .0 ≡ carriedAt s n kind → g ≡ step kind (cycles v) i a → g ≡ steppedAt s n a
-given-is s n a kind v i g k w c e =
-    e
-    ∙ ap (λ (x : ℕ). step kind (cycles v) (instructions x) a) (c ∙ ap (carriedAt s n) k)
-    ∙ ap (λ (x : ℕ). step x (cycles v) (instructions (carriedAt s n (kindAt s n))) a) k
-    ∙ ap (λ (x : ℕ). step (kindAt s n) (cycles x) (instructions (carriedAt s n (kindAt s n))) a) w
+-- what is read of line n is its item, and the step by it is that at line n
+pub item-is : (s : List ℕ) (n kind v : ℕ) (i : Instructions′) → kind ≡ kindAt s n → v ≡ valueAt s n → i .0 ≡ carriedAt s n kind → record { kind = kind; cycles = cycles v; instructions = i } ≡ itemAt s n
+item-is s n kind v i k w c =
+    ap (λ (x : ℕ). read kind v x) (c ∙ ap (carriedAt s n) k)
+    ∙ ap (λ (x : ℕ). read x v (carriedAt s n (kindAt s n))) k
+    ∙ ap (λ (x : ℕ). read (kindAt s n) x (carriedAt s n (kindAt s n))) w
+  where
+    read : ℕ → ℕ → ℕ → Item
+    read kind v i = record { kind = kind; cycles = cycles v; instructions = instructions i }
+
+pub given-is : (s : List ℕ) (n : ℕ) (a : State) (i : Item) (g : Given) → i ≡ itemAt s n → g ≡ step (i .kind) (i .cycles) (i .instructions) a → g ≡ steppedAt s n a
+given-is s n a i g e h = h ∙ ap (λ (x : Item). step (x .kind) (x .cycles) (x .instructions) a) e
 
 module _ (s : List ℕ) (n : ℕ) (f : Frame) (reads : readAt s n ≡ Line n f) where
   -- its kind, its value and the line behind it tell the step

@@ -17,10 +17,15 @@ use Rattle.walk.specs.Weight.{instructionsAt}
 use Rattle.compact.specs.Machine.{start, step, outs, Room}
 use Rattle.compact.specs.declared.step.State.{State}
 use Rattle.compact.specs.declared.step.Given.{Given}
+use Rattle.compact.specs.declared.step.Item.{Item}
 
 -- the instructions of line n of the text s, where it is of kind 06
 abbrev pub carriedAt : List ℕ → ℕ → ℕ → ℕ
 carriedAt s n kind = cond (eqb kind 6) (instructionsAt s n) 0
+
+-- what line n of the text s tells the step
+abbrev pub itemAt : List ℕ → ℕ → Item
+itemAt s n = record { kind = kindAt s n; cycles = cycles (valueAt s n); instructions = instructions (carriedAt s n (kindAt s n)) }
 
 -- what goes out at line n of the text s, and what is held back then
 abbrev pub steppedAt : List ℕ → ℕ → State → Given

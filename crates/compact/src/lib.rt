@@ -4,7 +4,7 @@ mod step;
 
 use line::LINE;
 use line::Wrote;
-use step::Given;
+use step::Item;
 use step::State;
 use walk::Cycles;
 use walk::Instructions;
@@ -13,8 +13,8 @@ ghost use Prim.Native.Nat.{_+_, _^_, _<_};
 ghost use lib.Dec.{leb};
 ghost use lib.ListN.{length};
 ghost use Rattle.trace.specs.Written.{textOf};
-ghost use Rattle.compact.specs.Machine.{start, outs, Ready};
-ghost use Rattle.compact.specs.Pass.{carriedAt, steppedAt, Lines, Fits, Leaves, Ends};
+ghost use Rattle.compact.specs.Machine.{start, outs};
+ghost use Rattle.compact.specs.Pass.{carriedAt, itemAt, Lines, Fits, Leaves, Ends};
 ghost use Rattle.compact.specs.Promise.{Compacts};
 
 // The instructions of line n, where it is a cost line; none of any other.
@@ -28,14 +28,20 @@ fn carried(trace: &[u8], n: usize, kind: u8) -> Instructions
     Instructions(0)
 }
 
-// What goes out at line n, and what is held back then.
-fn given(trace: &[u8], n: usize, s: State) -> Given
-    requires { ⌜ (n + 1 < 2 ^ 64) × Ready s ⌝ }
-    ensures { λ r. ⌜ r ≡ steppedAt (now (trace .entry)) n s ⌝ }
+// What line n tells the step. Reading and step stay two functions: each is short enough for the compiler to put it into both
+// passes, which one for both is not.
+fn item(trace: &[u8], n: usize) -> Item
+    requires { ⌜ n + 1 < 2 ^ 64 ⌝ }
+    ensures { λ r. ⌜ r ≡ itemAt (now (trace .entry)) n ⌝ }
 {
     let kind = line::kind_at(trace, n);
-    let v = Cycles(line::value_at(trace, n) as u64);
-    s.step(kind, v, carried(trace, n, kind))
+    let cycles = Cycles(line::value_at(trace, n) as u64);
+    let instructions = carried(trace, n, kind);
+    Item {
+        kind,
+        cycles,
+        instructions,
+    }
 }
 
 // How many lines the result has.
@@ -47,7 +53,7 @@ fn count(trace: &[u8], lines: usize) -> usize
     let mut total = 0;
     let mut n = 0;
     while n < lines {
-        let g = given(trace, n, s);
+        let g = s.step(item(trace, n));
         total += put::size(g);
         s = g.next;
         n += 1;
@@ -64,7 +70,7 @@ fn write(trace: &[u8], lines: usize, out: &mut [u8]) -> usize
     let mut at = 0;
     let mut n = 0;
     while n < lines {
-        let g = given(trace, n, s);
+        let g = s.step(item(trace, n));
         at = put::lines(trace, n, out, at, g);
         s = g.next;
         n += 1;

@@ -17,6 +17,13 @@ pub struct State {
     pub carried: Instructions,
 }
 
+// What a line tells the step: its kind, its value, and its instructions where it is a cost.
+pub struct Item {
+    pub kind: u8,
+    pub cycles: Cycles,
+    pub instructions: Instructions,
+}
+
 // What goes out at a line, in this order: a cost unless it is 0, its instructions unless they are 0, a sync, the line
 // itself. And what is held back then.
 pub struct Given {
@@ -166,16 +173,17 @@ impl State {
         self.add_cost(v, i)
     }
 
-    // A line of any kind, with its value, and with its instructions where it is a cost. A 07 line went with its cost.
-    pub(crate) fn step(self, kind: u8, v: Cycles, i: Instructions) -> Given
+    // A line of any kind. A 07 line went with its cost.
+    pub(crate) fn step(self, item: Item) -> Given
         requires { ⌜ Ready self ⌝ }
-        ensures { λ r. ⌜ r ≡ step kind v i self ⌝ }
+        ensures { λ r. ⌜ r ≡ step (item .kind) (item .cycles) (item .instructions) self ⌝ }
     {
+        let kind = item.kind;
         if kind == 7 {
             return self.keep();
         }
         if kind == 6 {
-            return self.spend(v, i);
+            return self.spend(item.cycles, item.instructions);
         }
         if kind == 5 {
             return self.leave();
