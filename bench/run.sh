@@ -1,7 +1,7 @@
 #!/bin/sh
 # run.sh [SAMPLES]: times both engines against plain Rust, the Python script and a pass that only sums the bytes, and the
-# writer of folded stacks, the forecasts, the compactor and traces with instructions against plain Rust. The tables are printed, and the CSV file of the
-# engines, the traces and the picture are left in target/bench.
+# writer of folded stacks, the forecasts, the compactor, traces with instructions and why lines are not on the span against plain
+# Rust. The tables are printed, and the CSV file of the engines, the traces and the picture are left in target/bench.
 set -eu
 cd "$(dirname "$0")/.."
 . tools/usage.sh

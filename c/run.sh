@@ -9,7 +9,7 @@ numbers c/run.sh 0 "$@"
 cc=${CC:-cc} out=target/c lib=${NYO_LIB_DIR:-target/native}
 [ -n "${NYO_LIB_DIR:-}" ] || tools/native-lib.sh
 mkdir -p "$out"
-for program in test profile sheet folded forecast compact; do
+for program in test profile sheet folded forecast compact why; do
     "$cc" -std=c99 -O2 -Wall -Wextra -Wpedantic -Werror -Iinclude "c/$program.c" "$lib/libnyolifuwe.a" -o "$out/$program"
 done
 echo '#include "nyolifuwe.h"' | "$cc" -std=c99 -Wall -Wextra -Wpedantic -Werror -Iinclude -fsyntax-only -x c -
@@ -197,5 +197,44 @@ tried 2 '^usage: compact ' '$compact'
 tried 2 '^usage: compact ' '$compact many examples/wordy.trace'
 tried 3 '^compact: no-such-file: ' '$compact 414 no-such-file'
 tried 3 '^compact: standard output: ' '$compact 414 examples/wordy.trace >/dev/full'
+
+# Why lines are not on the span, by the tables of the examples' page: each row of the first with its answer and its marked lines,
+# and lines past the end.
+why=$out/why
+export why
+answered() {
+    case $1 in
+    'tied with line '*) echo "is $1, which the chosen chain has and the first heaviest through it has not" ;;
+    slack*) echo "has slack ${1##* }: the heaviest chain through it weighs that much less than the span" ;;
+    *) echo "is $1" ;;
+    esac
+}
+marked() { for n in $2; do printf '%5d ' "$n" && sed -n "$((n + 1))p" "$1"; done; }
+trace=examples/why.trace
+sed -En '/^## Why a line/,$s/^\| ([0-9]+) \| .* \| ([^|]*) \| ([0-9 ]+|none) \|$/\1:\2:\3/p' examples/README.md >"$out/asked"
+if [ "$(wc -l <"$out/asked")" != 8 ]; then
+    echo "examples/README.md: not eight lines of $trace that are asked"
+    exit 1
+fi
+while IFS=: read -r line answer lines; do
+    { echo "line $line $(answered "$answer")" && marked "$trace" "${lines#none}"; } >"$wanted"
+    tried 0 '' "\$why $line $trace"
+done <"$out/asked"
+tried 0 '' "\$why 20 <$trace"
+echo 'line 10 is not a cost line' >"$wanted"
+tried 0 '' "\$why 10 $trace"
+echo 'line 3 is not a cost line' >"$wanted"
+tried 0 '' '$why 3 examples/instructions.trace'
+echo ff1700000016 >"$wanted"
+tried 1 '^why: refusal 23, line 22$' "\$why 22 $trace"
+echo ff17ffffffff >"$wanted"
+tried 1 '^why: refusal 23, line 4294967295$' "\$why 4294967295 $trace"
+echo ff0e00000004 >"$wanted"
+tried 1 '^why: refusal 14, line 4$' '$why 99 examples/refusal-14.trace'
+: >"$wanted"
+for words in '' many -1 4294967296 '6 one two'; do tried 2 '^usage: why ' "\$why $words"; done
+tried 3 '^why: no-such-file: ' '$why 6 no-such-file'
+tried 3 '^why: standard output: ' "\$why 6 $trace >/dev/full"
+tried 3 '^why: standard output: ' "\$why 22 $trace >/dev/full"
 echo "the C examples: $passed passed, 0 failed"
 "$out/test"

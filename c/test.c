@@ -625,6 +625,78 @@ static void compactions_are_refused(void) {
     CHECK(compact(case_i, len, 4, 3, 0, 1) == 21 && nothing_written());
 }
 
+/* Why a line is not on the span, with limits 4 and 3 and so many numbers less lent than needed. */
+static uint64_t why(const char *trace, size_t len, uint64_t depth, uint64_t sites, uint32_t line, Short less) {
+    size_t s = NYO_MARKS_SCRATCH(depth) - less.scratch, a = NYO_WHY - less.answer, m = len / NYO_LINE_CHARS - less.marks;
+    uint64_t *to_scratch = lend_numbers(&scratch, s), *to_answer = lend_numbers(&answer, a);
+    uint8_t *to_marks = lend_chars(&marks, m);
+    return nyo_why((const uint8_t *)trace, len, depth, sites, line, to_scratch, s, to_marks, m, to_answer, a);
+}
+
+/* The answer for a line, and the lines that are marked, each as one character: 1 or 0. */
+static int says(const char *trace, uint32_t line, uint64_t which, uint64_t number, const char *marked_lines) {
+    size_t lines = strlen(trace) / NYO_LINE_CHARS;
+    const uint64_t expected[] = {which, number};
+    uint8_t bytes[64] = {0};
+    for (size_t n = 0; n < lines && n < sizeof bytes; n++) bytes[n] = marked_lines[n] == '1';
+    int given = why(trace, strlen(trace), 4, 3, line, (Short){0, 0, 0, 0}) == 0 && strlen(marked_lines) == lines;
+    return given && numbers_are(&answer, expected, NYO_WHY) && chars_are(&marks, bytes, lines) &&
+           numbers_are(&scratch, zeros, scratch.len);
+}
+
+static int nothing_said(void) {
+    return numbers_unchanged(&scratch) && numbers_unchanged(&answer) && chars_unchanged(&marks);
+}
+
+/* Case G: 1, spawn 1 {10}, 2, spawn 1 {8}, 1. The chains 1, 10 and 1, 2, 8 weigh 11, and the last 1 is beside both. */
+static const char case_g[] = SITE_1 SITE_2 COST("00000001") SPAWN_1 COST("0000000a") RETURN COST("00000002") SPAWN_1
+    COST("00000008") RETURN COST("00000001") RETURN;
+
+static void lines_are_explained(void) {
+    CHECK(NYO_WHY == 2 && NYO_NOT_COST == 0 && NYO_ON_CHAIN == 1 && NYO_SLACK == 2 && NYO_TIED == 3);
+    CHECK(says(case_g, 0, NYO_NOT_COST, 0, "000000000000"));
+    CHECK(says(case_g, 2, NYO_ON_CHAIN, 0, "001010000000"));
+    CHECK(says(case_g, 3, NYO_NOT_COST, 0, "000000000000"));
+    CHECK(says(case_g, 4, NYO_ON_CHAIN, 0, "001010000000"));
+    CHECK(says(case_g, 5, NYO_NOT_COST, 0, "000000000000"));
+    CHECK(says(case_g, 6, NYO_TIED, 4, "001000101000"));
+    CHECK(says(case_g, 8, NYO_TIED, 4, "001000101000"));
+    CHECK(says(case_g, 10, NYO_SLACK, 7, "001000100010"));
+    CHECK(says(case_g, 11, NYO_NOT_COST, 0, "000000000000"));
+    CHECK(says(case_i, 4, NYO_ON_CHAIN, 0, "0000100010"));
+    CHECK(says(case_i, 6, NYO_SLACK, 6, "0000001010"));
+    CHECK(says(carried, 3, NYO_ON_CHAIN, 0, "000100000"));
+    CHECK(says(carried, 4, NYO_NOT_COST, 0, "000000000"));
+    CHECK(says(carried, 6, NYO_TIED, 3, "000000100"));
+    CHECK(says(carried, 7, NYO_NOT_COST, 0, "000000000"));
+    CHECK(says(on_the_way, 3, NYO_NOT_COST, 0, "000000000000"));
+    CHECK(says(on_the_way, 8, NYO_SLACK, 3, "100000001000"));
+    CHECK(says(SITE_1 SPAWN_1 MOST_COST MOST_COST RETURN COST("00000001") RETURN, 5, NYO_SLACK, UINT64_C(8589934589), "0000010"));
+    CHECK(says(RETURN, 0, NYO_NOT_COST, 0, "0"));
+    CHECK(says(COST("00000005") RETURN, 0, NYO_ON_CHAIN, 0, "10"));
+}
+
+static void questions_are_refused(void) {
+    const Short enough = {0, 0, 0, 0};
+    size_t len = sizeof case_g - 1;
+    CHECK(NYO_PAST_END == 23);
+    CHECK(why(case_g, len, 4, 3, 12, enough) == 23 + 256 * 12 && nothing_said());
+    CHECK(why(case_g, len, 4, 3, 13, enough) == 23 + 256 * 13 && nothing_said());
+    CHECK(why(case_g, len, 4, 3, UINT32_MAX, enough) == 23 + 256 * (uint64_t)UINT32_MAX && nothing_said());
+    CHECK(why(case_g, len, 0, 3, 12, enough) == 1 && nothing_said());
+    CHECK(why(case_g, len, 4, 256, 12, enough) == 1 && nothing_said());
+    CHECK(why(case_g, len - 1, 4, 3, 12, (Short){1, 0, 0, 0}) == 2 && nothing_said());
+    CHECK(why(case_g, len, 4, 3, 6, (Short){1, 0, 0, 0}) == 4 && nothing_said());
+    CHECK(why(case_g, len, 4, 3, 6, (Short){0, 0, 1, 0}) == 4 && nothing_said());
+    CHECK(why(case_g, len, 4, 3, 6, (Short){0, 0, 0, 1}) == 4 && nothing_said());
+    CHECK(why(case_g, len, 4, 3, 12, (Short){0, 0, 2, 0}) == 4 && nothing_said());
+    CHECK(why(case_g, len, 4, 1, 12, enough) == 9 + 256 * 1 && nothing_said());
+    CHECK(why(case_g, len, 1, 3, 12, enough) == 12 + 256 * 3 && nothing_said());
+    CHECK(why(case_g, len - 23, 4, 3, 99, enough) == 14 + 256 * 11 && nothing_said());
+    CHECK(why(case_g, 0, 4, 3, 0, enough) == 14 && nothing_said());
+    CHECK(why(SYNC CARRY("00000009") RETURN, 69, 4, 3, 99, enough) == 22 + 256 * 1 && nothing_said());
+}
+
 int main(void) {
     lines_are_read();
     lines_are_written();
@@ -644,6 +716,8 @@ int main(void) {
     traces_are_compacted();
     instructions_are_compacted();
     compactions_are_refused();
+    lines_are_explained();
+    questions_are_refused();
     printf("%u passed, %u failed\n", passed, failed);
     return failed != 0;
 }

@@ -99,7 +99,7 @@ enum { MOST_CHARS = 1 << 16 };
 typedef struct {
     uint8_t chars[MOST_CHARS + NYO_LINE_CHARS];
     size_t len;
-    unsigned open, sites;
+    unsigned open, sites, alike;
 } Trace;
 
 static void put_line(Trace *t, const uint64_t *frame) {
@@ -130,11 +130,12 @@ static void put_item(Trace *t, Input *in) {
     uint64_t wide = 0;
     switch (what) {
     case 0:
-        put_line(t, (const uint64_t[]){6, 0, more ? 1 + more % 16 : 0, 0, 0});
+        put_line(t, (const uint64_t[]){6, 0, !more ? 0 : t->alike ? 1 : 1 + more % 16, 0, 0});
         if (more >= 16) put_line(t, (const uint64_t[]){7, 0, next(in), 0, 0});
         break;
     case 1:
-        put_line(t, (const uint64_t[]){6, 0, next_wide(in), 0, 0});
+        wide = next_wide(in);
+        put_line(t, (const uint64_t[]){6, 0, t->alike ? 1 : wide, 0, 0});
         if (more % 2) put_line(t, (const uint64_t[]){7, 0, next_wide(in), 0, 0});
         break;
     case 2:
@@ -155,9 +156,10 @@ static void put_item(Trace *t, Input *in) {
     }
 }
 
+/* A trace that mostly ends with its returns; one in four with all costs alike, so that chains tie. */
 static void put_trace(Trace *t, Input *in) {
-    unsigned finish = next(in) % 4;
-    t->len = 0, t->open = 1, t->sites = 0;
+    unsigned how = next(in), finish = how % 4;
+    t->len = 0, t->open = 1, t->sites = 0, t->alike = how / 4 % 4 == 0;
     while (in->at < in->end && t->len < MOST_CHARS) put_item(t, in);
     for (; finish && t->open > 0; t->open--) put_line(t, (const uint64_t[]){5, 0, 0, 0, 0});
 }
@@ -733,8 +735,92 @@ static void compact(const Room *trace, uint64_t depth, uint64_t sites, uint64_t 
     says_as_much(out.at, len, depth, sites, answer, rows);
 }
 
-/* Both engines on one trace, its folded stacks, its forecasts, and what is left of it. */
-static void profile(const Room *trace, Input *lists, Input *in) {
+/* The value of a cost line of an accepted trace; 0 for any other line. */
+static uint64_t cost_of(const uint8_t *line) { return field(line, 0, 2) == 6 ? field(line, 6, 8) : 0; }
+
+/* The span of an accepted trace with one cost raised; 0 where its value would not fit. */
+static uint64_t span_raised(const Room *trace, size_t line, uint64_t by, uint64_t depth, uint64_t sites) {
+    static Given raised;
+    static Trace text;
+    Input none = {NULL, NULL};
+    uint64_t value = cost_of(trace->at + line * NYO_LINE_CHARS) + by;
+    if (value > UINT32_MAX) return 0;
+    text.len = line * NYO_LINE_CHARS;
+    put_line(&text, (const uint64_t[]){6, 0, value, 0, 0});
+    text.len = trace->bytes;
+    memcpy(text.chars, trace->at, line * NYO_LINE_CHARS);
+    size_t behind = (line + 1) * NYO_LINE_CHARS;
+    memcpy(text.chars + behind, trace->at + behind, trace->bytes - behind);
+    give(&raised, 0, text.chars, text.len, depth, sites, NULL, &none);
+    MUST(!raised.given);
+    return raised.answer[1];
+}
+
+/* What is said of a line of an accepted trace holds beside its chosen chain and its span: marked is the chain that is told, the
+ * first line that is chosen and not marked is the tied one, and raised past its slack the line lengthens the span. */
+static void explained(const Room *trace, const Given *plain, size_t line, const uint8_t *marks, const uint64_t *answer,
+                      uint64_t depth, uint64_t sites) {
+    size_t lines = trace->bytes / NYO_LINE_CHARS, left = lines;
+    uint64_t weight = 0, cost = cost_of(trace->at + line * NYO_LINE_CHARS), less = answer[0] == NYO_SLACK ? answer[1] : 0;
+    for (size_t n = lines; n-- > 0;) {
+        MUST(marks[n] <= (cost_of(trace->at + n * NYO_LINE_CHARS) > 0));
+        weight += marks[n] * cost_of(trace->at + n * NYO_LINE_CHARS);
+        if (plain->marks[n] && !marks[n]) left = n;
+    }
+    MUST(answer[0] <= NYO_TIED && (answer[0] == NYO_NOT_COST) == (cost == 0) && (answer[0] == NYO_ON_CHAIN) == plain->marks[line]);
+    MUST((answer[0] == NYO_SLACK) <= (answer[1] > 0) && (answer[0] <= NYO_ON_CHAIN) <= (answer[1] == 0));
+    if (!cost) {
+        MUST(weight == 0);
+        return;
+    }
+    MUST(marks[line] == 1 && weight + less == plain->answer[1]);
+    if (answer[0] == NYO_ON_CHAIN) MUST(!memcmp(marks, plain->marks, lines));
+    if (answer[0] == NYO_TIED) MUST(answer[1] == left);
+    for (unsigned more = 0; more < 2; more++) {
+        uint64_t span = less + more ? span_raised(trace, line, less + more, depth, sites) : 0;
+        MUST(!span || span == plain->answer[1] + more);
+    }
+}
+
+/* A cost off the chosen chain of an accepted trace: the first from a line on, and over its end; that line where there is none. */
+static uint32_t off_chain(const Room *trace, const Given *plain, uint32_t from) {
+    uint32_t lines = (uint32_t)(trace->bytes / NYO_LINE_CHARS);
+    for (uint32_t n = 0; n < lines; n++) {
+        uint32_t line = (from + n) % lines;
+        if (!plain->marks[line] && cost_of(trace->at + line * NYO_LINE_CHARS)) return line;
+    }
+    return from;
+}
+
+/* A line that the input names, mostly one of the trace and often off its chosen chain, asked why it is not on the span. */
+static void explain(const Room *trace, uint64_t depth, uint64_t sites, Input *in) {
+    static Given plain;
+    Input none = {NULL, NULL};
+    size_t d = depth > 64 ? 64 : depth, lines = trace->bytes / NYO_LINE_CHARS;
+    unsigned how = next(in);
+    uint32_t named = (uint32_t)next_wide(in), line = how > 240 ? named : named % (uint32_t)(lines + (how > 220) + !lines);
+    give(&plain, 1, trace->at, trace->bytes, depth, sites, NULL, &none);
+    if (!plain.given && how < 180) line = off_chain(trace, &plain, line);
+    Room scratch = lend(&of_scratch, enough(NYO_MARKS_SCRATCH(d), 8, in), in), marks = lend(&of_marks, enough(lines, 1, in), in);
+    Room answer = lend(&of_answer, enough(NYO_WHY, 8, in), in);
+    uint64_t given = nyo_why(trace->at, trace->bytes, depth, sites, line, numbers(&scratch), scratch.bytes / 8, marks.at,
+                             marks.bytes, numbers(&answer), answer.bytes / 8);
+    int roomy = scratch.bytes >= 8 * NYO_MARKS_SCRATCH(d) && marks.bytes >= lines && answer.bytes >= 8 * NYO_WHY;
+    count(7, UINT64_C(1) << (given ? NYO_NUMBER(given) % 32 : 32 + numbers(&answer)[0] % 32));
+    if (NYO_NUMBER(plain.given) >= 1 && NYO_NUMBER(plain.given) <= 3) MUST(given == plain.given);
+    else if (!roomy) MUST(given == 4);
+    else if (plain.given) MUST(given == plain.given);
+    else MUST(given == (line < lines ? 0 : NYO_PAST_END + 256 * (uint64_t)line));
+    if (given) {
+        MUST(kept_from(&scratch, 0) && kept_from(&marks, 0) && kept_from(&answer, 0));
+        return;
+    }
+    MUST(all_zero(&scratch) && kept_from(&scratch, scratch.bytes) && kept_from(&answer, 8 * NYO_WHY) && kept_from(&marks, lines));
+    explained(trace, &plain, line, marks.at, numbers(&answer), depth, sites);
+}
+
+/* Both engines on one trace, its folded stacks, its forecasts, what is left of it, and why a line is not on its span. */
+static void profile(const Room *trace, Input *lists, Input *asked, Input *in) {
     static uint64_t first_rows[NYO_ROWS(NYO_MOST_SITES)];
     unsigned limits = next(in);
     uint64_t depth = limits < 16 ? 64 : limits < 32 ? next(in) : 1 + next(in) % 8, sites = limits % 16 == 0 ? 255 : limits % 16 == 1 ? 2 * next(in) : next(in) % 8;
@@ -768,6 +854,7 @@ static void profile(const Room *trace, Input *lists, Input *in) {
     fold(trace, depth, sites, first, first_answer[2], lists, in);
     for (int marked = 0; marked < 2; marked++) forecast(trace, marked, depth, sites, lists, in);
     compact(trace, depth, sites, first, first_answer, first_rows, in);
+    explain(trace, depth, sites, asked);
     scratch = lend(&of_scratch, enough(NYO_MARKS_SCRATCH(d), 8, in), in), rows = lend(&of_rows, enough(NYO_ROWS(m), 8, in), in);
     answer = lend(&of_answer, enough(NYO_ANSWER, 8, in), in);
     Room marks = lend(&of_marks, enough(lines, 1, in), in);
@@ -802,8 +889,8 @@ int LLVMFuzzerTestOneInput(const uint8_t *data, size_t size) {
     put_trace(&written, &body);
     Room trace = lend(&of_trace, written.len, &head);
     memcpy(trace.at, written.chars, written.len);
-    Input lists = {data, data + size};
-    profile(&trace, &lists, &head);
+    Input lists = {data, data + size}, asked = {data + size / 2, data + size};
+    profile(&trace, &lists, &asked, &head);
     MUST(!memcmp(trace.at, written.chars, written.len));
     read_and_write(trace.at, written.len < NYO_LINE_CHARS || next(&head) > 250 ? written.len : NYO_LINE_CHARS, &head);
     uint64_t number = next(&head), line = (uint64_t)next(&head) << (next(&head) % 48);

@@ -57,13 +57,22 @@ extern "C" {
 #define NYO_LEAST_FACTOR 2
 #define NYO_MOST_FACTOR 1000
 
-/* Numbers of a frame, of a row and of an answer. */
+/* Numbers of a frame, of a row, of an answer and of what nyo_why answers. */
 #define NYO_FRAME 5
 #define NYO_COLUMNS 7
 #define NYO_ANSWER 4
+#define NYO_WHY 2
 
 /* Which number of its row a column is. */
 enum { NYO_CALLS, NYO_WORK, NYO_SPAN, NYO_LOCAL, NYO_ON_SPAN, NYO_ILOCAL, NYO_ION_SPAN };
+
+/* The first number that nyo_why answers. */
+enum {
+    NYO_NOT_COST, /* not a cost line */
+    NYO_ON_CHAIN, /* on the chosen chain */
+    NYO_SLACK,    /* the heaviest chain through the line weighs less than the span, by the second number */
+    NYO_TIED      /* it weighs as much as the span, and the second number is a line of the chosen chain that is not on it */
+};
 
 /* The room that each function needs, in elements. */
 #define NYO_TABLES_SCRATCH(depth, sites) (7 * (size_t)(depth) * ((size_t)(sites) + 3))
@@ -110,7 +119,8 @@ enum {
     NYO_ENTRIES = 19,      /* a list of forecast entries too long, its rows not strictly ascending, or one not declared */
     NYO_FACTOR = 20,       /* a forecast entry's factor outside 2 to 1,000 */
     NYO_COMPACT_ROOM = 21, /* output shorter than the compacted trace */
-    NYO_STRAY = 22         /* a kind 07 line not directly behind a cost line; in a line it comes behind 7 and before 8 */
+    NYO_STRAY = 22,        /* a kind 07 line not directly behind a cost line; in a line it comes behind 7 and before 8 */
+    NYO_PAST_END = 23      /* the asked line is at or past the end; the line is the asked number */
 };
 
 /* Profiles a trace with the table engine.
@@ -247,6 +257,23 @@ uint64_t nyo_folded(const uint8_t *trace, size_t trace_len, uint64_t depth, uint
  * Refusals: those of nyo_tables, with 4 for written too short, then 21 with line 0 for output too short. */
 uint64_t nyo_compact(const uint8_t *trace, size_t trace_len, uint64_t depth, uint64_t sites, uint8_t *out,
                      size_t out_len, uint64_t *written, size_t written_len);
+
+/* Says why a line of a trace is not on the span, or that it is.
+ *   scratch  NYO_MARKS_SCRATCH(depth)           all zero afterwards
+ *   marks    one byte a line                    1 for a line of the chain that is shown, 0 for any other
+ *   answer   NYO_WHY                            one of four, and a number:
+ *     NYO_NOT_COST, 0   the line is no cost line: a 07 line and a site line are none. No line is marked.
+ *     NYO_ON_CHAIN, 0   the line is on the chosen chain, which is marked.
+ *     NYO_SLACK, n      the heaviest chain through the line weighs n less than the span, n at least 1: the line can grow by n
+ *                       before the span does, and every step past that lengthens it.
+ *     NYO_TIED, k       that chain weighs as much as the span and is not the chosen one: whatever the line grows by, the span
+ *                       does. k is the smallest line that is on the chosen chain and not on the chain through the line.
+ * For the last two the marks show the chain through the line: of the heaviest chains with the line on them the one that comes
+ * first.
+ * Refusals: those of nyo_tables, with 4 for scratch, marks or answer too short, then 23 with the asked number where it is at or
+ * past the end of the trace. */
+uint64_t nyo_why(const uint8_t *trace, size_t trace_len, uint64_t depth, uint64_t sites, uint32_t line, uint64_t *scratch,
+                 size_t scratch_len, uint8_t *marks, size_t marks_len, uint64_t *answer, size_t answer_len);
 
 #ifdef __cplusplus
 }

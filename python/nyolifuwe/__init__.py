@@ -12,19 +12,22 @@ from .api import (
     read_line,
     refusal_line,
     report,
+    why,
     write_csv,
     write_line,
 )
 from .errors import LibraryMissing, Refused
-from .model import Frame, Place, Profile, Row
+from .model import Case, Frame, Place, Profile, Row, Why
 
 __all__ = [
+    "Case",
     "Frame",
     "LibraryMissing",
     "Place",
     "Profile",
     "Refused",
     "Row",
+    "Why",
     "compact",
     "folded",
     "forecast",
@@ -33,6 +36,7 @@ __all__ = [
     "read_line",
     "refusal_line",
     "report",
+    "why",
     "write_csv",
     "write_line",
 ]

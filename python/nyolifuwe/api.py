@@ -9,7 +9,7 @@ from typing import Any, Iterator, List, Optional, Sequence, Tuple
 from . import library
 from .errors import Refused
 from .library import COLUMNS, LINE_CHARS, MOST_DEPTH, MOST_SITES, ask, numbers, written
-from .model import INSTRUCTIONS, SITE, Frame, Place, Profile, Row
+from .model import INSTRUCTIONS, SITE, Case, Frame, Place, Profile, Row, Why
 
 FOLDED_ROOM_REFUSAL = 18
 
@@ -58,6 +58,17 @@ def _profile(name: str, trace: bytes, depth: int, sites: int, engine: str, *entr
     work, span, count, lines = answer
     own = _rows(rows, count, [None, *places(trace)])
     return Profile(work, span, count, lines, own, None if marks is None else marks.raw)
+
+
+def why(trace: bytes, line: int, *, depth: int = MOST_DEPTH, sites: int = MOST_SITES) -> Why:
+    """Why a line is not on the span, and the chain through it; ValueError for a number that 32 bits do not hold."""
+    if not 0 <= line <= library.MOST_ASKED:
+        raise ValueError("a line number that 32 bits do not hold")
+    scratch, answer = numbers(library.scratch_room("marks", depth, sites)), numbers(library.WHY_NUMBERS)
+    marks = ctypes.create_string_buffer(len(trace) // LINE_CHARS)
+    ask("nyo_why", trace, depth, sites, line, scratch, marks, answer)
+    case, about = Case(answer[0]), int(answer[1])
+    return Why(case, about if case == Case.SLACK else None, about if case == Case.TIED else None, marks.raw)
 
 
 def _rows(room: ctypes.Array[ctypes.c_uint64], count: int, where: Sequence[Optional[Place]]) -> List[Row]:

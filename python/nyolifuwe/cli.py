@@ -11,12 +11,12 @@ from typing import IO, List, Optional, Sequence
 
 from . import __version__
 from .arguments import Usage
-from .commands import chain, check, compact, csv, diff, folded, forecast, night, page, report, top
+from .commands import chain, check, compact, csv, diff, folded, forecast, night, page, report, top, why
 from .errors import Refused
 from .faults import told
 from .streams import STANDARD_INPUT, OutputFailed, emit, say
 
-COMMANDS: List[ModuleType] = [top, forecast, chain, check, page, night, diff, compact, folded, csv, report]
+COMMANDS: List[ModuleType] = [top, forecast, chain, why, check, page, night, diff, compact, folded, csv, report]
 NAMES = [command.__name__.rpartition(".")[2] for command in COMMANDS]
 DEFAULT = "top"
 
@@ -65,7 +65,8 @@ def mistyped(words: Sequence[str]) -> str:
 def too_many(args: argparse.Namespace, more: Sequence[str]) -> str:
     """A sentence on words that a command does not take."""
     if "trace" in args and not any(word.startswith("-") for word in more):
-        return f"{args.command} takes one trace, and not {' '.join(more)} too; check and night take several"
+        own = "one trace and one line" if "line" in args else "one trace"
+        return f"{args.command} takes {own}, and not {' '.join(more)} too; check and night take several traces"
     return f"unrecognized arguments: {' '.join(more)}"
 
 

@@ -25,6 +25,7 @@ SENTENCES: Dict[int, str] = {
     20: "of a forecast: a factor that is not 2 to 1,000",
     21: "of a compacted trace: the output is shorter than the result",
     22: "a line of kind 07, instructions, that is not directly behind a cost line",
+    23: "of a line that is asked about: its number is at or past the end",
 }
 
 # What to do about each: what the card says, but for limits, lists and sheets, which nyo and Python have their own way with.
@@ -51,6 +52,7 @@ REMEDIES: Dict[int, str] = {
     20: "leave out the entry of a row that is to stay as it is",
     21: "lend more: as many characters as the trace has are always enough (`NYO_COMPACT_CHARS`)",
     22: "the collector writes each 07 line directly behind its cost, one for a cost at most",
+    23: "ask about a line of the trace: they are numbered from 0, so the last is one below their number",
 }
 
 # What the second number of a refusal counts, where that is not lines of the trace.

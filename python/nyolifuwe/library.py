@@ -4,7 +4,7 @@ from __future__ import annotations
 
 import ctypes
 import os
-from ctypes import POINTER, c_char_p, c_size_t, c_uint64
+from ctypes import POINTER, c_char_p, c_size_t, c_uint32, c_uint64
 from functools import lru_cache
 from pathlib import Path
 from typing import Any, Dict, List, Tuple, Union
@@ -14,6 +14,9 @@ from .model import Row
 
 MOST_DEPTH, MOST_SITES, MOST_LINES = 64, 255, 65536
 
+# The largest line number that can be asked about.
+MOST_ASKED = (1 << 32) - 1
+
 # The numbers of a row, in the order in which the library writes them.
 COLUMNS: Tuple[str, ...] = Row._fields[2:]
 
@@ -22,9 +25,10 @@ LINE_CHARS = 23
 ROW_CHARS = 4 + 16 * len(COLUMNS) + 1
 REFUSAL_CHARS = 13
 
-# Numbers of a trace line and of an answer.
+# Numbers of a trace line, of an answer, and of the answer about one line.
 FRAME_NUMBERS = 5
 ANSWER_NUMBERS = 4
+WHY_NUMBERS = 2
 
 FILE_NAME = "libnyolifuwe.so"
 ENGINES = ("marks", "tables")
@@ -41,6 +45,7 @@ TEXT = (c_char_p, c_size_t)
 NUMBERS = (POINTER(c_uint64), c_size_t)
 ENTRIES = (POINTER(Entry), c_size_t)
 NUMBER = (c_uint64,)
+LINE = (c_uint32,)
 TRACE = TEXT + 2 * NUMBER  # with the limits on depth and sites
 TO_TEXT = TEXT + NUMBERS  # the output, and how much of it was written
 
@@ -49,6 +54,7 @@ PARAMETERS: Dict[str, Tuple[Any, ...]] = {
     "nyo_marks": TRACE + NUMBERS + TEXT + 2 * NUMBERS,
     "nyo_forecast_tables": TRACE + ENTRIES + 3 * NUMBERS,
     "nyo_forecast_marks": TRACE + ENTRIES + NUMBERS + TEXT + 2 * NUMBERS,
+    "nyo_why": TRACE + LINE + NUMBERS + TEXT + NUMBERS,
     "nyo_read_line": TEXT + NUMBERS,
     "nyo_write_line": NUMBERS + TO_TEXT,
     "nyo_report": NUMBERS + NUMBER + TO_TEXT,

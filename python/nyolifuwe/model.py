@@ -1,8 +1,9 @@
-"""What the library answers, as Python values: a place, a row, a trace line, a whole profile."""
+"""What the library answers, as Python values: a place, a row, a trace line, a whole profile, why a line is not on the span."""
 
 from __future__ import annotations
 
 from dataclasses import dataclass
+from enum import IntEnum
 from typing import TYPE_CHECKING, List, NamedTuple, Optional
 
 if TYPE_CHECKING:
@@ -73,3 +74,29 @@ class Profile:
         flat = [(row.row, *(row.place or (None,) * len(Place._fields)), *row[2:]) for row in self.rows]
         frame = pandas.DataFrame(flat, columns=["row", *Place._fields, *Row._fields[2:]])
         return frame.astype({name: "Int64" for name in Place._fields}).set_index("row")
+
+
+class Case(IntEnum):
+    """The four answers to why a line is not on the span, numbered as the library numbers them."""
+
+    NOT_COST, ON_CHAIN, SLACK, TIED = range(4)
+
+
+@dataclass(frozen=True)
+class Why:
+    """Why a line is not on the span; slack and tied_line are None where the case is another.
+
+    slack is what the heaviest chain through the line weighs less than the span; tied_line is the smallest line that is on the
+    chosen chain and not on the first of the heaviest through the line. marks has a byte a line, 1 on that first chain, which
+    is the chosen one for a line on it; a line that is no cost has no chain.
+    """
+
+    case: Case
+    slack: Optional[int]
+    tied_line: Optional[int]
+    marks: bytes
+
+    @property
+    def lines(self) -> List[int]:
+        """The marked lines, ascending."""
+        return [line for line, mark in enumerate(self.marks) if mark]

@@ -6,12 +6,12 @@ import importlib.util
 import pickle
 import re
 import unittest
-from ctypes import POINTER, c_char_p, c_size_t, c_uint64, create_string_buffer
+from ctypes import POINTER, c_char_p, c_size_t, c_uint32, c_uint64, create_string_buffer
 from typing import Any, Callable, Dict, List, Tuple
 from unittest import mock
 
 import nyolifuwe
-from nyolifuwe import Frame, LibraryMissing, Place, Refused, Row, api, library
+from nyolifuwe import Case, Frame, LibraryMissing, Place, Refused, Row, api, library
 from nyolifuwe.errors import REMEDIES, SENTENCES
 from nyolifuwe.model import COST
 
@@ -255,6 +255,12 @@ REFUSALS: List[Tuple[int, int, Callable[[], Any]]] = [
     (22, 3, of_profile(events("5, carry 3") + line(1, 1, 1, 1, 1) + event("carry 4") + RETURN)),
     (7, 2, of_profile(event("5") + RETURN + event("carry 3"))),
     (6, 1, of_profile(event("5") + event("carry 0") + RETURN)),
+    (4, 0, lent("nyo_why", CASE_I, 4, 2, 0, NUMBERS(31), create_string_buffer(10), NUMBERS(2))),
+    (4, 0, lent("nyo_why", CASE_I, 4, 2, 0, NUMBERS(32), create_string_buffer(9), NUMBERS(2))),
+    (4, 0, lent("nyo_why", CASE_I, 4, 2, 0, NUMBERS(32), create_string_buffer(10), NUMBERS(1))),
+    (14, 4, lambda: nyolifuwe.why(example("refusal-14.trace"), 4)),
+    (23, 10, lambda: nyolifuwe.why(CASE_I, 10)),
+    (23, 2**32 - 1, lambda: nyolifuwe.why(CASE_I, 2**32 - 1)),
 ]
 
 
@@ -297,7 +303,7 @@ class TheHeader(unittest.TestCase):
 
     def test_every_function_is_declared_as_there(self) -> None:
         types = {"uint8_t *": c_char_p, "uint64_t *": POINTER(c_uint64), "nyo_entry *": POINTER(library.Entry)}
-        types.update({"size_t ": c_size_t, "uint64_t ": c_uint64})
+        types.update({"size_t ": c_size_t, "uint64_t ": c_uint64, "uint32_t ": c_uint32})
         found = {}
         for name, parameters in re.findall(r"^uint64_t (nyo_\w+)\((.*?)\);", HEADER, re.M | re.S):
             kinds = (re.sub(r"^const |\w+$", "", " ".join(one.split())) for one in parameters.split(","))
@@ -315,8 +321,13 @@ class TheHeader(unittest.TestCase):
             "COLUMNS": len(library.COLUMNS),
             "FRAME": library.FRAME_NUMBERS,
             "ANSWER": library.ANSWER_NUMBERS,
+            "WHY": library.WHY_NUMBERS,
         }
         self.assertEqual(own, {name: defined[name] for name in own})
+
+    def test_the_cases_are_those_of_the_header(self) -> None:
+        (cases,) = re.findall(r"^enum \{\n((?: +NYO_\w+,? +/\*.*\n)+)\};", HEADER, re.M)
+        self.assertEqual(re.findall(r"^ +NYO_(\w+)", cases, re.M), [case.name for case in Case])
 
     def test_a_library_of_other_columns(self) -> None:
         library.loaded.cache_clear()

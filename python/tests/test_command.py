@@ -26,6 +26,7 @@ ON_ONE_TRACE = [
     "forecast examples/case-i.trace 2=2",
     "forecast --sweep examples/case-i.trace",
     "chain examples/case-i.trace",
+    "why examples/case-i.trace 6",
     "compact examples/case-i.trace",
     "folded examples/case-i.trace",
     "csv examples/case-i.trace",
@@ -116,7 +117,7 @@ class Usage(unittest.TestCase):
     """Words that are wrong, and help."""
 
     def test_wrong_words(self) -> None:
-        for words in ("", "top", "chain", "check", "report a b", "a b", "--nothing", "top a --names"):
+        for words in ("", "top", "chain", "why a", "check", "report a b", "a b", "--nothing", "top a --names"):
             found = nyo(*words.split())
             self.assertEqual(found[:2], (USAGE, ""), words)
             self.assertTrue(found.err.startswith("usage: nyo"), words)
@@ -128,8 +129,9 @@ class Usage(unittest.TestCase):
         for words, says in (
             ("chian examples/case-i.trace", "chian: no command and no file of that name; did you mean chain?"),
             ("tops", "tops: no command and no file of that name; did you mean top?"),
-            ("one two", "top takes one trace, and not two too; check and night take several"),
-            ("chain one two", "chain takes one trace, and not two too; check and night take several"),
+            ("one two", "top takes one trace, and not two too; check and night take several traces"),
+            ("chain one two", "chain takes one trace, and not two too; check and night take several traces"),
+            ("why one 2 3", "why takes one trace and one line, and not 3 too; check and night take several traces"),
             ("chain one --two", "unrecognized arguments: --two"),
         ):
             found = nyo(*words.split())

@@ -1,7 +1,9 @@
 //! Timings: the proved engines, the plain one, the script and a pass that only sums the bytes, on the same traces in one run;
 //! the proved writer of folded stacks, the proved forecasts and the proved compactor beside plain ones; sites declared on the
-//! way beside sites at the start; and traces with instructions behind every cost.
+//! way beside sites at the start; traces with instructions behind every cost; and lines that are asked why they are not on the
+//! span.
 
+pub mod asking;
 pub mod carrying;
 pub mod clock;
 pub mod compacting;

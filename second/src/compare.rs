@@ -19,6 +19,7 @@ pub mod shrink;
 pub mod sites;
 pub mod stacks;
 pub mod tell;
+pub mod whys;
 
 use crate::library::Library;
 use case::{Case, Outcome};
@@ -51,6 +52,6 @@ pub fn compare(
 
 /// The laws of what a case asks that a program does not keep.
 pub fn broken(case: &Case, library: &dyn Library) -> Vec<&'static str> {
-    let of = [gain::broken, moves::broken, reports::broken, instructions::broken];
+    let of = [gain::broken, moves::broken, reports::broken, instructions::broken, whys::broken];
     of.map(|broken| broken(case, library)).concat()
 }

@@ -47,6 +47,23 @@ impl Graph {
         [Some(self.next[point]), self.past[point]].into_iter().flatten()
     }
 
+    /// For each line whether it comes before a cost line in series, or that before it, or it is the line itself: whether a path
+    /// goes over both.
+    pub fn in_series_with(&self, line: usize) -> Vec<bool> {
+        let mut met = vec![false; self.next.len() + 1];
+        met[line] = true;
+        for point in line..self.next.len() {
+            if met[point] {
+                self.following(point).for_each(|to| met[to] = true);
+            }
+        }
+        for point in (0..line).rev() {
+            met[point] = self.following(point).any(|to| to <= line && met[to]);
+        }
+        met.truncate(self.next.len());
+        met
+    }
+
     /// For each point the weight of the heaviest path from it to the end.
     fn rest(&self, shape: &Shape) -> Vec<u64> {
         let mut rest = vec![0; shape.lines.len() + 1];

@@ -30,3 +30,4 @@ pub mod sheet;
 #[cfg(nyolifuwe)]
 pub mod sys;
 pub mod trace;
+pub mod why;

@@ -10,12 +10,14 @@ use crate::compact;
 use crate::folded;
 use crate::forecast::{self, Entry};
 use crate::graph;
+use crate::heaviest::PAIRS_LINES;
 use crate::line::{self, CHARS, WIDTHS};
 use crate::refusal::{Ground, Refusal};
 use crate::report;
-use crate::rows::{profile, Profile, COLUMNS};
+use crate::rows::{marks, profile, Profile, COLUMNS};
 use crate::shape::Shape;
 use crate::sheet;
+use crate::why::{self, Why};
 
 /// What both programs can be asked. Slices are lent; an answer is total work, total span, sites and lines, a frame is
 /// kind, site, value, file and column.
@@ -80,6 +82,16 @@ pub trait Library {
     ) -> u64;
     /// The compactor.
     fn compact(&self, trace: &[u8], limits: Limits, out: &mut [u8], written: &mut [u64]) -> u64;
+    /// Why a line is not on the span.
+    fn why(
+        &self,
+        trace: &[u8],
+        limits: Limits,
+        line: u32,
+        scratch: &mut [u64],
+        marks: &mut [u8],
+        answer: &mut [u64],
+    ) -> u64;
 }
 
 /// The second program, with the way in which it looks for chains.
@@ -87,9 +99,6 @@ pub trait Library {
 pub struct Second {
     pub search: fn(&Shape) -> Chains,
 }
-
-/// The most lines for which pairs are searched.
-const PAIRS_LINES: usize = 300;
 
 impl Second {
     /// By pairs of lines where the trace is short enough for it, otherwise by paths.
@@ -114,6 +123,13 @@ impl Second {
     /// those of the trace rewritten so."
     pub fn forecast(&self, trace: &[u8], limits: Limits, entries: &[Entry], lent: &Lent) -> Result<Profile, Refusal> {
         self.profile(&forecast::rewritten(trace, limits, entries, lent)?, limits, lent)
+    }
+
+    /// Why a line of a trace is not on the span, with the marks, or the refusal.
+    pub fn why(&self, trace: &[u8], limits: Limits, line: u32, lent: &why::Lent) -> Result<(Why, Vec<u8>), Refusal> {
+        let shape = why::asked(trace, limits, line, lent)?;
+        let (why, chain) = why::why(&shape, line as usize, self.search);
+        Ok((why, marks(&shape, &chain)))
     }
 }
 
@@ -241,6 +257,23 @@ impl Library for Second {
         code(compact::write(trace, limits, lent).map(|text| {
             put(out, &text);
             written[0] = text.len() as u64;
+        }))
+    }
+
+    fn why(
+        &self,
+        trace: &[u8],
+        limits: Limits,
+        line: u32,
+        scratch: &mut [u64],
+        marks: &mut [u8],
+        answer: &mut [u64],
+    ) -> u64 {
+        let lent = why::Lent { scratch: scratch.len(), marks: marks.len(), answer: answer.len() };
+        code(self.why(trace, limits, line, &lent).map(|(why, marked)| {
+            scratch.fill(0);
+            put(marks, &marked);
+            put(answer, &why.numbers());
         }))
     }
 }

@@ -9,6 +9,7 @@
 mod checks;
 pub mod compact;
 pub mod folded;
+pub mod why;
 
 use crate::check::{before_lines, Lent, Limits};
 use crate::forecast::{Entry, LEAST_FACTOR, MOST_ENTRIES, MOST_FACTOR};

@@ -46,6 +46,8 @@ pub enum Ground {
     CompactRoom = 21,
     /// "a 07 line not directly after a cost"
     Stray = 22,
+    /// "a line number at or past the end"
+    PastEnd = 23,
 }
 
 /// "Refused: a number and a line."

@@ -51,9 +51,10 @@ pub fn profile(shape: &Shape, chains: &Chains) -> Profile {
     Profile { answer, rows: rows(shape, &chains.spans, &marks), marks }
 }
 
-fn marks(shape: &Shape, chosen: &[usize]) -> Vec<u8> {
+/// The marks of a trace where these lines are marked.
+pub fn marks(shape: &Shape, marked: &[usize]) -> Vec<u8> {
     let mut marks = vec![0; shape.lines.len()];
-    chosen.iter().for_each(|&line| marks[line] = 1);
+    marked.iter().for_each(|&line| marks[line] = 1);
     marks
 }
 

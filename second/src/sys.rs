@@ -134,6 +134,19 @@ extern "C" {
         written: *mut u64,
         written_len: usize,
     ) -> u64;
+    fn nyo_why(
+        trace: *const u8,
+        trace_len: usize,
+        depth: u64,
+        sites: u64,
+        line: u32,
+        scratch: *mut u64,
+        scratch_len: usize,
+        marks: *mut u8,
+        marks_len: usize,
+        answer: *mut u64,
+        answer_len: usize,
+    ) -> u64;
 }
 
 /// The proved library.
@@ -316,5 +329,31 @@ impl Library for Proved {
         let (out, written) = (out.as_mut_ptr(), written.as_mut_ptr());
         let (depth, sites) = (limits.depth, limits.sites);
         unsafe { nyo_compact(trace.as_ptr(), trace.len(), depth, sites, out, out_len, written, written_len) }
+    }
+
+    fn why(
+        &self,
+        trace: &[u8],
+        limits: Limits,
+        line: u32,
+        scratch: &mut [u64],
+        marks: &mut [u8],
+        answer: &mut [u64],
+    ) -> u64 {
+        unsafe {
+            nyo_why(
+                trace.as_ptr(),
+                trace.len(),
+                limits.depth,
+                limits.sites,
+                line,
+                scratch.as_mut_ptr(),
+                scratch.len(),
+                marks.as_mut_ptr(),
+                marks.len(),
+                answer.as_mut_ptr(),
+                answer.len(),
+            )
+        }
     }
 }

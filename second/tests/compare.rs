@@ -13,14 +13,15 @@ use second::library::{Library, Second};
 use second::line::{chars, read, Kind, Line, CHARS};
 use second::refusal::{Ground, Refusal};
 use second::report;
-use second::rows::{CALLS, COLUMNS, ILOCAL, LOCAL, WORK};
+use second::rows::{self, CALLS, COLUMNS, ILOCAL, LOCAL, WORK};
 use second::shape::{Invocation, Shape, Start};
 use second::trace::events;
+use second::why::{self, Why};
 use std::cmp::Ordering;
 
-/// The first difference among generated cases.
+/// The first difference among generated cases that do not ask why a line is not on the span.
 fn first_difference(wrong: &dyn Library) -> Difference {
-    first_difference_where(wrong, |_| true)
+    first_difference_where(wrong, |question| !matches!(question, Question::Why { .. }))
 }
 
 /// The first difference among the generated cases that ask such a question.
@@ -103,7 +104,8 @@ fn the_stand_in_with_the_right_rules_is_right() {
         Question::Engines { trace, .. }
         | Question::Forecast { trace, .. }
         | Question::Moved { trace, .. }
-        | Question::Compact { trace, .. } => trace.len() <= 300 * CHARS,
+        | Question::Compact { trace, .. }
+        | Question::Why { trace, .. } => trace.len() <= 300 * CHARS,
         _ => true,
     };
     let cases = (0..2_000).map(|number| generate::case(1, number)).filter(short);
@@ -205,6 +207,7 @@ struct Wrong {
     lists: fn([&[u8]; 2]) -> [Vec<u8>; 2],
     asked: Asked,
     compactor: Compactor,
+    answers: Answers,
 }
 
 /// The report of some rows of so many sites in some room, or the ground of refusal.
@@ -212,6 +215,9 @@ type Report = fn(&[u64], u64, usize) -> Result<String, Ground>;
 
 /// What is left of a trace in some room, or the refusal.
 type Compactor = fn(&[u8], Limits, compact::Lent) -> Result<Vec<u8>, Refusal>;
+
+/// Why a line of an accepted trace is not on the span, with the lines that are marked.
+type Answers = fn(&Shape, usize) -> (Why, Vec<usize>);
 
 impl Default for Wrong {
     fn default() -> Wrong {
@@ -223,6 +229,7 @@ impl Default for Wrong {
             lists: |lists| lists.map(<[u8]>::to_vec),
             asked: |trace, entries| (trace.to_vec(), entries.to_vec()),
             compactor: compact::write,
+            answers: |shape, line| why::why(shape, line, graph::search),
         }
     }
 }
@@ -333,6 +340,28 @@ impl Library for Wrong {
             Ok(text) => {
                 out[..text.len()].copy_from_slice(&text);
                 written[0] = text.len() as u64;
+                0
+            }
+        }
+    }
+
+    fn why(
+        &self,
+        trace: &[u8],
+        limits: Limits,
+        line: u32,
+        scratch: &mut [u64],
+        marks: &mut [u8],
+        answer: &mut [u64],
+    ) -> u64 {
+        let lent = why::Lent { scratch: scratch.len(), marks: marks.len(), answer: answer.len() };
+        match why::asked(trace, limits, line, &lent) {
+            Err(refusal) => refusal.number() + 256 * refusal.line,
+            Ok(shape) => {
+                let (why, marked) = (self.answers)(&shape, line as usize);
+                scratch.fill(0);
+                answer[..2].copy_from_slice(&why.numbers());
+                marks[..shape.lines.len()].copy_from_slice(&rows::marks(&shape, &marked));
                 0
             }
         }
@@ -949,4 +978,104 @@ fn a_sum_of_the_greatest_value_taken_for_one_that_does_not_fit() {
     });
     let costs: Vec<u64> = smallest.split(", ").map(|cost| cost.parse().expect("a cost")).collect();
     assert_eq!(costs.iter().sum::<u64>(), 0xffff_ffff, "{smallest}");
+}
+
+/// The events of the trace and the lines that the first difference in an answer shrank to, and the laws that the stand-in does
+/// not keep there.
+fn smallest_asked(answers: Answers) -> (String, Vec<u32>, Vec<&'static str>) {
+    let wrong = Wrong { answers, ..Wrong::default() };
+    let found = first_difference_where(&wrong, |question| matches!(question, Question::Why { .. }));
+    let Question::Why { trace, lines, .. } = found.case.question else { unreachable!("a line is asked") };
+    (events(&trace).expect("good lines"), lines, found.broken)
+}
+
+/// The right answer with its chain, by paths.
+fn right_answer(shape: &Shape, line: usize) -> (Why, Vec<usize>) {
+    why::why(shape, line, graph::search)
+}
+
+#[test]
+fn telling_a_tied_line_as_one_on_the_chosen_chain() {
+    let (events, ..) = smallest_asked(|shape, line| match right_answer(shape, line) {
+        (Why::Tied(_), _) => (Why::OnChain, graph::search(shape).chosen),
+        right => right,
+    });
+    assert_eq!(events, "spawn 1 {1}, 1");
+}
+
+#[test]
+fn telling_a_tied_line_as_slack_of_nothing() {
+    let (events, _, broken) = smallest_asked(|shape, line| match right_answer(shape, line) {
+        (Why::Tied(_), chain) => (Why::Slack(0), chain),
+        right => right,
+    });
+    assert_eq!((events.as_str(), broken.as_slice()), ("spawn 1 {1}, 1", ["slack is at least 1"].as_slice()));
+}
+
+#[test]
+fn telling_the_first_line_of_the_chosen_chain_as_the_tied_one() {
+    let (events, _, broken) = smallest_asked(|shape, line| match right_answer(shape, line) {
+        (Why::Tied(_), chain) => (Why::Tied(graph::search(shape).chosen[0]), chain),
+        right => right,
+    });
+    assert_eq!(events, "1, spawn 1 {1}, 1");
+    assert_eq!(broken, ["the tied line is the first that is chosen and not marked"]);
+}
+
+#[test]
+fn telling_slack_by_the_line_alone() {
+    let (events, _, broken) = smallest_asked(|shape, line| match right_answer(shape, line) {
+        (Why::Slack(_), chain) => (Why::Slack(graph::search(shape).spans[0] - shape.lines[line].value), chain),
+        right => right,
+    });
+    assert_eq!(events, "spawn 1 {1, 1}, 3");
+    assert!(broken.contains(&"what is marked weighs the span less the slack"), "{broken:?}");
+}
+
+/// The last of the heaviest chains through a line, as those of lines numbered from the end.
+fn last_through(shape: &Shape, line: usize) -> Vec<usize> {
+    chains(&only_in_series(shape, line), Shape::parallel, later).chosen
+}
+
+/// The shape in which the costs that are parallel to a line are none.
+fn only_in_series(shape: &Shape, line: usize) -> Shape {
+    let mut left = shape.clone();
+    for other in shape.cost_lines().into_iter().filter(|&other| shape.parallel(line.min(other), line.max(other))) {
+        left.lines[other].kind = Kind::Site;
+    }
+    left
+}
+
+#[test]
+fn marking_the_last_of_the_heaviest_chains_through_a_line() {
+    let (events, lines, broken) = smallest_asked(|shape, line| match right_answer(shape, line) {
+        (why @ Why::Slack(_), _) if shape.lines.len() <= 60 => (why, last_through(shape, line)),
+        right => right,
+    });
+    // It is as heavy, and a chain: the second program alone tells it apart.
+    assert_eq!((events.as_str(), lines.len(), broken.len()), ("spawn 1 {1, spawn 1 {1}, 1}, 3", 1, 0));
+}
+
+#[test]
+fn taking_a_07_line_for_its_cost() {
+    let (events, ..) = smallest_asked(|shape, line| {
+        let own = if shape.lines[line].kind == Kind::Instructions { line - 1 } else { line };
+        right_answer(shape, own)
+    });
+    assert_eq!(events, "1 with 1");
+}
+
+#[test]
+fn marking_the_chosen_chain_for_every_line() {
+    let (events, ..) = smallest_asked(|shape, line| (right_answer(shape, line).0, graph::search(shape).chosen));
+    assert_eq!(events, "1");
+}
+
+#[test]
+fn leaving_the_marks_empty_where_there_is_slack() {
+    let (events, ..) = smallest_asked(|shape, line| match right_answer(shape, line) {
+        (why @ Why::Slack(_), _) => (why, vec![]),
+        right => right,
+    });
+    assert!(["spawn 1 {1}, 2", "spawn 1 {2}, 1"].contains(&events.as_str()), "{events}");
 }

@@ -2,7 +2,7 @@
 
 use second::check::{self, Lent, Limits};
 use second::compact;
-use second::compare::case::{Case, Question};
+use second::compare::case::{Case, Question, STRIP};
 use second::compare::generate;
 use second::library::Second;
 use second::line::{Kind, CHARS};
@@ -114,6 +114,30 @@ fn every_verdict_on_a_compaction_is_reached() {
         assert!(verdicts.get(&verdict).is_some_and(|&times| times >= 5), "{verdict}: {verdicts:?}");
     }
     assert!([0, 21].iter().all(|verdict| verdicts[verdict] >= 100), "{verdicts:?}");
+}
+
+/// How often each verdict on an asked line is given, and of accepted traces each of the four answers.
+#[test]
+fn every_verdict_on_a_line_and_every_answer_is_reached() {
+    let cases = (0..40_000).map(|number| generate::case(1, number));
+    let (mut verdicts, mut answers, mut every) = (BTreeMap::new(), [0; 4], 0);
+    for case in cases {
+        let Question::Why { trace, lines, .. } = &case.question else { continue };
+        let outcome = case.ask(&Second::by_paths());
+        outcome.codes.iter().for_each(|(_, code)| *verdicts.entry(code % 256).or_default() += 1);
+        let said = outcome.numbers.iter().filter(|room| room.name == "answer");
+        for (room, _) in said.zip(&outcome.codes).filter(|(_, (_, code))| *code == 0) {
+            answers[room.all[STRIP] as usize] += 1;
+        }
+        let whole = trace.len() / CHARS;
+        assert!(whole > 60 || lines.len() > whole, "every line of a short trace is asked");
+        every += u32::from(whole <= 60);
+    }
+    println!("{verdicts:?} {answers:?} {every}");
+    for verdict in [0, 1, 2, 4, 5, 6, 7, 8, 9, 10, 11, 12, 14, 22, 23] {
+        assert!(verdicts.get(&verdict).is_some_and(|&times: &u32| times >= 30), "{verdict}: {verdicts:?}");
+    }
+    assert!(answers.iter().all(|&times| times >= 500) && every >= 2_000, "{answers:?} {every}");
 }
 
 #[test]

@@ -3,12 +3,13 @@
 use second::chain::{self, Chains};
 use second::check::{self, Limits};
 use second::compare::rng::Rng;
-use second::compare::shapes;
+use second::compare::{shapes, whys};
 use second::graph::{self, Graph};
 use second::heaviest::stands_on_some;
 use second::line::Kind;
 use second::rows::{profile, Row, CALLS, ILOCAL, ION_SPAN, LOCAL, ON_SPAN, SPAN, WORK};
 use second::shape::{Invocation, Shape};
+use second::why::{why, Why};
 use std::cmp::Reverse;
 use std::ops::Range;
 
@@ -77,6 +78,67 @@ fn a_line_stands_on_some_heaviest_chain_where_trying_every_set_finds_one() {
         tied += u32::from(heaviest.len() > 1);
     }
     assert!(tried > 1000 && tied > 50, "only {tried} lines, and {tied} traces with more than one heaviest chain");
+}
+
+/// The shapes of generated traces with branches of the same weight that have at most so many cost lines.
+fn some_balanced(seed: u64, count: u64, costs: usize) -> impl Iterator<Item = Shape> {
+    let shape = move |case| {
+        let (trace, limits, _) = whys::balanced(&mut Rng::of_case(seed, case));
+        check::trace(&trace, limits, &limits.for_tables()).ok()
+    };
+    (0..count).filter_map(shape).filter(move |shape| shape.cost_lines().len() <= costs)
+}
+
+/// Why a line is not on the span, and the lines that are marked, by trying every set of cost lines.
+fn why_by_sets(shape: &Shape, line: usize) -> (Why, Vec<usize>) {
+    let all = all_chains(shape, 0..shape.lines.len());
+    let first_of = |chains: Vec<&Vec<usize>>| {
+        chains.into_iter().min_by_key(|lines| (Reverse(weight(shape, lines)), lines.to_vec())).cloned()
+    };
+    let chosen = first_of(all.iter().collect()).expect("the empty chain");
+    let Some(through) = first_of(all.iter().filter(|lines| lines.contains(&line)).collect()) else {
+        return (Why::NotCost, vec![]);
+    };
+    let less = weight(shape, &chosen) - weight(shape, &through);
+    match chosen.iter().find(|other| !through.contains(other)) {
+        _ if chosen.contains(&line) => (Why::OnChain, chosen),
+        Some(&other) if less == 0 => (Why::Tied(other), through),
+        _ => (Why::Slack(less), through),
+    }
+}
+
+#[test]
+fn every_line_is_answered_as_trying_every_set_answers() {
+    let mut times = [0; 4];
+    for shape in some(10, 3000, 8).chain(some_balanced(10, 3000, 8)) {
+        for line in 0..shape.lines.len() {
+            let right = why_by_sets(&shape, line);
+            assert_eq!(why(&shape, line, chain::search), right);
+            assert_eq!(why(&shape, line, graph::search), right);
+            times[right.0.numbers()[0] as usize] += 1;
+        }
+    }
+    assert!(times.iter().all(|&times| times > 200), "{times:?}");
+}
+
+#[test]
+fn in_series_with_a_line_is_a_path_over_both() {
+    for shape in some(11, 1000, 40) {
+        let (graph, costs) = (Graph::new(&shape), shape.cost_lines());
+        for &line in &costs {
+            let found = graph.in_series_with(line);
+            costs.iter().for_each(|&other| assert_eq!(found[other], shape.series(line.min(other), line.max(other))));
+        }
+    }
+}
+
+#[test]
+fn the_two_ways_answer_alike_on_longer_traces() {
+    for shape in some(12, 1000, 60).filter(|shape| shape.lines.len() <= 150) {
+        for line in 0..shape.lines.len() {
+            assert_eq!(why(&shape, line, chain::search), why(&shape, line, graph::search));
+        }
+    }
 }
 
 #[test]

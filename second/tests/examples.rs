@@ -9,6 +9,7 @@ use second::program::{printed, LIMITS, MOST_BYTES};
 use second::report;
 use second::rows::{all_cycles_alone, Row, LOCAL, ON_SPAN, WORK};
 use second::sheet;
+use second::why::Why;
 use std::fs;
 use std::path::PathBuf;
 use std::process::Command;
@@ -203,6 +204,42 @@ fn the_trace_with_instructions_is_on_the_page_and_as_worked_out_by_hand() {
     for name in ["instructions.trace", "instructions-compact.trace"] {
         assert_eq!(compact::write(&file(name), LIMITS, lent), Ok(file("instructions-compact.trace")), "{name}");
     }
+}
+
+/// The lines of an example that are asked on the page: the line, its answer, and the lines that are marked.
+fn asked() -> Vec<(u32, String, Vec<usize>)> {
+    let page = page();
+    let (_, table) = page.split_once("## Why a line is not on the span").expect("a part on lines that are asked");
+    let row = |line: &str| {
+        let cells: Vec<&str> = line.strip_prefix("| ")?.strip_suffix(" |")?.split(" | ").collect();
+        let (line, marked) = (cells.first()?.parse().ok()?, cells.last()?.split(' '));
+        Some((line, cells[cells.len() - 2].to_owned(), marked.filter_map(|line| line.parse().ok()).collect()))
+    };
+    table.lines().filter_map(row).collect()
+}
+
+#[test]
+fn why_lines_are_not_on_the_span_is_on_the_page_and_as_worked_out_by_hand() {
+    let report = example("why.trace");
+    assert_eq!(rows(&report), all_cycles_alone(&[[1, 33, 17, 11, 3], [2, 14, 14, 14, 14], [2, 8, 8, 8, 0]]));
+    assert!(page().contains(&report));
+    let (trace, asked) = (file("why.trace"), asked());
+    let lent = LIMITS.for_why(22);
+    let told = |why| match why {
+        Why::NotCost => "not a cost line".into(),
+        Why::OnChain => "on the chosen chain".into(),
+        Why::Slack(less) => format!("slack 17 - {} = {less}", 17 - less),
+        Why::Tied(line) => format!("tied with line {line}"),
+    };
+    for (line, answer, marked) in &asked {
+        let (why, marks) = Second::new().why(&trace, LIMITS, *line, &lent).expect("accepted");
+        assert_eq!(&told(why), answer, "line {line}");
+        assert_eq!(&(0..22).filter(|&line| marks[line] == 1).collect::<Vec<_>>(), marked, "line {line}");
+    }
+    assert_eq!(asked.iter().map(|(line, ..)| *line).collect::<Vec<_>>(), [2, 3, 4, 6, 8, 12, 18, 20]);
+    let past =
+        |line| Second::new().why(&trace, LIMITS, line, &lent).map_err(|refusal| (refusal.number(), refusal.line));
+    assert_eq!((past(22), past(u32::MAX)), (Err((23, 22)), Err((23, u32::MAX.into()))));
 }
 
 #[test]

@@ -48,7 +48,7 @@ fn which_costs_of_the_twelve_stand_on_some_heaviest_chain() {
 #[test]
 fn the_heaviest_chains_through_the_lines_of_g() {
     let g = shape(&Trace::from_events(2, "1, spawn 1 {10}, 2, spawn 2 {8}, 1").chars);
-    let weights: Vec<u64> = g.cost_lines().iter().map(|&line| through(&g, line, chain::search)).collect();
+    let weights: Vec<u64> = g.cost_lines().iter().map(|&line| through(&g, line, chain::search).weight).collect();
     assert_eq!(weights, [11, 11, 11, 11, 4]);
 }
 

@@ -1,5 +1,5 @@
-//! The plain engine, its forecast, the plain writer of folded stacks and the plain compactor give what the second program
-//! gives.
+//! The plain engine, its forecast, the plain writer of folded stacks, the plain compactor and the plain answer for a line give
+//! what the second program gives.
 
 use second::check::Limits;
 use second::compact;
@@ -31,7 +31,7 @@ fn on_the_fixed_traces() {
 
 #[test]
 fn on_generated_traces() {
-    assert!(alike((0..50_000).map(|number| generate::case(3, number))) > 15_000);
+    assert!(alike((0..50_000).map(|number| generate::case(3, number))) > 12_000);
 }
 
 /// Holds the plain forecast against the second program on the entries among some cases, and counts them.
@@ -121,4 +121,30 @@ fn on_the_fixed_compactions() {
 #[test]
 fn on_generated_compactions() {
     assert!(compacts_alike((0..50_000).map(|number| generate::case(3, number))) > 5_000);
+}
+
+/// Holds the plain answer against the second program on the lines that are asked among some cases, and counts them.
+fn why_alike(cases: impl IntoIterator<Item = Case>) -> usize {
+    let mut count = 0;
+    for case in cases {
+        let Question::Why { trace, limits, lines, .. } = &case.question else { continue };
+        let near = Limits { depth: limits.depth.min(64), sites: limits.sites.min(255) };
+        let lent = near.for_why(trace.len() / 23);
+        for &line in lines {
+            let right = Second::new().why(trace, *limits, line, &lent);
+            assert_eq!(plain::why::why(trace, *limits, line, &lent), right, "line {line} of {case}");
+            count += 1;
+        }
+    }
+    count
+}
+
+#[test]
+fn on_the_fixed_lines() {
+    assert!(why_alike(fixed::cases()) > 3_000);
+}
+
+#[test]
+fn on_generated_lines() {
+    assert!(why_alike((0..50_000).map(|number| generate::case(3, number))) > 40_000);
 }

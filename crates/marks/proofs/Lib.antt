@@ -6,3 +6,4 @@ pub mod Items
 pub mod Columns
 pub mod OnSpan
 pub mod Whole
+pub mod Heavier

@@ -28,7 +28,7 @@ use Rattle.forecast.specs.declared.Listed.{Listed}
 use Rattle.forecast.specs.OfList.{ForecastOf}
 use Rattle.walk.specs.declared.Open.{Open}
 use Rattle.walk.specs.declared.Credit.{Credit}
-use Rattle.walk.specs.Weight.{byFactors}
+use Rattle.walk.specs.Weight.{byAsking}
 use Rattle.walk.specs.Reads.{Reads}
 use Rattle.walk.specs.Gain.{creditOf, ReturnFits, Returned}
 use Rattle.walk.specs.Profiled.{Profiled}
@@ -233,5 +233,5 @@ module _ (s : List ℕ) (D M : ℕ) (x : Lent) where
   unasked l number line e = text-refused marks s D M x l number line (refused-only (verdict s D M (enough marks s D M x)) number line e)
 
 -- with no factor it is the plain profile
-pub plain : {s : List ℕ} {D M : ℕ} {x : Lent} {count lines : ℕ} → Admitted s D M x count lines → (r : Answer) (y : Lent) → Profiled marks (byFactors []) s D M x r y → Promise marks s D M x r y
-plain {s} {D} {M} {x} a r y h = plain-promise marks s D M x (a .frames) (a .is) (byFactors []) weight-plain r y h
+pub plain : {s : List ℕ} {D M : ℕ} {x : Lent} {count lines : ℕ} → Admitted s D M x count lines → (r : Answer) (y : Lent) → Profiled marks (byAsking []) s D M x r y → Promise marks s D M x r y
+plain {s} {D} {M} {x} a r y h = plain-promise marks s D M x (a .frames) (a .is) (byAsking []) weight-plain r y h

@@ -4,3 +4,4 @@ pub mod Park
 pub mod Reader
 pub mod Column
 pub mod Root
+pub mod Heavier

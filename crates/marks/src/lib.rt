@@ -4,10 +4,11 @@
 ghost use mathlib.Core.Path.{_≡_};
 ghost use Prim.Native.Nat.{_+_, _*_, _^_, _≤_, _<_};
 ghost use lib.ListN.{length, getD, set, replicate};
+ghost use Rattle.trace.specs.Rows.{columns};
 ghost use Rattle.trace.specs.Column.{Column};
 ghost use Rattle.trace.specs.Promise.{Engine, Promise};
 ghost use Rattle.forecast.specs.OfList.{ForecastOf};
-ghost use Rattle.walk.specs.Weight.{byFactors, Factors, weightAt, instructionsAt};
+ghost use Rattle.walk.specs.Weight.{byAsking, Factors, weightAt, instructionsAt};
 ghost use Rattle.walk.specs.Profiled.{Profiled};
 ghost use Rattle.walk.specs.Gain.{ColumnFits, Grown};
 ghost use Rattle.marks.specs.Shown.{allPrefix, Wiped};
@@ -16,6 +17,7 @@ ghost use Rattle.marks.specs.Park.{park, parked, blank};
 ghost use Rattle.marks.specs.Reader.{Lent, ItemAsks, ItemLeaves, ItemsLeave, BodyAsks, BodyLeaves};
 ghost use Rattle.marks.specs.Column.{marked, markedGain, entered, Returned, LineAsks, LineLeaves, ColumnAsks, ColumnLeaves};
 ghost use Rattle.marks.specs.Root.{lent, Admitted};
+ghost use Rattle.marks.specs.Heavier.{HeavierAsks, HeavierLeaves};
 
 // An open invocation: its numbers, its row, and the lines at which the zones of its longest child and of its
 // continuation begin.
@@ -52,7 +54,7 @@ fn wipe(a: &mut [u8])
 }
 
 // Clears the marks of the lines from a on and before e.
-fn wipe_lines(marks: &mut [u8], a: usize, e: usize)
+pub fn wipe_lines(marks: &mut [u8], a: usize, e: usize)
     requires { ⌜ (a ≤ e) × (e ≤ length (now marks)) ⌝ }
     ensures { λ _. ⌜ Wiped a e (now (marks .entry)) (now (marks .exit)) ⌝ }
 {
@@ -217,17 +219,17 @@ fn read_items(
     t: &mut [u64],
     marks: &mut [u8],
     rows: &mut [u64],
-    factors: &[u64],
+    asking: &[u64],
 ) -> Zones
-    requires { ⌜ Lent (byFactors (now factors)) (now trace) deep z (now t) (now marks) (now rows) ⌝ }
-    ensures { λ r. ⌜ ItemsLeave (byFactors (now (factors .entry))) (now (trace .entry)) deep z (now (t .entry))
+    requires { ⌜ Lent (byAsking (now asking)) (now trace) deep z (now t) (now marks) (now rows) ⌝ }
+    ensures { λ r. ⌜ ItemsLeave (byAsking (now (asking .entry))) (now (trace .entry)) deep z (now (t .entry))
         (now (marks .entry)) (now (rows .entry)) r (now (marks .exit)) (now (rows .exit)) ⌝ }
     ensures { λ _. ⌜ now (t .exit) ≡ now (t .entry) ⌝ }
 {
     let mut a = z;
     let mut kind = line::kind_at(trace, z.own.at);
     while kind != 5 {
-        a = item(trace, kind, a, deep, t, marks, rows, factors);
+        a = item(trace, kind, a, deep, t, marks, rows, asking);
         kind = line::kind_at(trace, a.own.at);
     }
     a
@@ -242,10 +244,10 @@ fn body(
     t: &mut [u64],
     marks: &mut [u8],
     rows: &mut [u64],
-    factors: &[u64],
+    asking: &[u64],
 ) -> walk::Open
-    requires { ⌜ BodyAsks (byFactors (now factors)) (now trace) from row deep (now t) (now marks) (now rows) ⌝ }
-    ensures { λ r. ⌜ BodyLeaves (byFactors (now (factors .entry))) (now (trace .entry)) from row (now (marks .entry))
+    requires { ⌜ BodyAsks (byAsking (now asking)) (now trace) from row deep (now t) (now marks) (now rows) ⌝ }
+    ensures { λ r. ⌜ BodyLeaves (byAsking (now (asking .entry))) (now (trace .entry)) from row (now (marks .entry))
         (now (rows .entry)) r (now (marks .exit)) (now (rows .exit)) ⌝ }
     ensures { λ _. ⌜ now (t .exit) ≡ now (t .entry) ⌝ }
 {
@@ -256,7 +258,7 @@ fn body(
         t,
         marks,
         rows,
-        factors,
+        asking,
     );
     let end = join(marks, z);
     end.own
@@ -271,16 +273,16 @@ fn item(
     t: &mut [u64],
     marks: &mut [u8],
     rows: &mut [u64],
-    factors: &[u64],
+    asking: &[u64],
 ) -> Zones
-    requires { ⌜ ItemAsks (byFactors (now factors)) (now trace) kind deep z (now t) (now marks) (now rows) ⌝ }
-    ensures { λ r. ⌜ ItemLeaves (byFactors (now (factors .entry))) (now (trace .entry)) z (now (marks .entry))
+    requires { ⌜ ItemAsks (byAsking (now asking)) (now trace) kind deep z (now t) (now marks) (now rows) ⌝ }
+    ensures { λ r. ⌜ ItemLeaves (byAsking (now (asking .entry))) (now (trace .entry)) z (now (marks .entry))
         (now (rows .entry)) r (now (marks .exit)) (now (rows .exit)) ⌝ }
     ensures { λ _. ⌜ now (t .exit) ≡ now (t .entry) ⌝ }
 {
     let at = z.own.at;
     if kind == 6 {
-        let v = walk::weight_at(trace, at, z.row, factors);
+        let v = walk::weight_at(trace, at, z.row, asking);
         walk::spend(rows, z.row, v, walk::instructions_at(trace, at));
         return spend(marks, z, v);
     }
@@ -304,7 +306,7 @@ fn item(
         &mut t[8..],
         marks,
         rows,
-        factors,
+        asking,
     );
     let back = load(t);
     walk::returned(rows, site, c.work, c.prefix, before);
@@ -315,21 +317,21 @@ fn item(
 }
 
 // Columns 5 and 7 of a row: what a cost line of it weighs, and its instructions, where the line is marked.
-fn add_marked(trace: &[u8], at: usize, row: usize, marks: &[u8], rows: &mut [u64], factors: &[u64])
+fn add_marked(trace: &[u8], at: usize, row: usize, marks: &[u8], rows: &mut [u64], asking: &[u64])
     requires { ⌜ at < length (now marks) ⌝ }
     requires { ⌜ ColumnFits (now rows) row Column.onSpan
-        (marked (getD (now marks) at 0) (weightAt (now factors) (now trace) at row)) ⌝ }
+        (marked (getD (now marks) at 0) (weightAt (now asking) (now trace) at row)) ⌝ }
     requires { ⌜ ColumnFits (now rows) row Column.ionSpan
         (marked (getD (now marks) at 0) (instructionsAt (now trace) at)) ⌝ }
     ensures { λ _. ⌜ Grown (now (rows .entry)) (markedGain row (getD (now (marks .entry)) at 0)
-        (weightAt (now (factors .entry)) (now (trace .entry)) at row) (instructionsAt (now (trace .entry)) at))
+        (weightAt (now (asking .entry)) (now (trace .entry)) at row) (instructionsAt (now (trace .entry)) at))
         (now (rows .exit)) ⌝ }
 {
     if marks[at] == 1 {
         walk::add(
             rows,
             trace::COLUMNS * row + trace::ON_SPAN,
-            walk::weight_at(trace, at, row, factors),
+            walk::weight_at(trace, at, row, asking),
         );
         walk::add_instructions(
             rows,
@@ -382,15 +384,15 @@ fn on_line(
     t: &mut [u64],
     marks: &[u8],
     rows: &mut [u64],
-    factors: &[u64],
+    asking: &[u64],
 ) -> Present
-    requires { ⌜ LineAsks (byFactors (now factors)) (now trace) at a (now t) (now marks) (now rows) ⌝ }
-    ensures { λ r. ⌜ LineLeaves (byFactors (now (factors .entry))) (now (trace .entry)) at a (now (t .entry))
+    requires { ⌜ LineAsks (byAsking (now asking)) (now trace) at a (now t) (now marks) (now rows) ⌝ }
+    ensures { λ r. ⌜ LineLeaves (byAsking (now (asking .entry))) (now (trace .entry)) at a (now (t .entry))
         (now (marks .entry)) (now (rows .entry)) r (now (t .exit)) (now (rows .exit)) ⌝ }
 {
     let kind = line::kind_at(trace, at);
     if kind == 6 {
-        add_marked(trace, at, a.row, marks, rows, factors);
+        add_marked(trace, at, a.row, marks, rows, asking);
         return a;
     }
     if kind == 5 {
@@ -409,23 +411,16 @@ fn on_line(
 }
 
 // Reads the root's lines once more: each marked cost is added to columns 5 and 7 of the row that it stands in.
-fn column(
-    trace: &[u8],
-    lines: usize,
-    t: &mut [u64],
-    marks: &[u8],
-    rows: &mut [u64],
-    factors: &[u64],
-)
-    requires { ⌜ ColumnAsks (byFactors (now factors)) (now trace) lines (now t) (now marks) (now rows) ⌝ }
-    ensures { λ _. ⌜ ColumnLeaves (byFactors (now (factors .entry))) (now (trace .entry)) lines (now (t .entry))
+fn column(trace: &[u8], lines: usize, t: &mut [u64], marks: &[u8], rows: &mut [u64], asking: &[u64])
+    requires { ⌜ ColumnAsks (byAsking (now asking)) (now trace) lines (now t) (now marks) (now rows) ⌝ }
+    ensures { λ _. ⌜ ColumnLeaves (byAsking (now (asking .entry))) (now (trace .entry)) lines (now (t .entry))
         (now (marks .entry)) (now (rows .entry)) (now (rows .exit)) ⌝ }
     ensures { λ _. ⌜ now (t .exit) ≡ now (t .entry) ⌝ }
 {
     let mut a = Present { row: 0, around: 0 };
     let mut at = 0;
     while at < lines {
-        a = on_line(trace, at, a, t, marks, rows, factors);
+        a = on_line(trace, at, a, t, marks, rows, asking);
         at += 1;
     }
 }
@@ -441,21 +436,48 @@ fn accepted(
     scratch: &mut [u64],
     marks: &mut [u8],
     rows: &mut [u64],
-    factors: &[u64],
+    asking: &[u64],
 ) -> trace::Answer
     requires { ⌜ Admitted (now text) depth sites (lent (now scratch) (now marks) (now rows)) count lines ⌝ }
-    requires { ⌜ Factors (now factors) ⌝ }
-    ensures { λ r. ⌜ Profiled Engine.marks (byFactors (now (factors .entry))) (now (text .entry)) depth sites
+    requires { ⌜ Factors (now asking) ⌝ }
+    ensures { λ r. ⌜ Profiled Engine.marks (byAsking (now (asking .entry))) (now (text .entry)) depth sites
         (lent (now (scratch .entry)) (now (marks .entry)) (now (rows .entry))) r
         (lent (now (scratch .exit)) (now (marks .exit)) (now (rows .exit))) ⌝ }
 {
     walk::zero(scratch, scratch.len());
     walk::zero(rows, trace::COLUMNS * (count + 1));
     let before = walk::credit_of(rows, 0);
-    let f = body(text, 0, 0, depth - 1, scratch, marks, rows, factors);
+    let f = body(text, 0, 0, depth - 1, scratch, marks, rows, asking);
     walk::returned(rows, 0, f.work, f.prefix, before);
-    column(text, lines, scratch, marks, rows, factors);
+    column(text, lines, scratch, marks, rows, asking);
     trace::Answer::Accepted(f.work.0, f.prefix.0, count, lines)
+}
+
+// Room for the rows of as many sites as there may be.
+fn no_rows() -> [u64; trace::COLUMNS * 256]
+    ensures { λ r. ⌜ r ≡ replicate (columns * 256) 0 ⌝ }
+{
+    [0u64; trace::COLUMNS * 256]
+}
+
+// The marks reader over an accepted trace of which one line is asked heavier, with no rows to give back: the marks are those
+// of the chosen chain then, and the answer is the span then.
+pub fn with_heavier(
+    text: &[u8],
+    depth: usize,
+    line: usize,
+    scratch: &mut [u64],
+    marks: &mut [u8],
+) -> walk::Cycles
+    requires { ⌜ HeavierAsks (now text) depth (now scratch) (now marks) ⌝ }
+    ensures { λ r. ⌜ HeavierLeaves (now (text .entry)) depth line (now (marks .entry)) (r .0) (now (marks .exit)) ⌝ }
+    ensures { λ _. ⌜ now (scratch .exit) ≡ replicate (length (now (scratch .entry))) 0 ⌝ }
+{
+    walk::zero(scratch, scratch.len());
+    let asking = walk::ask_heavier(line);
+    let mut rows = no_rows();
+    let f = body(text, 0, 0, depth - 1, scratch, marks, &mut rows, &asking);
+    f.prefix
 }
 
 // The marks engine: any text, any limits and any room.

@@ -55,10 +55,10 @@ module _ (s : List ℕ) (room : ℕ) where
       ∙ ap (λ (b : Bool). cond b (refuse 4 0) (framed (readLine s 0))) (le-ltb _ _ enough)
       ∙ ap framed e
 
-pub read-at-0 : (s : List ℕ) (number line : ℕ) → readLine s 0 ≡ Refused number line → line ≤ 65536
+pub read-at-0 : (s : List ℕ) (number line : ℕ) → readLine s 0 ≡ Refused number line → line ≤ 4294967295
 read-at-0 s number line e = go (line-case s 0)
   where
-    go : Case s 0 (readLine s 0) → line ≤ 65536
+    go : Case s 0 (readLine s 0) → line ≤ 4294967295
     go (long h r) = let z : line ≡ 0 = cc in omega arith
     go (wrongs h w r) = let z : line ≡ 0 = cc in omega arith
     go (unlisted h w t r) = let z : line ≡ 0 = cc in omega arith
@@ -119,10 +119,10 @@ module _ (n : List ℕ) (room written : ℕ) where
                 let w : writable f ≡ true = ap (λ (y : Fields). narrow y && isFrame (table y)) x ∙ is in
                 on is ∙ ap write (ap chars (sym x) ∙ sym (written-as f w))
 
-pub framed-at-0 : (x : Fields) (number line : ℕ) → framedBy x ≡ Refused number line → line ≤ 65536
+pub framed-at-0 : (x : Fields) (number line : ℕ) → framedBy x ≡ Refused number line → line ≤ 4294967295
 framed-at-0 x number line e = go (framed-case x)
   where
-    go : Framed x (framedBy x) → line ≤ 65536
+    go : Framed x (framedBy x) → line ≤ 4294967295
     go (as-none h r) = let z : line ≡ 0 = cc in omega arith
     go (as-frame f h t r) = absurd (let z : _≡_ {A = ℕ} 0 1 = cc in omega arith)
 

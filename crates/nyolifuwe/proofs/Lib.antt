@@ -5,3 +5,4 @@ mod Sheets
 mod Stacks
 mod Taken
 mod Shelf
+mod Asking

@@ -14,6 +14,9 @@ use Rattle.trace.specs.declared.Answer.{Answer}
 use Rattle.trace.specs.declared.Answer.the-variants.{Accepted}
 use Rattle.trace.specs.declared.Answer.the-variants.{Refused as Turned}
 use Rattle.trace.specs.Refusals.{checks}
+use Rattle.why.specs.declared.Answer.{Answer as WhyAnswer}
+use Rattle.why.specs.declared.Answer.the-variants.{Given}
+use Rattle.why.specs.declared.Answer.the-variants.{Refused as NotGiven}
 use Rattle.nyolifuwe.specs.Code.{coded}
 
 -- the frame that five fields are, refusal 6 where one has no room in its digits or they are not as the table has them
@@ -37,6 +40,11 @@ noted (Refused number line) written = written
 abbrev pub lineIn : Answer → ℕ
 lineIn (Accepted work span sites lines) = 0
 lineIn (Turned number line) = line
+
+-- an answer to why: the line in it
+abbrev pub lineAsked : WhyAnswer → ℕ
+lineAsked (Given a) = 0
+lineAsked (NotGiven number line) = line
 
 -- the number of the first of checks 1 to 3 that fails, else 4
 abbrev pub unroomy : ℕ → ℕ → ℕ → ℕ

@@ -8,3 +8,4 @@ pub mod InsideSheets
 pub mod Stacks
 pub mod InsideForecasts
 pub mod Shelf
+pub mod Asking

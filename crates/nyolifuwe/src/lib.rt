@@ -8,6 +8,7 @@ use line::Read;
 use line::Wrote;
 use sheet::Counted;
 use trace::Answer;
+use why::Why;
 ghost use mathlib.Core.Path.{_≡_};
 ghost use Prim.Native.Nat.{_≤_};
 ghost use mathlib.Core.List.{[], _++_};
@@ -24,15 +25,16 @@ ghost use Rattle.nyolifuwe.specs.InsideForecasts.{ForecastsOf};
 ghost use Rattle.nyolifuwe.specs.Sheets.{csvWrite, csvRead, Takes};
 ghost use Rattle.nyolifuwe.specs.Stacks.{foldedStacks, Folded};
 ghost use Rattle.nyolifuwe.specs.Shelf.{Shelves};
+ghost use Rattle.nyolifuwe.specs.Asking.{numbersOf, whyNumbered, AsksWhy};
 ghost use Rattle.nyolifuwe.specs.InsideSheets.{toldSites, recordIn, notedSites};
-ghost use Rattle.nyolifuwe.specs.Inside.{framedBy, told, lineOf, noted, lineIn, unroomy};
+ghost use Rattle.nyolifuwe.specs.Inside.{framedBy, told, lineOf, noted, lineIn, lineAsked, unroomy};
 
 // "kind, site, value, file, column"
 const FIELDS: usize = 5;
 
 // A refusal in one number.
 fn code(number: u8, line: usize) -> u64
-    requires { ⌜ line ≤ 65536 ⌝ }
+    requires { ⌜ line ≤ 4294967295 ⌝ }
     ensures { λ r. ⌜ r ≡ coded number line ⌝ }
 {
     number as u64 + 256 * line as u64
@@ -477,4 +479,60 @@ pub extern "C" fn nyo_compact(
     }
     let wrote = compact::compact(trace, depth as usize, sites as usize, out);
     tell(wrote, written)
+}
+
+// The case of an answer to why, from 0 to 3, and n or k.
+fn numbers_of(why: Why) -> [u64; 2]
+    ensures { λ r. ⌜ r ≡ numbersOf why ⌝ }
+{
+    match why {
+        Why::NotCost => [0, 0],
+        Why::OnChain => [1, 0],
+        Why::Slack(n) => [2, n],
+        Why::Tied(k) => [3, k as u64],
+    }
+}
+
+// Hands an answer to why over: its two numbers go to `answer`, or a refusal's code is given.
+fn hand_why(found: why::Answer, answer: &mut [u64]) -> u64
+    requires { ⌜ (lineAsked found ≤ 4294967295) × (2 ≤ length (now answer)) ⌝ }
+    ensures { λ r. ⌜ Gives (whyNumbered found) r (now (answer .entry)) (now (answer .exit)) ⌝ }
+{
+    match found {
+        why::Answer::Given(why) => {
+            let numbers = numbers_of(why);
+            put(&numbers, answer);
+            0
+        }
+        why::Answer::Refused(number, line) => code(number, line),
+    }
+}
+
+// Why line `line` is not on the span: the case and n or k go to `answer`, the chain to show to `marks`, or a refusal of the
+// engines or 23.
+#[no_mangle]
+pub extern "C" fn nyo_why(
+    trace: &[u8],
+    depth: u64,
+    sites: u64,
+    line: u32,
+    scratch: &mut [u64],
+    marks: &mut [u8],
+    answer: &mut [u64],
+) -> u64
+    ensures { λ r. ⌜ AsksWhy (now (trace .entry)) depth sites line (now (scratch .entry)) (now (marks .entry))
+        (now (answer .entry)) r (now (scratch .exit)) (now (marks .exit)) (now (answer .exit)) ⌝ }
+{
+    if answer.len() < 2 {
+        return refuse_room(trace.len(), depth as usize, sites as usize);
+    }
+    let found = why::ask(
+        trace,
+        depth as usize,
+        sites as usize,
+        line as usize,
+        scratch,
+        marks,
+    );
+    hand_why(found, answer)
 }

@@ -6,7 +6,7 @@ use native.Mathlib.Omega.{arith}
 use lib.ListN.{length}
 use Rattle.line.specs.At.{kindAt}
 use Rattle.chain.specs.Plan.{CostLine, weight}
-use Rattle.trace.specs.Tree.{spend, sync, note, Body, done, leaf, child, Within, workOf, instructionsOf}
+use Rattle.trace.specs.Tree.{spend, sync, note, Body, done, leaf, child, workOf, instructionsOf}
 use Rattle.trace.specs.Fold.{Chains, nothing, run, chainOf}
 use Rattle.weigh.specs.Weighed.{Weigh}
 use Rattle.walk.specs.declared.Open.{Open}
@@ -14,6 +14,7 @@ use Rattle.walk.specs.Stands.{Says, kindOf}
 use Rattle.walk.specs.Reads.{Reads}
 use Rattle.walk.specs.Numbers.{numbers}
 use Rattle.walk.specs.Item.{More, rest, itemSize, itemWork, itemChains}
+use Rattle.walk.specs.Nested.{Nested}
 use Rattle.walk.specs.Reader.{ItemDone, ItemsDone, Turn}
 use Rattle.walk.proofs.Items.{size-some, work-item, instructions-item, load-item, iload-item}
 use Rattle.walk.proofs.Says.{kind-says}
@@ -24,7 +25,7 @@ use Rattle.tables.specs.Reader.{Lent, ItemAsks, ItemLeaves, ItemsLeave, 
 use Rattle.tables.proofs.Held.{opens, alone-shows}
 
 -- where the first item of a body leaves a child the longest, it made it, or one was before
-longest-made : (b : Body) (m D d deep n s : ℕ) (k : Chains) → Within m D d b → d + deep ≡ D → ((weight (k .l) ≡ 0 → ⊥) → 1 ≤ deep) → (weight (itemChains n s b k .l) ≡ 0 → ⊥) → 1 ≤ deep
+longest-made : (b : Body) (m D d deep n s : ℕ) (k : Chains) → Nested m D d b → d + deep ≡ D → ((weight (k .l) ≡ 0 → ⊥) → 1 ≤ deep) → (weight (itemChains n s b k .l) ≡ 0 → ⊥) → 1 ≤ deep
 longest-made done m D d deep n s k h e before = before
 longest-made (leaf (spend v) r) m D d deep n s k h e before = before
 longest-made (leaf sync r) m D d deep n s k h e before = λ z. absurd (z refl)
@@ -64,7 +65,7 @@ module _ (how : Weigh) (s : List ℕ) (row deep n w : ℕ) where
             few = l .few;
             room = omega (arith, l .room, lt);
             opened = λ x.
-                longest-made b (l .m) (l .ready .D) (l .ready .d) deep (f .at) row (l .k) (l .ready .within) (l .ready .depth) (λ y. l .opened (λ z. y (sym (ap (λ (o : Open). o .longest .0) (l .weighs)) ∙ z)))
+                longest-made b (l .m) (l .ready .D) (l .ready .d) deep (f .at) row (l .k) (l .ready .nested) (l .ready .depth) (λ y. l .opened (λ z. y (sym (ap (λ (o : Open). o .longest .0) (l .weighs)) ∙ z)))
                 (λ y. x (ap (λ (o : Open). o .longest .0) (left .0 .numbers-are) ∙ y));
             q = l .q;
             k = itemChains (f .at) row b (l .k);

@@ -13,7 +13,7 @@ use Rattle.line.specs.At.{kindAt, siteAt, valueAt}
 use Rattle.trace.specs.Column.{Column, slot}
 use Rattle.chain.specs.Plan.{CostLine, weight}
 use Rattle.chain.proofs.Lists.{weight-append}
-use Rattle.trace.specs.Tree.{spend, sync, note, Body, leaf, ahead, Within, workOf, instructionsOf}
+use Rattle.trace.specs.Tree.{spend, sync, note, Body, leaf, ahead, workOf, instructionsOf}
 use Rattle.trace.specs.Fold.{costAt, itsInstructions, Chains, nothing, spent, called, spawned, chainOf, onAll}
 use Rattle.trace.proofs.OnChain.{on-append}
 use Rattle.weigh.specs.Weighed.{Weigh}
@@ -25,6 +25,7 @@ use Rattle.walk.specs.Weight.{instructionsAt}
 use Rattle.walk.specs.Numbers.{numbers, passedN, calledN, load, iload}
 use Rattle.walk.specs.Gain.{ColumnFits, creditOf, ReturnFits, costGain, Returned, Grown}
 use Rattle.walk.specs.Item.{itemChains}
+use Rattle.walk.specs.Nested.{Nested}
 use Rattle.walk.specs.Reader.{ItemDone, alone, BodyDone}
 use Rattle.walk.proofs.Items.{size-some, chain-le, chain-instructions}
 use Rattle.walk.proofs.Says.{kind-says, site-says, value-says}
@@ -120,7 +121,7 @@ module _ {how : Weigh} {s : List ℕ} {kind row deep : ℕ} {f : Open} {t rows :
 
   -- it is at least 1
   some : 1 ≤ v
-  some = let y = h .asks .lent .ready in subst (Within (h .asks .lent .m) (y .D) (y .d)) (here .1) (y .within) .0 .0
+  some = let y = h .asks .lent .ready in subst (Nested (h .asks .lent .m) (y .D) (y .d)) (here .1) (y .nested) .0
 
   pub spend-asks : Asks n w t f 0 v j × ((2 * row + 2 ≤ w) × ((w ≤ 512) × ((1 ≤ v) × ((f .at + 1 < 2 ^ 64) × (f .work .0 + v < 2 ^ 64)))))
   spend-asks = let l = h .asks .lent in (own-asks l v j (omega (arith, ap workOf (here .1))) (omega (arith, ap instructionsOf (here .1), here .2)), (omega (arith, l .ready .row-in, l .wide), (l .few, (some, (line-fits l, fit .1 .0)))))

@@ -32,7 +32,7 @@ use Rattle.walk.specs.declared.Credit.{Credit}
 use Rattle.walk.specs.Gain.{creditOf, ReturnFits, Returned}
 use Rattle.walk.specs.Reader.{alone, BodyDone}
 use Rattle.walk.specs.Profiled.{Profiled}
-use Rattle.walk.specs.Weight.{byFactors}
+use Rattle.walk.specs.Weight.{byAsking}
 use Rattle.walk.proofs.Weight.{weight-plain}
 use Rattle.walk.proofs.Profiled.{kept-refused, text-refused, plain-promise}
 use Rattle.walk.proofs.Zeros.{zeros-at}
@@ -216,5 +216,5 @@ module _ (s : List ℕ) (D M : ℕ) (scratch rows : List ℕ) where
 
 -- with no factor it is the plain profile
 pub plain : {s : List ℕ} {D M : ℕ} {scratch rows : List ℕ} {count lines : ℕ} → Admitted s D M scratch rows count lines → (r : Answer) (t′ rows′ : List ℕ)
-    → Profiled tables (byFactors []) s D M (lent scratch rows) r (lent t′ rows′) → Promise tables s D M (lent scratch rows) r (lent t′ rows′)
-plain {s} {D} {M} {scratch} {rows} a r t′ rows′ h = plain-promise tables s D M (lent scratch rows) (a .t) (a .is) (byFactors []) weight-plain r (lent t′ rows′) h
+    → Profiled tables (byAsking []) s D M (lent scratch rows) r (lent t′ rows′) → Promise tables s D M (lent scratch rows) r (lent t′ rows′)
+plain {s} {D} {M} {scratch} {rows} a r t′ rows′ h = plain-promise tables s D M (lent scratch rows) (a .t) (a .is) (byAsking []) weight-plain r (lent t′ rows′) h

@@ -17,7 +17,7 @@ ghost use lib.ListN.{length, getD, set};
 ghost use Rattle.trace.specs.Rows.{columns};
 ghost use Rattle.trace.specs.Promise.{tables, Promise};
 ghost use Rattle.forecast.specs.OfList.{ForecastOf};
-ghost use Rattle.walk.specs.Weight.{byFactors, Factors};
+ghost use Rattle.walk.specs.Weight.{byAsking, Factors};
 ghost use Rattle.walk.specs.Profiled.{Profiled};
 ghost use Rattle.tables.specs.Blocks.{sinceAt, partAt, childAt, Asks, Spent, Joined, Spawned};
 ghost use Rattle.tables.specs.Walks.{IsTable, Idles, Apart, PairFits, FourFits, SumsFit, Taken, noPair, pairAt, pairSum, paired, added, noFour, fourAt, fourSum, laid, inUse, worded, TakesIn, TookIn, Cleared};
@@ -416,16 +416,16 @@ fn read_items(
     t: &mut [u64],
     rows: &mut [u64],
     w: usize,
-    factors: &[u64],
+    asking: &[u64],
 ) -> walk::Open
-    requires { ⌜ Lent (byFactors (now factors)) (now trace) row deep f (now t) (now rows) (w + 1) w ⌝ }
-    ensures { λ r. ⌜ ItemsLeave (byFactors (now (factors .entry))) (now (trace .entry)) row deep f (now (t .entry))
+    requires { ⌜ Lent (byAsking (now asking)) (now trace) row deep f (now t) (now rows) (w + 1) w ⌝ }
+    ensures { λ r. ⌜ ItemsLeave (byAsking (now (asking .entry))) (now (trace .entry)) row deep f (now (t .entry))
         (now (rows .entry)) (w + 1) w r (now (t .exit)) (now (rows .exit)) ⌝ }
 {
     let mut g = f;
     let mut kind = line::kind_at(trace, f.at);
     while kind != 5 {
-        g = item(trace, kind, g, row, deep, t, rows, w, factors);
+        g = item(trace, kind, g, row, deep, t, rows, w, asking);
         kind = line::kind_at(trace, g.at);
     }
     g
@@ -440,13 +440,13 @@ fn body(
     t: &mut [u64],
     rows: &mut [u64],
     w: usize,
-    factors: &[u64],
+    asking: &[u64],
 ) -> walk::Open
-    requires { ⌜ BodyAsks (byFactors (now factors)) (now trace) from row deep (now t) (now rows) (w + 1) w ⌝ }
-    ensures { λ r. ⌜ BodyLeaves (byFactors (now (factors .entry))) (now (trace .entry)) from row (now (t .entry))
+    requires { ⌜ BodyAsks (byAsking (now asking)) (now trace) from row deep (now t) (now rows) (w + 1) w ⌝ }
+    ensures { λ r. ⌜ BodyLeaves (byAsking (now (asking .entry))) (now (trace .entry)) from row (now (t .entry))
         (now (rows .entry)) (w + 1) w r (now (t .exit)) (now (rows .exit)) ⌝ }
 {
-    let f = read_items(trace, walk::Open::new(from), row, deep, t, rows, w, factors);
+    let f = read_items(trace, walk::Open::new(from), row, deep, t, rows, w, asking);
     join(t, w + 1, w, f)
 }
 
@@ -460,16 +460,16 @@ fn item(
     t: &mut [u64],
     rows: &mut [u64],
     w: usize,
-    factors: &[u64],
+    asking: &[u64],
 ) -> walk::Open
-    requires { ⌜ ItemAsks (byFactors (now factors)) (now trace) kind row deep f (now t) (now rows) (w + 1) w ⌝ }
-    ensures { λ r. ⌜ ItemLeaves (byFactors (now (factors .entry))) (now (trace .entry)) row f (now (t .entry))
+    requires { ⌜ ItemAsks (byAsking (now asking)) (now trace) kind row deep f (now t) (now rows) (w + 1) w ⌝ }
+    ensures { λ r. ⌜ ItemLeaves (byAsking (now (asking .entry))) (now (trace .entry)) row f (now (t .entry))
         (now (rows .entry)) (w + 1) w r (now (t .exit)) (now (rows .exit)) ⌝ }
 {
     let at = f.at;
     let n = w + 1;
     if kind == 6 {
-        let v = walk::weight_at(trace, at, row, factors);
+        let v = walk::weight_at(trace, at, row, asking);
         let i = walk::instructions_at(trace, at);
         walk::spend(rows, row, v, i);
         return spend(t, n, w, f, row, v, i);
@@ -486,7 +486,7 @@ fn item(
     let site = line::site_at(trace, at) as usize;
     let o = child_part(kind, n, f);
     let before = walk::credit_of(rows, site);
-    let c = body(trace, at + 1, site, deep - 1, &mut t[o..], rows, w, factors);
+    let c = body(trace, at + 1, site, deep - 1, &mut t[o..], rows, w, asking);
     walk::returned(rows, site, c.work, c.prefix, before);
     if kind == 2 {
         return f.called(c);
@@ -520,11 +520,11 @@ fn accepted(
     lines: usize,
     scratch: &mut [u64],
     rows: &mut [u64],
-    factors: &[u64],
+    asking: &[u64],
 ) -> trace::Answer
     requires { ⌜ Admitted (now text) depth sites (now scratch) (now rows) count lines ⌝ }
-    requires { ⌜ Factors (now factors) ⌝ }
-    ensures { λ r. ⌜ Profiled tables (byFactors (now (factors .entry))) (now (text .entry)) depth sites
+    requires { ⌜ Factors (now asking) ⌝ }
+    ensures { λ r. ⌜ Profiled tables (byAsking (now (asking .entry))) (now (text .entry)) depth sites
         (lent (now (scratch .entry)) (now (rows .entry))) r (lent (now (scratch .exit)) (now (rows .exit))) ⌝ }
 {
     walk::zero(scratch, scratch.len());
@@ -538,7 +538,7 @@ fn accepted(
         scratch,
         rows,
         2 * (count + 1),
-        factors,
+        asking,
     );
     walk::returned(rows, 0, f.work, f.prefix, before);
     settle(scratch, rows, count + 1);

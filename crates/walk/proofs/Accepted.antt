@@ -34,7 +34,7 @@ use Rattle.walk.specs.Gain.{creditOf, ReturnFits, Returned, made, mostGa
 use Rattle.walk.specs.Reader.{Ready, BodyDone}
 use Rattle.walk.proofs.Return.{Came, came, return-fits, made-grown}
 use Rattle.walk.proofs.Columns.{root-on, root-ion}
-use Rattle.walk.proofs.Root.{other, tree, root-small, root-reads, root-ready, cells-are, behind}
+use Rattle.walk.proofs.Root.{Weighty, other, tree, root-small, root-reads, root-ready, cells-are, behind}
 use Rattle.walk.proofs.Zeros.{cleared-length, cleared-front, cleared-back}
 
 module _ (e : Engine) (s : List ℕ) (D M : ℕ) (x : Lent) (t : List Frame) (is : verdict s D M (enough e s D M x) ≡ accepted t) (count : ℕ) (count-is : sites t ≡ count) where
@@ -77,6 +77,9 @@ module _ (e : Engine) (s : List ℕ) (D M : ℕ) (x : Lent) (t : List Frame) (is
     abbrev pub body : Body
     body = root .body
 
+    some : Weighty w
+    some n k v l h = tabled n k v l h .0
+
     sites-are : sites trace ≡ count
     sites-are = reweighed-sites w t 0 (0 ∷ []) ∙ count-is
 
@@ -91,7 +94,7 @@ module _ (e : Engine) (s : List ℕ) (D M : ℕ) (x : Lent) (t : List Frame) (is
     small = root-small w tabled D M t fine
 
     pub reads : Reads w s 0 0 body
-    reads = root-reads w tabled D M t fine s (enough e s D M x) is
+    reads = root-reads w some D M t fine s (enough e s D M x) is
 
     zeros : (i : ℕ) → i < columns * (sites trace + 1) → getD cleared i 0 ≡ 0
     zeros i l = cleared-front (x .rows) (columns * (count + 1)) rows-room i (omega (arith, sites-are))
@@ -101,7 +104,7 @@ module _ (e : Engine) (s : List ℕ) (D M : ℕ) (x : Lent) (t : List Frame) (is
 
     pub ready : Ready w s 0 count (D - 1) (numbers 0 0 nothing) cleared
     ready =
-        subst (λ (m : ℕ). Ready w s 0 m (D - 1) (numbers 0 0 nothing) cleared) sites-are (root-ready w tabled D M t fine s (enough e s D M x) is cleared long zeros)
+        root-ready w some D M t fine s (enough e s D M x) is small count count-is cleared (omega (arith, long, sites-are)) (λ i l. zeros i (omega (arith, sites-are)))
 
     -- what the tree says of an outcome is the profile of the weighed trace
     pub profiled : (r : Answer) (y : Lent) → ProfileBy e count body x r y → Profile e trace x r y

@@ -12,7 +12,7 @@ use Rattle.line.specs.declared.Frame.the-variants.{Call, Spawn, Cost}
 use Rattle.chain.specs.Plan.{weight}
 use Rattle.trace.specs.Rows.{columns}
 use Rattle.trace.specs.Column.{Column, slot}
-use Rattle.trace.specs.Tree.{Way, call, spawn, spend, Body, leaf, child, ahead, size, Within, workOf, instructionsOf}
+use Rattle.trace.specs.Tree.{Way, call, spawn, spend, Body, leaf, child, ahead, size, workOf, instructionsOf}
 use Rattle.trace.specs.Fold.{Chains, nothing, chainOf}
 use Rattle.trace.proofs.Slots.{slot-in}
 use Rattle.weigh.specs.Weighed.{Weigh}
@@ -23,6 +23,7 @@ use Rattle.walk.specs.Reads.{Reads}
 use Rattle.walk.specs.Numbers.{numbers}
 use Rattle.walk.specs.Gain.{ColumnFits, creditOf, ReturnFits, Returned, made, mostGain}
 use Rattle.walk.specs.Item.{More}
+use Rattle.walk.specs.Nested.{Nested}
 use Rattle.walk.specs.Reader.{Ready, BodyDone}
 use Rattle.walk.proofs.Lines.{is-spend, is-call, is-spawn}
 use Rattle.walk.proofs.Return.{came, return-fits, made-grown}
@@ -71,8 +72,8 @@ child-is w s n row kind site says sited k6 k4 k1 k7 b h m = go (eqb kind 2) refl
     go false e = let q = spawn-is w s n row kind says site sited k6 k4 k1 k7 b h m (eqb-false kind 2 e) in record { way = spawn; g = q .0; r = q .1; is = q .2; reads = q .3 }
 
 -- a child's lines are among the item's, and its invocation is one more that is open
-pub within-child : (w : Weigh) (s : List ℕ) (n site m D d : ℕ) (b : Body) (c : Child w s n site b) → Within m D d b → (site ≤ m) × (suc d ≤ D) × Within m D (suc d) (c .g) × (1 + size (c .g) ≤ size b)
-within-child w s n site m D d b c k = let h = subst (Within m D d) (c .is) k in (h .1, h .2, h .3, omega (arith, ap size (c .is)))
+pub nested-child : (w : Weigh) (s : List ℕ) (n site m D d : ℕ) (b : Body) (c : Child w s n site b) → Nested m D d b → (site ≤ m) × (suc d ≤ D) × Nested m D (suc d) (c .g) × (1 + size (c .g) ≤ size b)
+nested-child w s n site m D d b c k = let h = subst (Nested m D d) (c .is) k in (h .1, h .2, h .3, omega (arith, ap size (c .is)))
 
 module _ (w : Weigh) (s : List ℕ) (row m deep : ℕ) (f : Open) (rows : List ℕ) (y : Ready w s row m deep f rows) where
   -- a cost of v fits the rows with its instructions, the work and the chains
@@ -94,8 +95,8 @@ module _ (w : Weigh) (s : List ℕ) (row m deep : ℕ) (f : Open) (rows : List �
     pub child-work : (f .work .0 + workOf inner < 2 ^ 64) × (f .prefix .0 + (f .longest .0 + f .since .0) + workOf inner < 2 ^ 64)
     child-work = (omega (arith, y .work-fits, ap workOf (c .is)), omega (arith, y .load-fits, ap workOf (c .is)))
 
-    in-it : (site ≤ m) × (suc (y .d) ≤ y .D) × Within m (y .D) (suc (y .d)) inner × (1 + size inner ≤ size (y .body))
-    in-it = within-child w s (f .at) site m (y .D) (y .d) (y .body) c (y .within)
+    in-it : (site ≤ m) × (suc (y .d) ≤ y .D) × Nested m (y .D) (suc (y .d)) inner × (1 + size inner ≤ size (y .body))
+    in-it = nested-child w s (f .at) site m (y .D) (y .d) (y .body) c (y .nested)
 
     pub deeper : 1 ≤ deep
     deeper = omega (arith, in-it .1, y .depth)
@@ -117,7 +118,7 @@ module _ (w : Weigh) (s : List ℕ) (row m deep : ℕ) (f : Open) (rows : List �
           reads = c .reads;
           D = y .D;
           d = suc (y .d);
-          within = in-it .2;
+          nested = in-it .2;
           depth = omega (arith, y .depth, deeper);
           row-in = in-it .0;
           rows-long = y .rows-long;

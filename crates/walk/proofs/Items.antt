@@ -10,13 +10,14 @@ use lib.Dec.{ltb}
 use Rattle.chain.specs.Plan.{CostLine, weight, choose}
 use Rattle.chain.proofs.Lists.{weight-append}
 use Rattle.chain.proofs.Choose.{choose-cases}
-use Rattle.trace.specs.Tree.{Way, call, spawn, Leaf, spend, sync, note, leafWork, leafCycles, leafInstructions, Body, done, leaf, child, ahead, size, Within, allOf, workOf, instructionsOf}
+use Rattle.trace.specs.Tree.{Way, call, spawn, Leaf, spend, sync, note, leafWork, leafCycles, leafInstructions, Body, done, leaf, child, ahead, size, allOf, workOf, instructionsOf}
 use Rattle.trace.specs.Fold.{costAt, itsInstructions, Chains, nothing, joined, spawned, leafChains, ended, childChains, run, chainOf, onAll}
 use Rattle.trace.proofs.OnChain.{on-append}
 use Rattle.weigh.specs.Weighed.{Weigh}
 use Rattle.walk.specs.Reads.{Reads}
 use Rattle.walk.specs.Numbers.{loadBy, load, iload}
 use Rattle.walk.specs.Gain.{gain}
+use Rattle.walk.specs.Nested.{Nested}
 use Rattle.walk.specs.Item.{More, rest, itemSize, itemOf, itemWork, itemInstructions, itemGain, itemChains}
 use Rattle.walk.proofs.Return.{cost-gain-le, made-le}
 
@@ -129,7 +130,7 @@ reads-rest w s n row done m h = absurd m
 reads-rest w s n row (leaf l r) m h = h .1
 reads-rest w s n row (child y j g r) m h = h .2
 
-pub within-rest : (m D d : ℕ) (b : Body) → Within m D d b → Within m D d (rest b)
-within-rest m D d done h = tt
-within-rest m D d (leaf l r) h = h .1
-within-rest m D d (child w j g r) h = h .4
+pub nested-rest : (m D d : ℕ) (b : Body) → Nested m D d b → Nested m D d (rest b)
+nested-rest m D d done h = tt
+nested-rest m D d (leaf l r) h = h .1
+nested-rest m D d (child w j g r) h = h .4

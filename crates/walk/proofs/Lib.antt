@@ -12,5 +12,6 @@ pub mod Root
 pub mod Zeros
 pub mod Child
 pub mod Room
+pub mod Heavier
 pub mod Accepted
 pub mod Profiled

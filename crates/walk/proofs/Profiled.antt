@@ -23,7 +23,7 @@ use Rattle.forecast.specs.OfList.{entriesOf, askingOf, ForecastOf}
 use Rattle.forecast.specs.ByRow.{byEntries}
 use Rattle.forecast.proofs.ByRow.{rewritten-weighed}
 use Rattle.forecast.proofs.OfList.{may-held, asking-may, asking-not}
-use Rattle.walk.specs.Weight.{byFactors, Factors}
+use Rattle.walk.specs.Weight.{byAsking, Factors}
 use Rattle.walk.specs.Profiled.{Profiled}
 use Rattle.walk.proofs.Weight.{table-factors, table-weighs}
 
@@ -77,14 +77,14 @@ module _ (e : Engine) (s : List ℕ) (D M : ℕ) (before : Lent) where
         pub list-factors : Factors fs
         list-factors = subst Factors (sym table) (table-factors (sites t) few es (may-held (sites t) l may))
 
-        by-entries : (n row x : ℕ) → byFactors fs n row x ≡ byEntries es n row x
-        by-entries n row x = ap (λ (gs : List ℕ). byFactors gs n row x) table ∙ table-weighs (sites t) few es (may-held (sites t) l may) n row x
+        by-entries : (n row x : ℕ) → byAsking fs n row x ≡ byEntries es n row x
+        by-entries n row x = ap (λ (gs : List ℕ). byAsking gs n row x) table ∙ table-weighs (sites t) few es (may-held (sites t) l may) n row x
 
         -- LAW: where it weighs by them it is the forecast's promise
-        pub forecast-promise : (r : Answer) (after : Lent) → Profiled e (byFactors fs) s D M before r after → ForecastOf e l s D M before r after
+        pub forecast-promise : (r : Answer) (after : Lent) → Profiled e (byAsking fs) s D M before r after → ForecastOf e l s D M before r after
         forecast-promise r after h =
             let to : askingOf l v ≡ accepted (rewritten es t) = ap (askingOf l) is ∙ asking-may l t may in
-            let weighed = reweighed-same (byFactors fs) (byEntries es) by-entries t 0 (0 ∷ []) ∙ sym (rewritten-weighed es t D (parts D M t fine)) in
+            let weighed = reweighed-same (byAsking fs) (byEntries es) by-entries t 0 (0 ∷ []) ∙ sym (rewritten-weighed es t D (parts D M t fine)) in
             record {
               when-accepted = λ u q. subst (λ (x : List Frame). Profile e x before r after) (weighed ∙ accepted-same (rewritten es t) u (sym to ∙ q)) (h t is);
               when-refused = λ n k q. clash (let z = sym to ∙ q in cc);

@@ -14,7 +14,7 @@ use Rattle.walk.specs.Gain.{gain}
 use Rattle.walk.specs.Item.{More, rest, itemSize, itemWork, itemChains}
 use Rattle.walk.specs.Reader.{Ready, ItemDone, ItemsDone, BodyDone, Turn}
 use Rattle.walk.proofs.Return.{cost-gain-le}
-use Rattle.walk.proofs.Items.{size-item, item-some, work-item, instructions-item, gain-item, item-gain-le, run-item, load-item, reads-rest, within-rest}
+use Rattle.walk.proofs.Items.{size-item, item-some, work-item, instructions-item, gain-item, item-gain-le, run-item, load-item, reads-rest, nested-rest}
 
 -- what the numbers of f are, where they are those of chains
 pub load-is : (f : Open) (k : Chains) → f ≡ numbers (f .at) (f .work .0) k → f .prefix .0 + (f .longest .0 + f .since .0) ≡ load k
@@ -51,7 +51,7 @@ module _ (w : Weigh) (s : List ℕ) (row m deep : ℕ) (f : Open) (rows : List �
         reads = subst (λ (n : ℕ). Reads w s n row (rest b)) (sym at-is) (reads-rest w s (f .at) row b more (r .reads));
         D = r .D;
         d = r .d;
-        within = within-rest (m) (r .D) (r .d) b (r .within);
+        nested = nested-rest m (r .D) (r .d) b (r .nested);
         depth = r .depth;
         row-in = r .row-in;
         rows-long = omega (arith, r .rows-long, len);

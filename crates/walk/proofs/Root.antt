@@ -1,8 +1,9 @@
--- An accepted trace, weighed: its root's body is read in the text, and no number that reading it comes to is too large.
+-- An accepted trace, weighed: its root's body is read in the text, and no number that reading it comes to is too large. The
+-- weights may go past the table.
 use mathlib.Core.Path.{_≡_, subst}
 use mathlib.Core.Bool.{Bool}
 use mathlib.Core.List.{List, [], _∷_}
-use Prim.Native.Nat.{ℕ, _+_, _*_, _-_, _^_, _≤_, _<_}
+use Prim.Native.Nat.{ℕ, suc, _+_, _*_, _-_, _^_, _≤_, _<_}
 use native.Mathlib.Omega.{arith}
 use lib.ListN.{length, getD}
 use Rattle.line.specs.declared.Frame.{Frame}
@@ -13,21 +14,72 @@ use Rattle.trace.specs.Rows.{columns}
 use Rattle.trace.specs.Column.{Column, slot}
 use Rattle.trace.specs.Refusals.{verdict, accepted}
 use Rattle.trace.specs.ByTree.{cell}
-use Rattle.trace.specs.Tree.{Body, Parts}
+use Rattle.trace.specs.Tree.{Leaf, spend, sync, note, LeafWithin, Body, done, leaf, child, size, Within, Parts}
 use Rattle.trace.specs.Fold.{nothing}
 use Rattle.trace.proofs.Slots.{slot-in}
 use Rattle.trace.proofs.Scan.{Fine, accepted-reads}
 use Rattle.trace.proofs.Parse.{parts}
 use Rattle.trace.proofs.Outcome.{work-small, instructions-small, length-is}
-use Rattle.weigh.specs.Weighed.{Weigh, Tabled, reweighed}
+use Rattle.weigh.specs.Weighed.{Weigh, Tabled, weighedLeaf, weighed, reweighed}
+use Rattle.weigh.proofs.Weighed.{weighed-size}
 use Rattle.weigh.proofs.Accepted.{reweighed-parts, reweighed-fine}
 use Rattle.walk.specs.Stands.{Stands}
 use Rattle.walk.specs.Reads.{Reads}
 use Rattle.walk.specs.Numbers.{numbers}
 use Rattle.walk.specs.Gain.{made, mostGain, Grown}
+use Rattle.walk.specs.Nested.{Worth, Nested}
 use Rattle.walk.specs.Reader.{Ready}
 use Rattle.walk.proofs.Stands.{stands-all, stands-reads}
 use Rattle.walk.proofs.Columns.{root-cell, root-out}
+
+-- a value of the table stays at least 1
+abbrev pub Weighty : Weigh → Type 0
+Weighty w = (n s v : ℕ) → 1 ≤ v → v ≤ 4294967295 → 1 ≤ w n s v
+
+module _ (w : Weigh) (some : Weighty w) where
+  leaf-worth : (l : Leaf) (n s : ℕ) → LeafWithin l → Worth (weighedLeaf w n s l)
+  leaf-worth (spend v) n s k = some n s v (k .0) (k .1)
+  leaf-worth sync n s k = tt
+  leaf-worth (note x) n s k = tt
+
+  pub weighed-nested : (m D d : ℕ) (b : Body) (n s : ℕ) → Within m D d b → Nested m D d (weighed w n s b)
+  weighed-nested m D d done n s k = tt
+  weighed-nested m D d (leaf l r) n s k = (leaf-worth l n s (k .0), weighed-nested m D d r (suc n) s (k .1))
+  weighed-nested m D d (child y i g r) n s k = (k .0, k .1, k .2, weighed-nested m D (suc d) g (suc n) i (k .3), weighed-nested m D d r (suc n + size g) s (k .4))
+
+  module _ (D M : ℕ) (t : List Frame) (fine : Fine D M t) where
+    -- the root's body so weighed
+    abbrev pub rootBody : Body
+    rootBody = weighed w 0 0 (parts D M t fine .body)
+
+    pub root-size : size rootBody ≡ length t
+    root-size = let p = parts D M t fine in omega (arith, weighed-size w (p .body) 0 0, length-is D t p)
+
+    module _ (s : List ℕ) (room : Bool) (acc : verdict s D M room ≡ accepted t) where
+      pub root-reads : Reads w s 0 0 rootBody
+      root-reads =
+          let p = parts D M t fine in
+          let all = stands-all s t 0 (λ i f h. let z : i ≡ 0 + i = omega arith in subst (λ (k : ℕ). readAt s k ≡ Line k f) z (accepted-reads s D M room t acc i f h)) in
+          stands-reads w s (p .body) 0 0 (subst (Stands s 0) (p .lines) all)
+
+      -- what a reader asks for at the root of a trace of m sites, where its row numbers are zero
+      pub root-ready : mostGain rootBody < 2 ^ 56 → (m : ℕ) → sites t ≡ m → (rows : List ℕ) → columns * (m + 1) ≤ length rows → ((i : ℕ) → i < columns * (m + 1) → getD rows i 0 ≡ 0)
+          → Ready w s 0 m (D - 1) (numbers 0 0 nothing) rows
+      root-ready small m count rows long zeros =
+          record {
+            body = rootBody;
+            reads = root-reads;
+            D = D;
+            d = 1;
+            nested = subst (λ (k : ℕ). Nested k D 1 rootBody) count (weighed-nested (sites t) D 1 (parts D M t fine .body) 0 0 (parts D M t fine .within));
+            depth = omega (arith, fine .least);
+            row-in = omega arith;
+            rows-long = long;
+            ends = omega (arith, root-size, fine .lines-most);
+            work-fits = omega (arith, small);
+            load-fits = omega (arith, small);
+            rows-fit = λ i l. omega (arith, zeros i l, small);
+          }
 
 module _ (w : Weigh) (tabled : Tabled w) (D M : ℕ) (t : List Frame) (fine : Fine D M t) where
   -- the trace so weighed
@@ -46,32 +98,6 @@ module _ (w : Weigh) (tabled : Tabled w) (D M : ℕ) (t : List Frame) (fine : Fi
   -- its lines, its costs and its instructions together are few
   pub root-small : mostGain body < 2 ^ 56
   root-small = omega (arith, length-is D other tree, fine-too .lines-most, work-small D other tree M fine-too, instructions-small D other tree M fine-too)
-
-  module _ (s : List ℕ) (room : Bool) (acc : verdict s D M room ≡ accepted t) where
-    pub root-reads : Reads w s 0 0 body
-    root-reads =
-        let p = parts D M t fine in
-        let all = stands-all s t 0 (λ i f h. let z : i ≡ 0 + i = omega arith in subst (λ (k : ℕ). readAt s k ≡ Line k f) z (accepted-reads s D M room t acc i f h)) in
-        stands-reads w s (p .body) 0 0 (subst (Stands s 0) (p .lines) all)
-
-    -- what a reader asks for at the root, where the row numbers of the trace are zero
-    pub root-ready : (rows : List ℕ) → columns * (sites other + 1) ≤ length rows → ((i : ℕ) → i < columns * (sites other + 1) → getD rows i 0 ≡ 0)
-        → Ready w s 0 (sites other) (D - 1) (numbers 0 0 nothing) rows
-    root-ready rows long zeros =
-        record {
-          body = body;
-          reads = root-reads;
-          D = D;
-          d = 1;
-          within = tree .within;
-          depth = omega (arith, fine .least);
-          row-in = omega arith;
-          rows-long = long;
-          ends = omega (arith, length-is D other tree, fine-too .lines-most);
-          work-fits = omega (arith, work-small D other tree M fine-too);
-          load-fits = omega (arith, work-small D other tree M fine-too);
-          rows-fit = λ i l. omega (arith, zeros i l, root-small);
-        }
 
 -- The rows at the end, but for columns 5 and 7: what was zero is the tree's columns, and what stands behind the rows is as
 -- it was.

@@ -5,5 +5,6 @@ pub mod Reads
 pub mod Numbers
 pub mod Gain
 pub mod Item
+pub mod Nested
 pub mod Reader
 pub mod Profiled

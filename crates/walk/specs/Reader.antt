@@ -6,7 +6,7 @@ use mathlib.Core.List.{List, []}
 use lib.ListN.{length, getD}
 use Rattle.chain.specs.Plan.{CostLine}
 use Rattle.trace.specs.Rows.{columns}
-use Rattle.trace.specs.Tree.{Body, size, Within, workOf}
+use Rattle.trace.specs.Tree.{Body, size, workOf}
 use Rattle.trace.specs.Fold.{Chains, run, chainOf}
 use Rattle.weigh.specs.Weighed.{Weigh}
 use Rattle.walk.specs.declared.Open.{Open}
@@ -14,6 +14,7 @@ use Rattle.walk.specs.Reads.{Reads}
 use Rattle.walk.specs.Numbers.{numbers}
 use Rattle.walk.specs.Gain.{gain, mostGain}
 use Rattle.walk.specs.Item.{itemSize, itemWork, itemGain, itemChains}
+use Rattle.walk.specs.Nested.{Nested}
 
 -- The lines of s from line f .at on are those of a body, as weighed by w. Its sites are at most m, at most deep
 -- invocations open inside one another, and whatever number reading it comes to, from the invocation's numbers f and the
@@ -23,7 +24,7 @@ pub record Ready (w : Weigh) (s : List ℕ) (row m deep : ℕ) (f : Open) (rows 
   pub reads : Reads w s (f .at) row body
   pub D : ℕ
   pub d : ℕ
-  pub within : Within m D d body
+  pub nested : Nested m D d body
   pub depth : d + deep ≡ D
   pub row-in : row ≤ m
   pub rows-long : columns * (m + 1) ≤ length rows

@@ -13,7 +13,7 @@ ghost use lib.ListN.{length, getD, set, drop, replicate};
 ghost use Rattle.trace.specs.Column.{Column, slot};
 ghost use Rattle.trace.specs.Fold.{nothing};
 ghost use Rattle.walk.specs.Measure.{cycles, instructions};
-ghost use Rattle.walk.specs.Weight.{weightAt, instructionsAt};
+ghost use Rattle.walk.specs.Weight.{askedLine, asked, weightAt, instructionsAt};
 ghost use Rattle.walk.specs.Gain.{ColumnFits, creditOf, credited, ReturnFits, oneCall, costGain, Returned, Grown};
 ghost use Rattle.walk.specs.Numbers.{numbers, spentN, passedN, laterHeavier, joinedN, calledN, childLonger, spawnedN};
 
@@ -194,16 +194,45 @@ impl Open {
     }
 }
 
-// What a cost line weighs that is directly in an invocation of a row: its value, divided by the row's factor where the
-// row is among the factors.
-pub fn weight_at(trace: &[u8], at: usize, row: usize, factors: &[u64]) -> Cycles
-    ensures { λ r. ⌜ r .0 ≡ weightAt (now (factors .entry)) (now (trace .entry)) at row ⌝ }
+// What a line that is asked heavier weighs more: no total work comes to it.
+pub const MORE: u64 = 18014398509481984;
+// How many numbers ask for a heavier line: a row's each, which are not looked at, and the number of the line.
+pub const ASKED_LINE: usize = 257;
+
+// The numbers that ask for a line to weigh more.
+pub fn ask_heavier(line: usize) -> [u64; ASKED_LINE]
+    ensures { λ r. ⌜ (length r ≡ askedLine) × (getD r 256 0 ≡ line) ⌝ }
 {
-    let v = line::value_at(trace, at) as u64;
-    if row < factors.len() {
-        return Cycles(forecast::share(v, factors[row]));
+    let mut asking = [0u64; ASKED_LINE];
+    asking[ASKED_LINE - 1] = line as u64;
+    asking
+}
+
+// What a value weighs at a line that is directly in an invocation of a row, where something is asked: more where the line
+// is the one asked heavier, else divided by the row's factor.
+fn asked(v: u32, at: usize, row: usize, asking: &[u64]) -> Cycles
+    requires { ⌜ row < length (now asking) ⌝ }
+    ensures { λ r. ⌜ r .0 ≡ asked (now (asking .entry)) at row v ⌝ }
+{
+    if asking.len() == ASKED_LINE {
+        if at as u64 == asking[ASKED_LINE - 1] {
+            return Cycles(v as u64 + MORE);
+        }
+        return Cycles(v as u64);
     }
-    Cycles(v)
+    Cycles(forecast::share(v as u64, asking[row]))
+}
+
+// What a cost line weighs that is directly in an invocation of a row, by what is asked: its value, where the row is not
+// among the numbers.
+pub fn weight_at(trace: &[u8], at: usize, row: usize, asking: &[u64]) -> Cycles
+    ensures { λ r. ⌜ r .0 ≡ weightAt (now (asking .entry)) (now (trace .entry)) at row ⌝ }
+{
+    let v = line::value_at(trace, at);
+    if row < asking.len() {
+        return asked(v, at, row, asking);
+    }
+    Cycles(v as u64)
 }
 
 // The instructions of a cost line: the value of the next line where that is of kind 07, else none.

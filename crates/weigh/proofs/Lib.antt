@@ -3,3 +3,4 @@ pub mod Alike
 pub mod Accepted
 pub mod OneLine
 pub mod Less
+pub mod AnyWeight

@@ -1,6 +1,7 @@
 //! `bench DIR [SAMPLES]`: times the proved engines against the plain one, the script and a pass that only sums the bytes; the
 //! proved writer of folded stacks, the proved forecasts and the proved compactor against plain ones; sites declared on the way
-//! against sites at the start; and traces with instructions behind every cost against the same without.
+//! against sites at the start; traces with instructions behind every cost against the same without; and why lines are not on the
+//! span against plain Rust.
 //!
 //! Writes the traces and `bench.csv` to DIR, tells its progress, and prints the table and the goals. The numbers are
 //! medians of SAMPLES samples (101 if not said; the script's, of 3) of processor time. Each sample goes over all traces and
@@ -10,7 +11,7 @@
 use second::bench::table::{csv, goals, head, Measured};
 use second::bench::timing::{medians, Run};
 use second::bench::traces::{Shape, DEPTH, SHAPES};
-use second::bench::{carrying, compacting, declaring, folding, forecasting};
+use second::bench::{asking, carrying, compacting, declaring, folding, forecasting};
 use second::check::{Lent, Limits};
 use second::library::{proved, Library};
 use second::plain;
@@ -83,6 +84,10 @@ fn measure(folder: &Path, samples: usize) -> Result<(), Box<dyn Error>> {
     println!("{}", carrying::head());
     carried.iter().for_each(|measured| println!("{}", measured.line()));
     println!("{}", carrying::goal(&carried));
+    let answered = asking::measure(library, samples);
+    println!("{}", asking::head());
+    answered.iter().for_each(|measured| println!("{}", measured.line()));
+    println!("{}", asking::goal(&answered));
     Ok(())
 }
 

@@ -1,12 +1,13 @@
 //! `compare [CASES [SEED]] [--every LINES]`: holds the proved library against the second program.
 //!
 //! Compares the traces that the rules name, every trace of up to LINES lines of eight kinds after a site line (6 if not
-//! said), with both engines and the compactor, then CASES generated cases (10,000 if not said) of SEED (1 if not
+//! said), with both engines, the compactor and every line asked, then CASES generated cases (10,000 if not said) of SEED (1 if not
 //! said), and tells its progress. At the first difference it prints the smallest case that shows it and ends with
 //! status 1. With `--stand-in` it needs no library: it holds the second program's own way for long traces against its
 //! way by pairs.
 
 use second::compare::case::Case;
+use second::compare::generate::{KINDS, QUESTIONS};
 use second::compare::{compare, fixed, generate};
 use second::library::{proved, Library, Second};
 use std::env::args;
@@ -70,7 +71,7 @@ impl Asked {
     fn compare(&self, others: &[Named]) -> ExitCode {
         let fixed = fixed::cases();
         let all =
-            fixed.len() as u64 + (0..=self.every).map(|lines| 2 * generate::KINDS.pow(lines)).sum::<u64>() + self.cases;
+            fixed.len() as u64 + (0..=self.every).map(|lines| QUESTIONS * KINDS.pow(lines)).sum::<u64>() + self.cases;
         let every = (0..=self.every).flat_map(generate::every);
         let generated = (0..self.cases).map(|number| generate::case(self.seed, number));
         let mut progress = Progress::new();

@@ -41,6 +41,8 @@ pub enum Question {
     Folded { trace: Vec<u8>, limits: Limits, lists: [Vec<u8>; 2], spare: FoldedSpare },
     /// A trace, for the compactor.
     Compact { trace: Vec<u8>, limits: Limits, spare: CompactSpare },
+    /// A trace and line numbers, each asked by itself why it is not on the span; no rows are lent.
+    Why { trace: Vec<u8>, limits: Limits, lines: Vec<u32>, spare: Spare },
 }
 
 /// How much more than needed is lent to the engines; less than needed where it is negative.
@@ -112,6 +114,7 @@ impl Case {
             Question::ReadSheet { text, rows, count } => lender.read_sheet(library, text, [*rows, *count]),
             Question::Folded { trace, limits, lists, spare } => lender.folded(library, trace, *limits, lists, *spare),
             Question::Compact { trace, limits, spare } => lender.compact(library, trace, *limits, *spare),
+            Question::Why { trace, limits, lines, spare } => lender.why(library, trace, *limits, lines, *spare),
         }
     }
 }
@@ -291,6 +294,23 @@ impl Lender {
         }
         numbers.push(written);
         Outcome { codes: vec![("compactor", code)], bytes: vec![out, lines], numbers }
+    }
+
+    /// What is said of each of some lines, in rooms of its own.
+    fn why(&mut self, library: &dyn Library, trace: &[u8], limits: Limits, lines: &[u32], spare: Spare) -> Outcome {
+        let need = limits.nearest().for_why(trace.len() / CHARS);
+        let mut outcome = Outcome::default();
+        for &line in lines {
+            let mut trace = self.bytes("trace", trace.len()).holding(trace);
+            let mut scratch = self.numbers("scratch", need.scratch.saturating_add_signed(spare.scratch));
+            let mut marks = self.bytes("marks", need.marks.saturating_add_signed(spare.marks));
+            let mut answer = self.numbers("answer", need.answer.saturating_add_signed(spare.answer));
+            let code = library.why(trace.lent(), limits, line, scratch.lent(), marks.lent(), answer.lent());
+            outcome.codes.push(("why", code));
+            outcome.bytes.extend([marks, trace]);
+            outcome.numbers.extend([answer, scratch]);
+        }
+        outcome
     }
 
     fn bytes(&mut self, name: &'static str, length: usize) -> Room<u8> {

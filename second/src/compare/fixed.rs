@@ -1,10 +1,10 @@
 //! The traces that the rules name: the twelve, and the further ones that are to be run and compared; traces whose sites call
 //! themselves; the texts that tell good comma-separated text from any other; the lists that tell a name from none; the
 //! forecast entries that tell a good list from any other; traces whose lines say nothing; costs that move the span; traces
-//! with site lines on the way; traces with 07 lines; and rows with and without calls.
+//! with site lines on the way; traces with 07 lines; rows with and without calls; and lines on the span and off it.
 
 use super::case::{Case, Question, Spare};
-use super::{carried, compacts, forecasts, moves, on_the_way, reports, sheets, stacks};
+use super::{carried, compacts, forecasts, moves, on_the_way, reports, sheets, stacks, whys};
 use crate::check::{Limits, MOST_LINES};
 use crate::refusal::{Ground, Refusal};
 use crate::rows::Cycles;
@@ -227,6 +227,7 @@ pub fn cases() -> Vec<Case> {
         on_the_way::cases(),
         carried::cases(),
         reports::cases(),
+        whys::cases(),
     ];
     traces.chain(asked.into_iter().flatten()).collect()
 }
@@ -246,7 +247,7 @@ pub fn heaviest() -> Trace {
 }
 
 /// A trace of so many lines: two sites, spawned in turn with a cost each and a sync now and then, costs up to the return.
-fn lines(count: usize) -> Trace {
+pub fn lines(count: usize) -> Trace {
     let mut trace = Trace::with_sites(2);
     while trace.lines() + 5 <= count {
         let turn = trace.lines() as u64;

@@ -2,7 +2,7 @@
 
 use super::case::{Case, CompactSpare, Question, Spare};
 use super::rng::Rng;
-use super::{compacts, damage, forecasts, moves, reports, shapes, sheets, sites, stacks};
+use super::{compacts, damage, forecasts, moves, reports, shapes, sheets, sites, stacks, whys};
 use crate::check::Limits;
 use crate::line::{chars, Fields, CHARS, WIDTHS};
 use crate::report::REFUSAL_CHARS;
@@ -22,6 +22,7 @@ pub fn case(seed: u64, number: u64) -> Case {
         12..=17 => forecasts::forecast(&mut rng),
         18..=22 => compacts::write(&mut rng),
         23..=26 => moves::write(&mut rng),
+        27..=29 => whys::write(&mut rng),
         _ => engines(&mut rng),
     };
     Case { question, rubbish: rng.number() }
@@ -30,16 +31,22 @@ pub fn case(seed: u64, number: u64) -> Case {
 /// How many lines `every` tries in each place of a trace.
 pub const KINDS: u64 = 8;
 
+/// How many questions it asks of each trace.
+pub const QUESTIONS: u64 = 3;
+
 /// Every trace that begins with a site line and has so many lines after it, each one of eight: costs of 1 and 2, a sync, a
-/// call, a spawn, a return, the next site line and a 07 line of 3; for the engines and for the compactor.
+/// call, a spawn, a return, the next site line and a 07 line of 3; for the engines, for the compactor, and with every line and
+/// the one past the end asked.
 pub fn every(lines: u32) -> impl Iterator<Item = Case> {
     let of = move |number: u64| {
         let mut trace = Trace::with_sites(1);
         (0..lines).for_each(|place| one_of_eight(&mut trace, number / KINDS.pow(place) % KINDS));
         let trace = trace.chars;
         let compact = Question::Compact { trace: trace.clone(), limits: SMALL, spare: CompactSpare::default() };
-        let engines = Question::Engines { trace, limits: SMALL, spare: Spare::default() };
-        [engines, compact].map(|question| Case { question, rubbish: number })
+        let (asked, spare) = (whys::every_line(&trace), Spare::default());
+        let why = Question::Why { trace: trace.clone(), limits: SMALL, lines: asked, spare };
+        let engines = Question::Engines { trace, limits: SMALL, spare };
+        [engines, compact, why].map(|question| Case { question, rubbish: number })
     };
     (0..KINDS.pow(lines)).flat_map(of)
 }

@@ -11,7 +11,7 @@ use crate::line::{chars, read, Fields, Kind, CHARS};
 use crate::trace::Trace;
 
 /// The greatest value of a cost line.
-const MOST: u64 = 4_294_967_295;
+pub const MOST: u64 = 4_294_967_295;
 
 /// A trace of two sites in the notation of the twelve, one of its costs, counted from 0, with another value, and the span
 /// before and after by hand.
@@ -113,7 +113,7 @@ pub fn write(rng: &mut Rng) -> Question {
 }
 
 /// Gives all costs one small value.
-fn level(rng: &mut Rng, trace: &mut [u8]) {
+pub fn level(rng: &mut Rng, trace: &mut [u8]) {
     let same = chars(&cost_fields(rng.between(1, 3)));
     for (line, _) in costs(trace) {
         trace[line * CHARS..][..CHARS].copy_from_slice(&same);
@@ -121,7 +121,7 @@ fn level(rng: &mut Rng, trace: &mut [u8]) {
 }
 
 /// The numbers of a good trace's costs that are not on its chosen chain.
-fn off_the_chosen_chain(trace: &[u8], costs: &[(usize, u64)]) -> Vec<usize> {
+pub fn off_the_chosen_chain(trace: &[u8], costs: &[(usize, u64)]) -> Vec<usize> {
     let wide = Limits { depth: 64, sites: 255 };
     let profile = Second::by_paths().profile(trace, wide, &wide.for_tables());
     profile.map_or(vec![], |profile| (0..costs.len()).filter(|&cost| profile.marks[costs[cost].0] == 0).collect())

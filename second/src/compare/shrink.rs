@@ -32,7 +32,7 @@ struct Shrinker<D> {
 impl<D: Fn(&Case) -> bool> Shrinker<D> {
     /// Tries every way to make the case smaller once, and tells whether any worked.
     fn pass(&mut self) -> bool {
-        let mut smaller = false;
+        let mut smaller = self.one_line();
         for run in RUNS {
             smaller |= self.leave_out_runs(run);
         }
@@ -61,9 +61,17 @@ impl<D: Fn(&Case) -> bool> Shrinker<D> {
             | Question::Forecast { trace, .. }
             | Question::Moved { trace, .. }
             | Question::Folded { trace, .. }
-            | Question::Compact { trace, .. } => Some(trace),
+            | Question::Compact { trace, .. }
+            | Question::Why { trace, .. } => Some(trace),
             _ => None,
         }
+    }
+
+    /// Asks for one line alone where several are asked and that keeps the difference.
+    fn one_line(&mut self) -> bool {
+        let Question::Why { trace, limits, lines, spare } = self.case.question.clone() else { return false };
+        let of = |line| Question::Why { trace: trace.clone(), limits, lines: vec![line], spare };
+        lines.len() > 1 && lines.iter().any(|&line| self.keep(of(line)))
     }
 
     /// Keeps the case with another trace if it still differs.
@@ -145,8 +153,8 @@ impl<D: Fn(&Case) -> bool> Shrinker<D> {
     }
 }
 
-/// The question with another trace, if it has one. Costs may have been left out before the one that is moved, and it has as
-/// much smaller a number then; or behind it, and it has its own still.
+/// The question with another trace, if it has one. Costs may have been left out before the one that is moved, or lines before
+/// the one that is asked, and it has as much smaller a number then; or behind it, and it has its own still.
 fn with_trace(question: &Question, changed: &[u8]) -> Vec<Question> {
     let (mut with, changed) = (question.clone(), changed.to_vec());
     match &mut with {
@@ -161,6 +169,16 @@ fn with_trace(question: &Question, changed: &[u8]) -> Vec<Question> {
             let (limits, value, spare) = (*limits, *value, *spare);
             let of = |cost| Question::Moved { trace: changed.clone(), limits, cost, value, spare };
             return numbers.into_iter().map(of).collect();
+        }
+        Question::Why { trace, limits, lines, spare } => {
+            let fewer = (trace.len().saturating_sub(changed.len()) / CHARS) as u32;
+            let mut asked: Vec<Vec<u32>> =
+                (0..=fewer.min(2)).map(|n| lines.iter().map(|line| line.saturating_sub(n)).collect()).collect();
+            asked.push(lines.iter().map(|line| line.saturating_sub(fewer)).collect());
+            asked.dedup();
+            let (limits, spare) = (*limits, *spare);
+            let of = |lines| Question::Why { trace: changed.clone(), limits, lines, spare };
+            return asked.into_iter().map(of).collect();
         }
         _ => return vec![],
     }
@@ -311,6 +329,11 @@ fn lower_questions(question: &Question) -> Vec<Question> {
             let lower = lower_limits(*limits).map(|limits| of(limits, *spare));
             let rooms = [CompactSpare { out: 0, ..*spare }, CompactSpare { written: 0, ..*spare }];
             lower.chain(rooms.into_iter().filter(|new| new != spare).map(|spare| of(*limits, spare))).collect()
+        }
+        Question::Why { trace, limits, lines, spare } => {
+            let of = |limits, spare| Question::Why { trace: trace.clone(), limits, lines: lines.clone(), spare };
+            let lower = lower_limits(*limits).map(|limits| of(limits, *spare));
+            lower.chain(lower_spares(*spare).map(|spare| of(*limits, spare))).collect()
         }
     }
 }

@@ -63,6 +63,10 @@ impl Display for Case {
                 writeln!(f, "compact, D = {}, M = {}{spare}", limits.depth, limits.sites)?;
                 told_trace(f, trace)
             }
+            Question::Why { trace, limits, lines, spare } => {
+                writeln!(f, "why, of lines {lines:?}, D = {}, M = {}{spare}", limits.depth, limits.sites)?;
+                told_trace(f, trace)
+            }
         }
     }
 }

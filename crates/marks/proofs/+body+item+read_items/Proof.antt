@@ -6,7 +6,7 @@ use mathlib.Core.Logic.{inl, inr}
 use native.Mathlib.Omega.{arith}
 use lib.ListN.{length, take, drop}
 use borrow.Author.Needs.{needs}
-use Rattle.walk.specs.Weight.{byFactors}
+use Rattle.walk.specs.Weight.{byAsking}
 use Rattle.walk.specs.declared.Open.{Open}
 use Rattle.marks.specs.declared.Zones.{Zones}
 use Rattle.marks.specs.Shown.{allPrefix}
@@ -83,10 +83,10 @@ abbrev item-calls : ℕ → item-lts.Claims
 item-calls t = (weight-at-reads.Asked, weight-at-reads.Learnt, instructions-at-reads.Asked, instructions-at-reads.Learnt, spend-reads′.Asked, spend-reads′.Learnt, spend-reads.Asked, spend-reads.Learnt, join-reads.Asked, join-reads.Learnt, pass-reads.Asked, pass-reads.Learnt, site-at-reads.Asked, site-at-reads.Learnt, credit-of-reads.Asked, credit-of-reads.Learnt, store-reads.Asked, store-reads.Learnt, body-below t, body.Post, load-reads.Asked, load-reads.Learnt, returned-reads.Asked, returned-reads.Learnt, called-reads.Asked, called-reads.Learnt, spawned-reads.Asked, spawned-reads.Learnt)
 
 abbrev Inv-loop : items-lts.InvT-loop
-Inv-loop trace deep t₀ marks₀ rows₀ factors z₀ kind₀ t marks rows z kind = Loop (byFactors factors) trace deep z₀ t₀ marks₀ rows₀ t marks rows z kind
+Inv-loop trace deep t₀ marks₀ rows₀ asking z₀ kind₀ t marks rows z kind = Loop (byAsking asking) trace deep z₀ t₀ marks₀ rows₀ t marks rows z kind
 
 abbrev μ-loop : items-lts.MeasureT-loop
-μ-loop trace deep t₀ marks₀ rows₀ factors z₀ kind₀ t marks rows z kind = 65536 - z .own .at
+μ-loop trace deep t₀ marks₀ rows₀ asking z₀ kind₀ t marks rows z kind = 65536 - z .own .at
 
 module _ (t : ℕ) where
   -- a place of `body`, or what is needed there
@@ -316,14 +316,14 @@ module _ (t : ℕ) where
   -- what is known where a weight and instructions were read
   at-cost : (c : Item item-lts.After-instructions-at) → (
       let w = instructions-weight c in
-      let a = item-start (weight-test w) .args in Costs (byFactors (a .factors .now)) (a .trace .now) (a .deep) (a .z) (a .t .now) (a .marks .now) (a .rows .now) (a .kind) (w .weight-at .result .0) (c .instructions-at .result .0))
+      let a = item-start (weight-test w) .args in Costs (byAsking (a .asking .now)) (a .trace .now) (a .deep) (a .z) (a .t .now) (a .marks .now) (a .rows .now) (a .kind) (w .weight-at .result .0) (c .instructions-at .result .0))
   at-cost c =
       let w = instructions-weight c in
       record { asks = item-start (weight-test w) .pre .1; weight-is = w .weight-at .ensures; instructions-are = c .instructions-at .ensures; cost = w .before .if1 .taken }
 
   -- where a site was read
   at-site : (c : Item item-lts.After-site-at) → (
-      let a = child-start c .args in Calls (byFactors (a .factors .now)) (a .trace .now) (a .deep) (a .z) (a .t .now) (a .marks .now) (a .rows .now) (a .kind) (c .site-at .result))
+      let a = child-start c .args in Calls (byAsking (a .asking .now)) (a .trace .now) (a .deep) (a .z) (a .t .now) (a .marks .now) (a .rows .now) (a .kind) (c .site-at .result))
   at-site c = record { asks = child-start c .pre .1; site-is = c .site-at .ensures; no-cost = c .before .before .before .before .if1 .left; no-sync = c .before .before .before .if2 .left; no-instructions = c .before .before .if3 .left; no-note = c .before .if4 .left }
 
   -- where the invocation is stored

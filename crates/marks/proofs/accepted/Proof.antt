@@ -3,7 +3,7 @@ use Prim.Native.Nat.{ℕ}
 use mathlib.Core.List.{List}
 use Rattle.marks.proofs.Whole.{bounds, rows-in, Blank, credit-asks, body-asks, Read, count-asks, on-asks, promised}
 use Rattle.weigh.specs.Weighed.{Tabled}
-use Rattle.walk.specs.Weight.{byFactors}
+use Rattle.walk.specs.Weight.{byAsking}
 use Rattle.walk.proofs.Weight.{factors-tabled}
 use Rattle.walk.proofs.Zeros.{cleared-all}
 use lib.ListN.{length, length-replicate}
@@ -63,13 +63,13 @@ abbrev column-rows : tie.After-column → List ℕ
 column-rows c = c .column .last .1 .1 .1 .1 .0
 
 -- a cost stays in the table
-tabled : (c : tie.Start) → Tabled (byFactors (c .args .factors .now))
-tabled c = factors-tabled (c .args .factors .now) (c .pre .1)
+tabled : (c : tie.Start) → Tabled (byAsking (c .args .asking .now))
+tabled c = factors-tabled (c .args .asking .now) (c .pre .1)
 
 blank : (c : tie.After-zero2) → Blank (cleared (c .before) .pre .0) (zeros (c .before) .zero .last .0) (c .zero2 .last .0)
 blank c = record { scratch-is = zeros (c .before) .zero .ensures ∙ cleared-all (cleared (c .before) .args .scratch .now); rows-are = c .zero2 .ensures }
 
-read : (c : tie.After-body) → Read (begun (body-credit (c .before)) .pre .0) (byFactors (begun (body-credit (c .before)) .args .factors .now)) (tabled (begun (body-credit (c .before)))) (body-credit (c .before) .credit-of .result) (c .body .result) (root-scratch c) (root-marks c) (root-rows c)
+read : (c : tie.After-body) → Read (begun (body-credit (c .before)) .pre .0) (byAsking (begun (body-credit (c .before)) .args .asking .now)) (tabled (begun (body-credit (c .before)))) (body-credit (c .before) .credit-of .result) (c .body .result) (root-scratch c) (root-marks c) (root-rows c)
 read c =
     let z = credit-zeros (body-credit (c .before) .before) in
     record {
@@ -108,7 +108,7 @@ sub-body : tie.Need-sub-body
 sub-body c = bounds (begun c .pre .0) .0
 
 body-requires : tie.Need-body-requires
-body-requires c κs = let a = begun (body-credit c) in body-asks (a .pre .0) (byFactors (a .args .factors .now)) (tabled a) (blank (credit-zeros (body-credit c .before)))
+body-requires c κs = let a = begun (body-credit c) in body-asks (a .pre .0) (byAsking (a .args .asking .now)) (tabled a) (blank (credit-zeros (body-credit c .before)))
 
 returned-requires : tie.Need-returned-requires
 returned-requires c κs = count-asks _ _ _ (read (returned-body c))

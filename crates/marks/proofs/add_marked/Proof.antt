@@ -30,7 +30,7 @@ added c = c .before .before
 -- the cycles were added: column 5 has the line's weight more
 cycles-are : (c : tie.After-add) → (
     let x = weighed-start (cycles-weighed c) .args in
-    let j = slot (x .row) Column.onSpan in c .add .last .0 ≡ set (x .rows .now) j (getD (x .rows .now) j 0 + weightAt (x .factors .now) (x .trace .now) (x .at) (x .row)))
+    let j = slot (x .row) Column.onSpan in c .add .last .0 ≡ set (x .rows .now) j (getD (x .rows .now) j 0 + weightAt (x .asking .now) (x .trace .now) (x .at) (x .row)))
 cycles-are c =
     let v = cycles-weighed c in
     let x = weighed-start v .args in
@@ -53,7 +53,7 @@ add-requires : tie.Need-add-requires
 add-requires c κs =
     let a = weighed-start c in
     let x = a .args in
-    (a .pre .1 .0 .0, omega (arith, a .pre .1 .0 .1, marked-on (getD (x .marks .now) (x .at) 0) (weightAt (x .factors .now) (x .trace .now) (x .at) (x .row)) (c .before .before .if1 .taken), c .weight-at .ensures))
+    (a .pre .1 .0 .0, omega (arith, a .pre .1 .0 .1, marked-on (getD (x .marks .now) (x .at) 0) (weightAt (x .asking .now) (x .trace .now) (x .at) (x .row)) (c .before .before .if1 .taken), c .weight-at .ensures))
 
 mul-add-instructions : tie.Need-mul-add-instructions
 mul-add-instructions c = search needs
@@ -90,7 +90,7 @@ returns c =
 returns-2 : tie.Need-returns-2
 returns-2 c =
     let x = start (c .before) .args in
-    grown-off (x .rows .now) (x .row) (getD (x .marks .now) (x .at) 0) (weightAt (x .factors .now) (x .trace .now) (x .at) (x .row)) (instructionsAt (x .trace .now) (x .at)) (c .if1 .left)
+    grown-off (x .rows .now) (x .row) (getD (x .marks .now) (x .at) 0) (weightAt (x .asking .now) (x .trace .now) (x .at) (x .row)) (instructionsAt (x .trace .now) (x .at)) (c .if1 .left)
 
 pub add-marked-spec : {M : Type 1} → statement M
 add-marked-spec =

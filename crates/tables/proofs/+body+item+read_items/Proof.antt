@@ -6,7 +6,7 @@ use mathlib.Core.Path.{_∙_}
 use mathlib.Core.Logic.{inl, inr}
 use native.Mathlib.Omega.{arith}
 use borrow.Author.Needs.{needs}
-use Rattle.walk.specs.Weight.{byFactors}
+use Rattle.walk.specs.Weight.{byAsking}
 use Rattle.tables.proofs.Bodies.{begins, Loop, loop-start, loop-asks, Next, loop-less, loop-again, loop-done, body-leaves}
 use Rattle.tables.proofs.Items.{line-fits, blocks-fit, join-asks, sync-leaves, note-leaves, Costs, rows-asks, spend-asks, cost-leaves, Calls, deeper, room, credit-asks, body-asks, Back, back-long, count-asks, called-asks, spawned-asks, call-leaves, spawn-leaves}
 use borrow.Fn.Kinds.{In, Out}
@@ -75,10 +75,10 @@ abbrev item-calls : ℕ → item-lts.Claims
 item-calls t = (weight-at-reads.Asked, weight-at-reads.Learnt, instructions-at-reads.Asked, instructions-at-reads.Learnt, spend-reads′.Asked, spend-reads′.Learnt, spend-reads.Asked, spend-reads.Learnt, join-reads.Asked, join-reads.Learnt, passed-reads.Asked, passed-reads.Learnt, site-at-reads.Asked, site-at-reads.Learnt, child-part-reads.Asked, child-part-reads.Learnt, credit-of-reads.Asked, credit-of-reads.Learnt, body-below t, body.Post, returned-reads.Asked, returned-reads.Learnt, called-reads.Asked, called-reads.Learnt, spawned-reads.Asked, spawned-reads.Learnt)
 
 abbrev Inv-loop : items-lts.InvT-loop
-Inv-loop trace row deep t₀ rows₀ w factors f₀ kind₀ t rows f kind = Loop (byFactors factors) trace row deep f₀ t₀ rows₀ t rows (w + 1) w f kind
+Inv-loop trace row deep t₀ rows₀ w asking f₀ kind₀ t rows f kind = Loop (byAsking asking) trace row deep f₀ t₀ rows₀ t rows (w + 1) w f kind
 
 abbrev μ-loop : items-lts.MeasureT-loop
-μ-loop trace row deep t₀ rows₀ w factors f₀ kind₀ t rows f kind = 65536 - f .at
+μ-loop trace row deep t₀ rows₀ w asking f₀ kind₀ t rows f kind = 65536 - f .at
 
 module _ (t : ℕ) where
   -- a place of `body`, or what is needed there
@@ -263,11 +263,11 @@ module _ (t : ℕ) where
 
   -- what is known where a cost was read, where the child's part is known, and where the child has returned
   at-cost : (c : Item item-lts.After-instructions-at) → (
-      let a = cost-start c .args in Costs (byFactors (a .factors .now)) (a .trace .now) (a .kind) (a .row) (a .deep) (a .f) (a .t .now) (a .rows .now) (a .w + 1) (a .w) (c .before .weight-at .result .0) (c .instructions-at .result .0))
+      let a = cost-start c .args in Costs (byAsking (a .asking .now)) (a .trace .now) (a .kind) (a .row) (a .deep) (a .f) (a .t .now) (a .rows .now) (a .w + 1) (a .w) (c .before .weight-at .result .0) (c .instructions-at .result .0))
   at-cost c = record { asks = cost-start c .pre .1; weight-is = c .before .weight-at .ensures; instructions-are = c .instructions-at .ensures; cost = cost-test c .if1 .taken }
 
   at-part : (c : Item item-lts.After-child-part) → (
-      let a = child-start (c .before) .args in Calls (byFactors (a .factors .now)) (a .trace .now) (a .kind) (a .row) (a .deep) (a .f) (a .t .now) (a .rows .now) (a .w + 1) (a .w) (c .before .site-at .result) (c .child-part .result))
+      let a = child-start (c .before) .args in Calls (byAsking (a .asking .now)) (a .trace .now) (a .kind) (a .row) (a .deep) (a .f) (a .t .now) (a .rows .now) (a .w + 1) (a .w) (c .before .site-at .result) (c .child-part .result))
   at-part c =
       let e = c .before .before in
       record { asks = child-start (c .before) .pre .1; site-is = c .before .site-at .ensures; no-cost = e .before .before .before .if1 .left; no-sync = e .before .before .if2 .left; no-note = e .if4 .left; no-carry = e .before .if3 .left; begins = c .child-part .ensures }

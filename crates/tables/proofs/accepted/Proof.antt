@@ -6,7 +6,7 @@ use lib.ListN.{length}
 use native.Mathlib.Omega.{arith}
 use borrow.Author.Needs.{needs}
 use Rattle.weigh.specs.Weighed.{Tabled}
-use Rattle.walk.specs.Weight.{byFactors}
+use Rattle.walk.specs.Weight.{byAsking}
 use Rattle.walk.proofs.Weight.{factors-tabled}
 use Rattle.walk.proofs.Zeros.{cleared-all}
 use Rattle.tables.proofs.Whole.{limits, rows-room, table-room, Blank, credit-asks, root-asks, Read, root-counts, promised}
@@ -56,13 +56,13 @@ abbrev root-rows : tie.After-body → List ℕ
 root-rows c = c .body .last .1 .1 .1 .1 .1 .0
 
 -- a cost stays in the table
-tabled : (c : tie.Start) → Tabled (byFactors (c .args .factors .now))
-tabled c = factors-tabled (c .args .factors .now) (c .pre .1)
+tabled : (c : tie.Start) → Tabled (byAsking (c .args .asking .now))
+tabled c = factors-tabled (c .args .asking .now) (c .pre .1)
 
 blank : (c : tie.After-zero2) → Blank (cleared (c .before) .pre .0) (zeros (c .before) .zero .last .0) (c .zero2 .last .0)
 blank c = record { scratch-is = zeros (c .before) .zero .ensures ∙ cleared-all (cleared (c .before) .args .scratch .now); rows-are = c .zero2 .ensures }
 
-read : (c : tie.After-body) → Read (begun (c .before) .pre .0) (byFactors (begun (c .before) .args .factors .now)) (tabled (begun (c .before))) (body-credit (c .before) .credit-of .result) (c .body .result) (root-scratch c) (root-rows c)
+read : (c : tie.After-body) → Read (begun (c .before) .pre .0) (byAsking (begun (c .before) .args .asking .now)) (tabled (begun (c .before))) (body-credit (c .before) .credit-of .result) (c .body .result) (root-scratch c) (root-rows c)
 read c =
     let z = body-zeros (body-credit (c .before)) in
     record {
@@ -109,7 +109,7 @@ mul-body : tie.Need-mul-body
 mul-body c = let l = limits (begun c .pre .0) in omega (arith, l .2, l .3)
 
 body-requires : tie.Need-body-requires
-body-requires c κs = root-asks (begun c .pre .0) (byFactors (begun c .args .factors .now)) (tabled (begun c)) (blank (body-zeros (body-credit c)))
+body-requires c κs = root-asks (begun c .pre .0) (byAsking (begun c .args .asking .now)) (tabled (begun c)) (blank (body-zeros (body-credit c)))
 
 returned-requires : tie.Need-returned-requires
 returned-requires c κs = root-counts _ _ _ (read (returned-body c))

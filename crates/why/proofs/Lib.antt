@@ -1,0 +1,11 @@
+pub mod Lines
+pub mod Through
+pub mod Unique
+pub mod Grows
+pub mod Seek
+pub mod Second
+pub mod Whole
+pub mod TwoPasses
+pub mod ExactlyOne
+pub mod Cases
+pub mod Once
