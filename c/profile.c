@@ -1,7 +1,7 @@
-/* profile [-d DEPTH] [-s SITES] [-i] [FILE]: prints the full report of a trace, with -i without the rows of sites that were
- * not called, and on standard error a summary with the chosen chain. Without FILE it reads standard input. The limits are 32
- * and 31 if not said, at most 64 and 255. Ends with status 0 for a report, 1 for a refusal, 2 for wrong usage, 3 where input
- * or output failed. */
+/* profile [-d DEPTH] [-s SITES] [-i] [-f] [FILE]: prints the full report of a trace, with -i without the rows of sites
+ * that were not called, and on standard error a summary with the chosen chain; with -f the trace is one of asyncs and
+ * finishes. Without FILE it reads standard input. The limits are 32 and 31 if not said, at most 64 and 255. Ends with
+ * status 0 for a report, 1 for a refusal, 2 for wrong usage, 3 where input or output failed. */
 #include <errno.h>
 #include <inttypes.h>
 #include <stdio.h>
@@ -18,7 +18,7 @@ static void fail(const char *what) {
 }
 
 static void misuse(const char *word, const char *fault) {
-    fprintf(stderr, "profile: %s: %s\nusage: profile [-d DEPTH] [-s SITES] [-i] [FILE]\n", word, fault);
+    fprintf(stderr, "profile: %s: %s\nusage: profile [-d DEPTH] [-s SITES] [-i] [-f] [FILE]\n", word, fault);
     exit(MISUSED);
 }
 
@@ -63,8 +63,8 @@ static int refuse(uint64_t answer) {
         [NYO_SITE_ORDER] = "site lines are numbered 1, 2, 3 and on",
         [NYO_SITE_LIMIT] = "the site's number is above the site limit: raise it with -s",
         [NYO_PLACE] = "another site has the same file, line and column",
-        [NYO_UNDECLARED] = "the site that is called or spawned has no site line before",
-        [NYO_DEPTH] = "more invocations are open than the depth limit: raise it with -d",
+        [NYO_UNDECLARED] = "the site that is called, spawned or run by async has no site line before",
+        [NYO_DEPTH] = "more invocations and finishes are open than the depth limit: raise it with -d",
         [NYO_UNFINISHED] = "the lines end before the root's return",
         [NYO_STRAY] = "the line before this kind 07 line is no cost line",
     };
@@ -104,7 +104,7 @@ int main(int argc, char **argv) {
     uint64_t depth = 32, sites = 31, answer[NYO_ANSWER];
     const char *name = "standard input";
     FILE *file = stdin;
-    int idle = 1;
+    int idle = 1, finishes = 0;
     for (int i = 1; i < argc; i++) {
         if (!strcmp(argv[i], "-d"))
             depth = limit("-d", argv[i + 1]), i++;
@@ -112,6 +112,8 @@ int main(int argc, char **argv) {
             sites = limit("-s", argv[i + 1]), i++;
         else if (!strcmp(argv[i], "-i"))
             idle = 0;
+        else if (!strcmp(argv[i], "-f"))
+            finishes = 1;
         else if (argv[i][0] == '-')
             misuse(argv[i], "no such flag");
         else if (file != stdin)
@@ -125,8 +127,8 @@ int main(int argc, char **argv) {
     lines = len / NYO_LINE_CHARS;
     uint64_t *scratch = room(NYO_MARKS_SCRATCH(depth), sizeof *scratch), *rows = room(NYO_ROWS(sites), sizeof *rows);
     uint8_t *marks = room(lines, 1);
-    uint64_t given = nyo_marks(trace, len, depth, sites, scratch, NYO_MARKS_SCRATCH(depth), marks, lines, rows,
-                               NYO_ROWS(sites), answer, NYO_ANSWER);
+    uint64_t given = (finishes ? nyo_finish_marks : nyo_marks)(trace, len, depth, sites, scratch, NYO_MARKS_SCRATCH(depth),
+                                                               marks, lines, rows, NYO_ROWS(sites), answer, NYO_ANSWER);
     int status = REPORTED;
     if (given)
         status = refuse(given);

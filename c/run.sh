@@ -52,7 +52,7 @@ tried() {
 for trace in examples/*.trace; do
     shown "${trace#examples/}" >"$wanted"
     case $trace in
-    */refusal-*) tried 1 '^profile: refusal [0-9]*, line [0-9]*: ' "\$profile $trace" ;;
+    */refusal-* | */treesum.trace) tried 1 '^profile: refusal [0-9]*, line [0-9]*: ' "\$profile $trace" ;;
     *) tried 0 '^work [0-9]*, span [0-9]*, ' "\$profile $trace" ;;
     esac
 done
@@ -67,6 +67,29 @@ shown proxy.trace | grep -v '^0008' >"$wanted"
 tried 0 '^work 36140, span 11435, 8 sites' '$profile -i examples/proxy.trace'
 shown case-g.trace >"$wanted"
 tried 0 '^work 22, span 11, 2 sites' '$profile -i examples/case-g.trace'
+
+# Case I with async for spawn: the call joins nothing, so 7 stand beside the 1 and the 2. With a finish around the call
+# they stand before the 2, as in case I. Each family refuses the other's lines.
+async=$out/async.trace finish=$out/finish.trace
+export async finish
+sed 's/^03/12/' examples/case-i.trace >"$async"
+awk 'NR == 3 { print "1300000000000000000000" } { print } NR == 8 { print "0500000000000000000000" }' "$async" >"$finish"
+shown case-i.trace | sed '1s/90000000000000002000000000000000200/70000000000000002000000000000000000/' >"$wanted"
+tried 0 '^work 10, span 7, 2 sites, 10 lines; on the chosen chain: 4$' '$profile -f $async'
+shown case-i.trace >"$wanted"
+tried 0 '^work 10, span 9, 2 sites, 12 lines; on the chosen chain: 5 10$' '$profile -d 4 -f <$finish'
+# the tree sum, against the table of docs/FINISH.md that was worked out by hand
+sed -n 's/^| \([0-9]\) | [^|]* |\([0-9 |]*\)| [0-9.]* % |$/\1 \2/p' docs/FINISH.md | tr -d '|' |
+    while read -r row numbers; do printf '%04x' "$row" && printf '%016x' $numbers 0 0 && echo; done >"$wanted"
+tried 0 '^work 127, span 93, 3 sites, 41 lines; ' '$profile -f examples/treesum.trace'
+echo ff0600000003 >"$wanted"
+tried 1 'refusal 6, line 3: ' '$profile -f examples/case-i.trace'
+tried 1 'refusal 6, line 3: ' '$profile $async'
+echo ff0600000002 >"$wanted"
+tried 1 'refusal 6, line 2: ' '$profile $finish'
+echo ff0c00000004 >"$wanted"
+tried 1 'refusal 12, line 4: ' '$profile -d 3 -f $finish'
+
 echo ff0100000000 >"$wanted"
 tried 1 'refusal 1, line 0: ' '$profile -d 65 examples/case-i.trace'
 tried 1 'refusal 1, line 0: ' '$profile -d 0 examples/case-i.trace'

@@ -75,10 +75,24 @@ static const uint64_t zeros[MOST];
 static Numbers frame, written, scratch, rows, answer;
 static Chars out, marks;
 
-static uint64_t read_line(const uint8_t *line, size_t len, size_t room) {
+/* A family's functions: of the traces that spawn and sync, and of those of asyncs and finishes. */
+typedef struct {
+    uint64_t (*read_line)(const uint8_t *, size_t, uint64_t *, size_t);
+    uint64_t (*write_line)(const uint64_t *, size_t, uint8_t *, size_t, uint64_t *, size_t);
+    uint64_t (*tables)(const uint8_t *, size_t, uint64_t, uint64_t, uint64_t *, size_t, uint64_t *, size_t, uint64_t *, size_t);
+    uint64_t (*marks)(const uint8_t *, size_t, uint64_t, uint64_t, uint64_t *, size_t, uint8_t *, size_t, uint64_t *, size_t,
+                      uint64_t *, size_t);
+} Family;
+
+static const Family spawns = {nyo_read_line, nyo_write_line, nyo_tables, nyo_marks};
+static const Family finishes = {nyo_finish_read_line, nyo_finish_write_line, nyo_finish_tables, nyo_finish_marks};
+
+static uint64_t read_as(Family f, const uint8_t *line, size_t len, size_t room) {
     uint64_t *to = lend_numbers(&frame, room);
-    return nyo_read_line(line, len, to, room);
+    return f.read_line(line, len, to, room);
 }
+
+static uint64_t read_line(const uint8_t *line, size_t len, size_t room) { return read_as(spawns, line, len, room); }
 
 static void lines_are_read(void) {
     CHECK(read_line(TEXT("0100020000001400010009\n"), 5) == 0);
@@ -101,10 +115,14 @@ static void lines_are_read(void) {
 
 static int nothing_written(void) { return chars_unchanged(&out) && numbers_unchanged(&written); }
 
-static uint64_t write_line(const uint64_t *numbers, size_t n, size_t room, size_t count_room) {
+static uint64_t write_as(Family f, const uint64_t *numbers, size_t n, size_t room, size_t count_room) {
     uint8_t *to = lend_chars(&out, room);
     uint64_t *count = lend_numbers(&written, count_room);
-    return nyo_write_line(numbers, n, to, room, count, count_room);
+    return f.write_line(numbers, n, to, room, count, count_room);
+}
+
+static uint64_t write_line(const uint64_t *numbers, size_t n, size_t room, size_t count_room) {
+    return write_as(spawns, numbers, n, room, count_room);
 }
 
 static void lines_are_written(void) {
@@ -298,26 +316,38 @@ typedef struct {
     size_t scratch, rows, answer, marks;
 } Short;
 
-static uint64_t tables(const char *trace, size_t len, uint64_t depth, uint64_t sites, Short less) {
+static uint64_t tables_as(Family f, const char *trace, size_t len, uint64_t depth, uint64_t sites, Short less) {
     size_t s = NYO_TABLES_SCRATCH(depth, sites) - less.scratch, r = NYO_ROWS(sites) - less.rows, a = NYO_ANSWER - less.answer;
     uint64_t *to_scratch = lend_numbers(&scratch, s), *to_rows = lend_numbers(&rows, r), *to_answer = lend_numbers(&answer, a);
-    return nyo_tables((const uint8_t *)trace, len, depth, sites, to_scratch, s, to_rows, r, to_answer, a);
+    return f.tables((const uint8_t *)trace, len, depth, sites, to_scratch, s, to_rows, r, to_answer, a);
 }
 
-static uint64_t marked(const char *trace, size_t len, uint64_t depth, uint64_t sites, Short less) {
+static uint64_t marked_as(Family f, const char *trace, size_t len, uint64_t depth, uint64_t sites, Short less) {
     size_t s = NYO_MARKS_SCRATCH(depth) - less.scratch, r = NYO_ROWS(sites) - less.rows, a = NYO_ANSWER - less.answer;
     size_t m = len / NYO_LINE_CHARS - less.marks;
     uint64_t *to_scratch = lend_numbers(&scratch, s), *to_rows = lend_numbers(&rows, r), *to_answer = lend_numbers(&answer, a);
     uint8_t *to_marks = lend_chars(&marks, m);
-    return nyo_marks((const uint8_t *)trace, len, depth, sites, to_scratch, s, to_marks, m, to_rows, r, to_answer, a);
+    return f.marks((const uint8_t *)trace, len, depth, sites, to_scratch, s, to_marks, m, to_rows, r, to_answer, a);
+}
+
+static uint64_t tables(const char *trace, size_t len, uint64_t depth, uint64_t sites, Short less) {
+    return tables_as(spawns, trace, len, depth, sites, less);
+}
+
+static uint64_t marked(const char *trace, size_t len, uint64_t depth, uint64_t sites, Short less) {
+    return marked_as(spawns, trace, len, depth, sites, less);
 }
 
 static int numbers_kept(void) { return numbers_unchanged(&scratch) && numbers_unchanged(&rows) && numbers_unchanged(&answer); }
 
 /* Both engines refuse alike and change nothing. */
+static int both_refuse_as(Family f, const char *trace, size_t len, uint64_t depth, uint64_t sites, Short less, uint64_t expected) {
+    int kept = tables_as(f, trace, len, depth, sites, less) == expected && numbers_kept();
+    return kept && marked_as(f, trace, len, depth, sites, less) == expected && numbers_kept() && chars_unchanged(&marks);
+}
+
 static int both_refuse(const char *trace, size_t len, uint64_t depth, uint64_t sites, Short less, uint64_t expected) {
-    int kept = tables(trace, len, depth, sites, less) == expected && numbers_kept();
-    return kept && marked(trace, len, depth, sites, less) == expected && numbers_kept() && chars_unchanged(&marks);
+    return both_refuse_as(spawns, trace, len, depth, sites, less, expected);
 }
 
 static int profile_is(const uint64_t *expected_rows, size_t n, const uint64_t *expected_answer) {
@@ -421,6 +451,98 @@ static void stray_instructions_are_refused(void) {
     CHECK(is_refused(COST("00000001") "0700010000000900000000\n" RETURN, 6 + 256 * 1));
     CHECK(is_refused(COST("00000001") CARRY("0000000g") RETURN, 5 + 256 * 1));
     CHECK(is_refused(COST("00000001") CARRY("00000009"), 14 + 256 * 2));
+}
+
+#define ASYNC_1 "1200010000000000000000\n"
+#define ASYNC_2 "1200020000000000000000\n"
+#define FINISH "1300000000000000000000\n"
+
+static void lines_of_finishes_are_read_and_written(void) {
+    const uint64_t async[] = {0x12, 65535, 0, 0, 0}, finish[] = {0x13, 0, 0, 0, 0}, spawn[] = {3, 1, 0, 0, 0}, sync[] = {4, 0, 0, 0, 0};
+    CHECK(read_as(finishes, TEXT("12fFfF0000000000000000\n"), 5) == 0 && numbers_are(&frame, async, 5));
+    CHECK(read_as(finishes, TEXT(FINISH), 7) == 0 && numbers_are(&frame, finish, 5));
+    CHECK(read_as(finishes, TEXT(CALL_1), 5) == 0 && numbers_are(&frame, (const uint64_t[]){2, 1, 0, 0, 0}, 5));
+    CHECK(read_as(finishes, TEXT(MOST_COST), 5) == 0 && numbers_are(&frame, (const uint64_t[]){6, 0, 4294967295, 0, 0}, 5));
+    CHECK(read_as(finishes, TEXT(SPAWN_1), 5) == 6 && numbers_unchanged(&frame));
+    CHECK(read_as(finishes, TEXT(SYNC), 5) == 6 && numbers_unchanged(&frame));
+    CHECK(read_as(finishes, TEXT("1200010000000100000000\n"), 5) == 6 && numbers_unchanged(&frame));
+    CHECK(read_as(finishes, TEXT("1300010000000000000000\n"), 5) == 6 && numbers_unchanged(&frame));
+    CHECK(read_as(finishes, TEXT("1400000000000000000000\n"), 5) == 6 && numbers_unchanged(&frame));
+    CHECK(read_as(finishes, TEXT("1200000000000000000000"), 0) == 2 && numbers_unchanged(&frame));
+    CHECK(read_as(finishes, TEXT("1g00000000000000000000\n"), 4) == 4 && numbers_unchanged(&frame));
+    CHECK(read_as(finishes, TEXT("1g00000000000000000000\n"), 5) == 5 && numbers_unchanged(&frame));
+    CHECK(read_line(TEXT(ASYNC_1), 5) == 6 && read_line(TEXT(FINISH), 5) == 6 && numbers_unchanged(&frame));
+    CHECK(write_as(finishes, async, 5, 23, 1) == 0);
+    CHECK(chars_are(&out, "12ffff0000000000000000\n", 23) && numbers_are(&written, (const uint64_t[]){23}, 1));
+    CHECK(write_as(finishes, finish, 5, 30, 2) == 0);
+    CHECK(chars_are(&out, FINISH, 23) && numbers_are(&written, (const uint64_t[]){23}, 1));
+    CHECK(write_as(finishes, spawn, 5, 23, 1) == 6 && nothing_written());
+    CHECK(write_as(finishes, sync, 5, 23, 1) == 6 && nothing_written());
+    CHECK(write_as(finishes, (const uint64_t[]){0x13, 1, 0, 0, 0}, 5, 23, 1) == 6 && nothing_written());
+    CHECK(write_as(finishes, async, 4, 23, 1) == 4 && nothing_written());
+    CHECK(write_as(finishes, async, 5, 22, 1) == 4 && nothing_written());
+    CHECK(write_as(finishes, async, 5, 23, 0) == 4 && nothing_written());
+    CHECK(write_line(async, 5, 23, 1) == 6 && nothing_written());
+    CHECK(write_line(finish, 5, 23, 1) == 6 && nothing_written());
+}
+
+/* Both engines profile a trace of asyncs and finishes with two sites, depth 4 and room just enough: the rows, total
+ * work and total span, and the lines on the chosen chain, each as one character: 1 or 0. */
+static int finishes_are(const char *trace, const uint64_t *expected_rows, uint64_t work, uint64_t span, const char *marked_lines) {
+    const Short enough = {0, 0, 0, 0};
+    size_t len = strlen(trace), lines = len / NYO_LINE_CHARS;
+    const uint64_t totals[] = {work, span, 2, lines};
+    uint8_t bytes[64] = {0};
+    for (size_t n = 0; n < lines && n < sizeof bytes; n++) bytes[n] = marked_lines[n] == '1';
+    int is = tables_as(finishes, trace, len, 4, 2, enough) == 0 && profile_is(expected_rows, 21, totals);
+    is = is && marked_as(finishes, trace, len, 4, 2, enough) == 0 && profile_is(expected_rows, 21, totals);
+    return is && strlen(marked_lines) == lines && chars_are(&marks, bytes, lines);
+}
+
+static void finishes_are_profiled(void) {
+    /* call 1 {async 2 {7}, 1}, 2: the call joins nothing, and 7 stand beside 1 and 2. */
+    CHECK(finishes_are(SITE_1 SITE_2 CALL_1 ASYNC_2 COST("00000007") RETURN COST("00000001") RETURN COST("00000002") RETURN,
+                       (const uint64_t[]){1, 10, 7, 2, 0, 0, 0, 1, 8, 7, 1, 0, 0, 0, 1, 7, 7, 7, 7, 0, 0}, 10, 7, "0000100000"));
+    /* finish {call 1 {async 2 {7}, 1}}, 2: the finish joins the 7 before the 2. */
+    CHECK(finishes_are(SITE_1 SITE_2 FINISH CALL_1 ASYNC_2 COST("00000007") RETURN COST("00000001") RETURN RETURN COST("00000002")
+                           RETURN,
+                       (const uint64_t[]){1, 10, 9, 2, 2, 0, 0, 1, 8, 7, 1, 0, 0, 0, 1, 7, 7, 7, 7, 0, 0}, 10, 9, "000001000010"));
+    /* call 1 {finish {3, async 2 {5}, 1}, 4}: 3 and 1 are local to row 1, which is called once. */
+    CHECK(finishes_are(SITE_1 SITE_2 CALL_1 FINISH COST("00000003") ASYNC_2 COST("00000005") RETURN COST("00000001") RETURN
+                           COST("00000004") RETURN RETURN,
+                       (const uint64_t[]){1, 13, 12, 0, 0, 0, 0, 1, 13, 12, 8, 7, 0, 0, 1, 5, 5, 5, 5, 0, 0}, 13, 12, "0000101000100"));
+    /* async 1 {4 with 1}, 4 with 1,000: two chains of 4, of which the first is chosen. */
+    CHECK(finishes_are(SITE_1 SITE_2 ASYNC_1 COST("00000004") CARRY("00000001") RETURN COST("00000004") CARRY("000003E8") RETURN,
+                       carried_rows, 8, 4, "000100000"));
+    /* finish {}, 2. */
+    CHECK(finishes_are(SITE_1 SITE_2 FINISH RETURN COST("00000002") RETURN,
+                       (const uint64_t[]){1, 2, 2, 2, 2, 0, 0, 0, 0, 0, 0, 0, 0, 0, 0, 0, 0, 0, 0, 0, 0}, 2, 2, "000010"));
+}
+
+/* Both engines of the family refuse a trace with depth 4, three sites and room enough. */
+static int finishes_refuse(const char *trace, uint64_t expected) {
+    return both_refuse_as(finishes, trace, strlen(trace), 4, 3, (Short){0, 0, 0, 0}, expected);
+}
+
+static void finishes_are_refused(void) {
+    const char nested[] = FINISH FINISH FINISH RETURN RETURN RETURN RETURN;
+    size_t len = sizeof nested - 1;
+    CHECK(finishes_refuse(SITE_1 SPAWN_1 RETURN RETURN, 6 + 256 * 1));
+    CHECK(finishes_refuse(COST("00000001") SYNC RETURN, 6 + 256 * 1));
+    CHECK(is_refused(SITE_1 ASYNC_1 RETURN RETURN, 6 + 256 * 1) && is_refused(FINISH RETURN RETURN, 6));
+    CHECK(finishes_refuse(RETURN FINISH, 7 + 256 * 1));
+    CHECK(finishes_refuse(FINISH CARRY("00000009") RETURN RETURN, 22 + 256 * 1));
+    CHECK(finishes_refuse(FINISH SITE_2 RETURN RETURN, 8 + 256 * 1));
+    CHECK(finishes_refuse(ASYNC_1 SITE_1 RETURN RETURN, 11));
+    CHECK(finishes_refuse(FINISH FINISH FINISH FINISH, 12 + 256 * 3));
+    CHECK(finishes_refuse(FINISH RETURN, 14 + 256 * 2));
+    CHECK(both_refuse_as(finishes, nested, len, 0, 3, (Short){0, 0, 0, 0}, 1));
+    CHECK(both_refuse_as(finishes, nested, len - 1, 4, 3, (Short){1, 0, 0, 0}, 2));
+    CHECK(both_refuse_as(finishes, nested, len, 4, 3, (Short){1, 0, 0, 0}, 4));
+    CHECK(both_refuse_as(finishes, nested, len, 4, 3, (Short){0, 1, 0, 0}, 4));
+    CHECK(both_refuse_as(finishes, nested, len, 4, 3, (Short){0, 0, 1, 0}, 4));
+    CHECK(marked_as(finishes, nested, len, 4, 3, (Short){0, 0, 0, 1}) == 4 && numbers_kept() && chars_unchanged(&marks));
+    CHECK(both_refuse_as(finishes, nested, len, 3, 3, (Short){0, 0, 0, 0}, 12 + 256 * 2));
 }
 
 /* Both engines on a trace with limits 4 and 3 and so many of these entries. */
@@ -709,6 +831,9 @@ int main(void) {
     sites_on_the_way_are_refused();
     instructions_are_profiled();
     stray_instructions_are_refused();
+    lines_of_finishes_are_read_and_written();
+    finishes_are_profiled();
+    finishes_are_refused();
     traces_are_forecast();
     instructions_stay_in_a_forecast();
     forecasts_are_refused();

@@ -1,9 +1,9 @@
 /* A fuzz target over every exported function, for clang's libFuzzer with the address sanitizer.
  *
- * An input is a short program that writes a trace, so that most inputs get past the first checks: its head says the
- * limits and how much room is lent, and each byte after it a line. What is lent lies against a page that cannot be
- * touched, at either end, so that a step outside is a fault in the library's own code too. What comes back is held
- * against what every caller may rely on. */
+ * An input is a short program that writes a trace of each family, so that most inputs get past the first checks: its
+ * head says the limits and how much room is lent, and each byte after it a line. What is lent lies against a page that
+ * cannot be touched, at either end, so that a step outside is a fault in the library's own code too. What comes back is
+ * held against what every caller may rely on. */
 #include <stdint.h>
 #include <stdio.h>
 #include <stdlib.h>
@@ -21,13 +21,25 @@ static void broken(const char *what, int line) {
 }
 
 /* What libFuzzer is to find new: it sees nothing of the library, so kinds of outcome are counted here. */
-__attribute__((section("__libfuzzer_extra_counters"))) static uint8_t seen[4096];
+__attribute__((section("__libfuzzer_extra_counters"))) static uint8_t seen[8192];
 
 static void count(unsigned kind, uint64_t how) {
     unsigned size = 0;
     while (how >>= 1) size++;
     seen[(kind * 64 + size) % sizeof seen] = 1;
 }
+
+/* A family's functions: of the traces that spawn and sync, and of those of asyncs and finishes. */
+typedef struct {
+    uint64_t (*read_line)(const uint8_t *, size_t, uint64_t *, size_t);
+    uint64_t (*write_line)(const uint64_t *, size_t, uint8_t *, size_t, uint64_t *, size_t);
+    uint64_t (*tables)(const uint8_t *, size_t, uint64_t, uint64_t, uint64_t *, size_t, uint64_t *, size_t, uint64_t *, size_t);
+    uint64_t (*marks)(const uint8_t *, size_t, uint64_t, uint64_t, uint64_t *, size_t, uint8_t *, size_t, uint64_t *, size_t,
+                      uint64_t *, size_t);
+} Family;
+
+static const Family spawns = {nyo_read_line, nyo_write_line, nyo_tables, nyo_marks};
+static const Family finishes = {nyo_finish_read_line, nyo_finish_write_line, nyo_finish_tables, nyo_finish_marks};
 
 /* The length of an input's head. */
 enum { HEAD = 48 };
@@ -99,7 +111,7 @@ enum { MOST_CHARS = 1 << 16 };
 typedef struct {
     uint8_t chars[MOST_CHARS + NYO_LINE_CHARS];
     size_t len;
-    unsigned open, sites, alike;
+    unsigned open, sites, alike, finishes;
 } Trace;
 
 static void put_line(Trace *t, const uint64_t *frame) {
@@ -140,10 +152,16 @@ static void put_item(Trace *t, Input *in) {
         break;
     case 2:
     case 3:
-        put_line(t, (const uint64_t[]){what, more < 28 ? more % 8 : next(in), 0, 0, 0});
+        wide = t->finishes && what == 3 ? 0x12 : what;
+        put_line(t, (const uint64_t[]){wide, more < 28 ? more % 8 : next(in), 0, 0, 0});
         t->open++;
         break;
-    case 4: put_line(t, more < 28 ? (const uint64_t[]){4, 0, 0, 0, 0} : (const uint64_t[]){7, 0, more, 0, 0}); break;
+    case 4:
+        if (more >= 28) put_line(t, (const uint64_t[]){7, 0, more, 0, 0});
+        else if (!t->finishes) put_line(t, (const uint64_t[]){4, 0, 0, 0, 0});
+        else if (more % 2 && t->open > 1) put_line(t, (const uint64_t[]){5, 0, 0, 0, 0}), t->open--;
+        else put_line(t, (const uint64_t[]){0x13, 0, 0, 0, 0}), t->open++;
+        break;
     case 5:
         put_line(t, (const uint64_t[]){5, 0, 0, 0, 0});
         t->open -= t->open > 0;
@@ -156,12 +174,12 @@ static void put_item(Trace *t, Input *in) {
     }
 }
 
-/* A trace that mostly ends with its returns; one in four with all costs alike, so that chains tie. */
-static void put_trace(Trace *t, Input *in) {
-    unsigned how = next(in), finish = how % 4;
-    t->len = 0, t->open = 1, t->sites = 0, t->alike = how / 4 % 4 == 0;
+/* A family's trace that mostly ends with its returns; one in four with all costs alike, so that chains tie. */
+static void put_trace(Trace *t, Input *in, int of_finishes) {
+    unsigned how = next(in), closed = how % 4;
+    t->len = 0, t->open = 1, t->sites = 0, t->alike = how / 4 % 4 == 0, t->finishes = of_finishes;
     while (in->at < in->end && t->len < MOST_CHARS) put_item(t, in);
-    for (; finish && t->open > 0; t->open--) put_line(t, (const uint64_t[]){5, 0, 0, 0, 0});
+    for (; closed && t->open > 0; t->open--) put_line(t, (const uint64_t[]){5, 0, 0, 0, 0});
 }
 
 /* ---- lists of names from the input ---- */
@@ -249,10 +267,10 @@ static size_t enough(size_t elements, size_t size, Input *in) {
 static uint8_t small(uint8_t c) { return c >= 'A' && c <= 'F' ? (uint8_t)(c + 'a' - 'A') : c; }
 
 /* A line that is read is written as it stood, in small letters, and a refused one leaves the frame alone. */
-static uint64_t read_and_write(const uint8_t *line, size_t len, Input *in) {
+static uint64_t read_and_write(const Family *f, const uint8_t *line, size_t len, Input *in) {
     Room frame = lend(&of_frame, enough(NYO_FRAME, 8, in), in), out = lend(&of_out, enough(NYO_LINE_CHARS, 1, in), in);
     Room written = lend(&of_written, enough(1, 8, in), in);
-    uint64_t given = nyo_read_line(line, len, numbers(&frame), frame.bytes / 8);
+    uint64_t given = f->read_line(line, len, numbers(&frame), frame.bytes / 8);
     count(1, given);
     if (given) {
         MUST((given == 2) == (len != NYO_LINE_CHARS));
@@ -260,8 +278,7 @@ static uint64_t read_and_write(const uint8_t *line, size_t len, Input *in) {
     } else {
         MUST(kept_from(&frame, 8 * NYO_FRAME));
     }
-    uint64_t back = nyo_write_line(numbers(&frame), frame.bytes / 8, out.at, out.bytes, numbers(&written),
-                                   written.bytes / 8);
+    uint64_t back = f->write_line(numbers(&frame), frame.bytes / 8, out.at, out.bytes, numbers(&written), written.bytes / 8);
     count(2, back);
     if (back) {
         MUST((back == 4 || back == 6) && kept_from(&out, 0) && kept_from(&written, 0));
@@ -463,7 +480,7 @@ static void refused_by_sites(const Room *trace, uint64_t given, uint64_t sites) 
     }
     unsigned long kind = field(at, 0, 2), site = field(at, 2, 4);
     count(39, UINT64_C(1) << number);
-    if (number == NYO_UNDECLARED) MUST((kind == 2 || kind == 3) && (site == 0 || site > declared));
+    if (number == NYO_UNDECLARED) MUST((kind == 2 || kind == 3 || kind == 0x12) && (site == 0 || site > declared));
     else MUST(kind == 1 && (number == NYO_SITE_ORDER) == (site != declared + 1));
     if (number == NYO_SITE_LIMIT) MUST(site > sites);
     if (number == NYO_PLACE) MUST(site <= sites && again);
@@ -562,9 +579,9 @@ typedef struct {
     uint8_t marks[MOST_CHARS / NYO_LINE_CHARS + 1];
 } Given;
 
-/* One engine on a trace with a list, or plainly without one. */
-static void give(Given *g, int marked, const uint8_t *trace, size_t len, uint64_t depth, uint64_t sites, const Entries *list,
-                 Input *in) {
+/* One engine on a family's trace with a list, or plainly without one. */
+static void give_as(const Family *f, Given *g, int marked, const uint8_t *trace, size_t len, uint64_t depth, uint64_t sites,
+                    const Entries *list, Input *in) {
     size_t d = depth > 64 ? 64 : depth, m = sites > 255 ? 255 : sites, lines = len / NYO_LINE_CHARS, n = list ? list->len : 0;
     Room scratch = lend(&of_scratch, enough(marked ? NYO_MARKS_SCRATCH(d) : NYO_TABLES_SCRATCH(d, m), 8, in), in);
     Room rows = lend(&of_rows, enough(NYO_ROWS(m), 8, in), in), answer = lend(&of_answer, enough(NYO_ANSWER, 8, in), in);
@@ -575,8 +592,8 @@ static void give(Given *g, int marked, const uint8_t *trace, size_t len, uint64_
     if (list) memcpy(entries.at, list->at, entries.bytes);
     if (list && marked) g->given = nyo_forecast_marks(trace, len, depth, sites, e, n, s, sl, marks.at, marks.bytes, r, rl, a, al);
     else if (list) g->given = nyo_forecast_tables(trace, len, depth, sites, e, n, s, sl, r, rl, a, al);
-    else if (marked) g->given = nyo_marks(trace, len, depth, sites, s, sl, marks.at, marks.bytes, r, rl, a, al);
-    else g->given = nyo_tables(trace, len, depth, sites, s, sl, r, rl, a, al);
+    else if (marked) g->given = f->marks(trace, len, depth, sites, s, sl, marks.at, marks.bytes, r, rl, a, al);
+    else g->given = f->tables(trace, len, depth, sites, s, sl, r, rl, a, al);
     if (list) MUST(!memcmp(entries.at, list->at, entries.bytes));
     if (g->given) {
         MUST(kept_from(&scratch, 0) && kept_from(&rows, 0) && kept_from(&answer, 0) && kept_from(&marks, 0));
@@ -585,6 +602,11 @@ static void give(Given *g, int marked, const uint8_t *trace, size_t len, uint64_
     MUST(all_zero(&scratch) && kept_from(&scratch, scratch.bytes) && kept_from(&answer, 8 * NYO_ANSWER));
     MUST(a[2] <= m && kept_from(&rows, 8 * NYO_ROWS(a[2])) && kept_from(&marks, marked ? lines : 0));
     memcpy(g->answer, a, sizeof g->answer), memcpy(g->rows, r, 8 * NYO_ROWS(a[2])), memcpy(g->marks, marks.at, marked ? lines : 0);
+}
+
+static void give(Given *g, int marked, const uint8_t *trace, size_t len, uint64_t depth, uint64_t sites, const Entries *list,
+                 Input *in) {
+    give_as(&spawns, g, marked, trace, len, depth, sites, list, in);
 }
 
 static int same_profile(const Given *one, const Given *other, size_t marks) {
@@ -707,7 +729,8 @@ static void marks_add_up(const Room *trace, const uint8_t *marks, const uint64_t
         uint64_t *own = sums + NYO_COLUMNS * open[depth - 1];
         own[NYO_LOCAL] += cost, own[NYO_ON_SPAN] += *marks * cost;
         own[NYO_ILOCAL] += carried(trace, line), own[NYO_ION_SPAN] += *marks * carried(trace, line);
-        if (kind == 2 || kind == 3) open[depth++] = field(line, 2, 4);
+        if (kind == 2 || kind == 3 || kind == 0x12) open[depth++] = field(line, 2, 4);
+        if (kind == 0x13) open[depth] = open[depth - 1], depth++;
         if (kind == 5) depth--;
     }
     for (size_t k = 0; k < NYO_ROWS(sites); k++) MUST(k % NYO_COLUMNS < NYO_LOCAL || sums[k] == rows[k]);
@@ -819,11 +842,95 @@ static void explain(const Room *trace, uint64_t depth, uint64_t sites, Input *in
     explained(trace, &plain, line, marks.at, numbers(&answer), depth, sites);
 }
 
+/* An accepted trace that spawns and syncs as one of asyncs and finishes: async for spawn, and a finish around every
+ * stretch of an invocation between its syncs; whether it is short enough. */
+static int as_finishes(Trace *to, const Room *trace) {
+    static const uint64_t finish[NYO_FRAME] = {0x13, 0, 0, 0, 0}, end[NYO_FRAME] = {5, 0, 0, 0, 0};
+    to->len = 0;
+    put_line(to, finish);
+    for (const uint8_t *line = trace->at; line < trace->at + trace->bytes; line += NYO_LINE_CHARS) {
+        unsigned long kind = field(line, 0, 2);
+        if (to->len + 2 * NYO_LINE_CHARS > MOST_CHARS) return 0;
+        if (kind == 4 || kind == 5) put_line(to, end);
+        if (kind != 4)
+            put_line(to, (const uint64_t[]){kind == 3 ? 0x12 : kind, field(line, 2, 4), field(line, 6, 8), field(line, 14, 4),
+                                            field(line, 18, 4)});
+        if (kind == 2 || kind == 3 || kind == 4) put_line(to, finish);
+    }
+    return 1;
+}
+
+/* Of an accepted trace and of what it is in the other family the engines say the same, but for the lines, and mark the
+ * same costs. */
+static void tied(const Room *trace, uint64_t depth, uint64_t sites) {
+    static Given own, other;
+    static Trace text;
+    Input none = {NULL, NULL};
+    if (2 * depth > NYO_MOST_DEPTH || !as_finishes(&text, trace)) return;
+    give(&own, 1, trace->at, trace->bytes, depth, sites, NULL, &none);
+    for (int marked = 0; marked < 2; marked++) {
+        give_as(&finishes, &other, marked, text.chars, text.len, 2 * depth, sites, NULL, &none);
+        MUST(!other.given && !memcmp(own.answer, other.answer, 3 * sizeof *own.answer));
+        MUST(other.answer[3] == text.len / NYO_LINE_CHARS && !memcmp(own.rows, other.rows, 8 * NYO_ROWS(own.answer[2])));
+    }
+    for (size_t line = 0, n = 0; line < trace->bytes / NYO_LINE_CHARS; line++) {
+        if (!cost_of(trace->at + line * NYO_LINE_CHARS)) continue;
+        while (!cost_of(text.chars + n * NYO_LINE_CHARS)) n++;
+        MUST(own.marks[line] == other.marks[n++]);
+    }
+}
+
+/* The limits that the input says. */
+typedef struct {
+    uint64_t depth, sites;
+} Limits;
+
+static Limits next_limits(Input *in) {
+    unsigned how = next(in);
+    uint64_t depth = how < 16 ? 64 : how < 32 ? next(in) : 1 + next(in) % 8;
+    return (Limits){depth, how % 16 == 0 ? 255 : how % 16 == 1 ? 2 * next(in) : next(in) % 8};
+}
+
+/* Each line of an accepted trace read and written: the marked ones are costs, and add up to the span. */
+static void lines_add_up(const Family *f, const Room *trace, const uint8_t *marks, const uint64_t *answer) {
+    uint64_t marked = 0, all = 0;
+    for (size_t line = 0; line < trace->bytes / NYO_LINE_CHARS; line++) {
+        Input none = {NULL, NULL};
+        uint64_t cost = read_and_write(f, trace->at + line * NYO_LINE_CHARS, NYO_LINE_CHARS, &none);
+        MUST(marks[line] <= (cost > 0));
+        all += cost, marked += marks[line] ? cost : 0;
+    }
+    MUST(all == answer[0] && marked == answer[1]);
+}
+
+/* Both engines on one trace of asyncs and finishes. */
+static void profile_finishes(const Room *trace, Input *in) {
+    static Given tables, marks;
+    Limits most = next_limits(in);
+    give_as(&finishes, &tables, 0, trace->at, trace->bytes, most.depth, most.sites, NULL, in);
+    give_as(&finishes, &marks, 1, trace->at, trace->bytes, most.depth, most.sites, NULL, in);
+    count(64 + NYO_NUMBER(tables.given), NYO_LINE(tables.given));
+    MUST(tables.given == marks.given || tables.given == 4 || marks.given == 4);
+    if (tables.given) {
+        MUST(NYO_NUMBER(tables.given) <= 14 || NYO_NUMBER(tables.given) == NYO_STRAY);
+        refused_by_sites(trace, tables.given, most.sites);
+        refused_as_stray(trace, tables.given);
+    } else {
+        columns_add_up(tables.rows, tables.answer);
+        count(96, tables.answer[0] - tables.answer[1]);
+    }
+    if (marks.given) return;
+    columns_add_up(marks.rows, marks.answer);
+    if (!tables.given) MUST(same_profile(&tables, &marks, 0));
+    marks_add_up(trace, marks.marks, marks.rows, marks.answer[2]);
+    lines_add_up(&finishes, trace, marks.marks, marks.answer);
+}
+
 /* Both engines on one trace, its folded stacks, its forecasts, what is left of it, and why a line is not on its span. */
 static void profile(const Room *trace, Input *lists, Input *asked, Input *in) {
     static uint64_t first_rows[NYO_ROWS(NYO_MOST_SITES)];
-    unsigned limits = next(in);
-    uint64_t depth = limits < 16 ? 64 : limits < 32 ? next(in) : 1 + next(in) % 8, sites = limits % 16 == 0 ? 255 : limits % 16 == 1 ? 2 * next(in) : next(in) % 8;
+    Limits most = next_limits(in);
+    uint64_t depth = most.depth, sites = most.sites;
     size_t d = depth > 64 ? 64 : depth, m = sites > 255 ? 255 : sites, lines = trace->bytes / NYO_LINE_CHARS;
     Room scratch = lend(&of_scratch, enough(NYO_TABLES_SCRATCH(d, m), 8, in), in), rows = lend(&of_rows, enough(NYO_ROWS(m), 8, in), in);
     Room answer = lend(&of_answer, enough(NYO_ANSWER, 8, in), in);
@@ -845,6 +952,7 @@ static void profile(const Room *trace, Input *lists, Input *asked, Input *in) {
         MUST(kept_from(&rows, 8 * NYO_ROWS(first_answer[2])));
         columns_add_up(first_rows, first_answer);
         cycles_alone(trace, depth, sites, first_answer, first_rows);
+        tied(trace, depth, sites);
         count(32, first_answer[0] - first_answer[1]);
         count(33, first_answer[2]);
         for (int full = 0; full < 2; full++) print_report(first_rows, first_answer[2], full, in);
@@ -872,27 +980,34 @@ static void profile(const Room *trace, Input *lists, Input *asked, Input *in) {
     columns_add_up(numbers(&rows), totals);
     if (!first) MUST(!memcmp(totals, first_answer, sizeof first_answer) && !memcmp(rows.at, first_rows, 8 * NYO_ROWS(totals[2])));
     marks_add_up(trace, marks.at, numbers(&rows), totals[2]);
-    uint64_t marked = 0, all = 0;
-    for (size_t line = 0; line < lines; line++) {
-        Input none = {NULL, NULL};
-        uint64_t cost = read_and_write(trace->at + line * NYO_LINE_CHARS, NYO_LINE_CHARS, &none);
-        MUST(marks.at[line] <= (cost > 0));
-        all += cost, marked += marks.at[line] ? cost : 0;
-    }
-    MUST(all == totals[0] && marked == totals[1]);
+    lines_add_up(&spawns, trace, marks.at, totals);
+}
+
+/* The trace of a family that the input writes, in the room of its head. */
+static Room next_trace(Trace *written, Input body, int of_finishes, Input *head) {
+    put_trace(written, &body, of_finishes);
+    Room trace = lend(&of_trace, written->len, head);
+    memcpy(trace.at, written->chars, written->len);
+    return trace;
+}
+
+/* A trace is as it was, and its first line, or mostly that, is read and written. */
+static void over(const Family *f, const Room *trace, const Trace *written, Input *head) {
+    MUST(!memcmp(trace->at, written->chars, written->len));
+    read_and_write(f, trace->at, written->len < NYO_LINE_CHARS || next(head) > 250 ? written->len : NYO_LINE_CHARS, head);
 }
 
 int LLVMFuzzerTestOneInput(const uint8_t *data, size_t size) {
     static Trace written;
     if (!of_trace.first) reserve();
-    Input head = {data, data + (size < HEAD ? size : HEAD)}, body = {head.end, data + size};
-    put_trace(&written, &body);
-    Room trace = lend(&of_trace, written.len, &head);
-    memcpy(trace.at, written.chars, written.len);
+    Input head = {data, data + (size < HEAD ? size : HEAD)}, other = head, body = {head.end, data + size};
+    Room trace = next_trace(&written, body, 0, &head);
     Input lists = {data, data + size}, asked = {data + size / 2, data + size};
     profile(&trace, &lists, &asked, &head);
-    MUST(!memcmp(trace.at, written.chars, written.len));
-    read_and_write(trace.at, written.len < NYO_LINE_CHARS || next(&head) > 250 ? written.len : NYO_LINE_CHARS, &head);
+    over(&spawns, &trace, &written, &head);
+    trace = next_trace(&written, body, 1, &other);
+    profile_finishes(&trace, &other);
+    over(&finishes, &trace, &written, &other);
     uint64_t number = next(&head), line = (uint64_t)next(&head) << (next(&head) % 48);
     print_refusal(number + (next(&head) > 250) * 256, line, &head);
     read_sheet(data, size < MOST_CHARS ? size : MOST_CHARS, NYO_ROWS(next(&head)), &head);

@@ -11,11 +11,20 @@
  *     05    return        none
  *     06    cost          value, at least 1
  *     07    instructions  value, at least 1
+ *     12    async         site
+ *     13    finish        none
  *
- * The root is open from the start, and its return is the last line. A site line may stand anywhere before that; site lines
- * are numbered 1, 2, 3 and on, no two with the same file, line and column, and a call or spawn names a site that an earlier
- * line declares. A kind 07 line stands directly behind a cost line and carries its instructions; a cost without one has none.
- * Costs are cycles, which alone decide work, span and chains; instructions are a measure of their own, never added to them.
+ * Two runtimes write traces, and each kind of trace has its own functions. In the traces of the one a spawned
+ * invocation runs beside what comes behind it until its spawner syncs or returns; they have kinds 01 to 07. In those of
+ * the other an invocation made by async runs beside what comes behind it until the innermost finish around the async
+ * closes; they have kinds 01, 02, 05, 06, 07, 12 and 13, and the functions for them have `finish` in their names. A
+ * line of the other runtime's kinds is refused as 6. Every other function that takes a trace takes one of the first.
+ *
+ * The root is open from the start, and its return is the last line. A site line may stand anywhere before that; site
+ * lines are numbered 1, 2, 3 and on, no two with the same file, line and column, and a call, spawn or async names a
+ * site that an earlier line declares. A kind 07 line stands directly behind a cost line and carries its instructions; a
+ * cost without one has none. Costs are cycles, which alone decide work, span and chains; instructions are a measure of
+ * their own, never added to them.
  *
  * Every function answers 0 where it accepts, and otherwise a refusal: its number + 256 times its line, lines numbered
  * from 0. A refusal changes nothing that was lent. Where several refusals apply, the one with the smallest number is
@@ -109,8 +118,8 @@ enum {
     NYO_SITE_ORDER = 8,    /* a site line not numbered one above the last; the first is 1 */
     NYO_SITE_LIMIT = 9,    /* a site line whose number is above the site limit */
     NYO_PLACE = 10,        /* a place already declared */
-    NYO_UNDECLARED = 11,   /* call or spawn of site 0 or of one that no earlier line declares */
-    NYO_DEPTH = 12,        /* more invocations open than the depth limit */
+    NYO_UNDECLARED = 11,   /* call, spawn or async of site 0 or of one that no earlier line declares */
+    NYO_DEPTH = 12,        /* more invocations and finishes open than the depth limit */
     NYO_UNFINISHED = 14,   /* lines end before the root's return; the line is the number of lines */
     NYO_CSV_RECORD = 15,   /* a record of comma-separated text is not good or is missing; the line is its number, header 0 */
     NYO_CSV_ROOM = 16,     /* output shorter than comma-separated text, or room for fewer rows than it has */
@@ -149,6 +158,19 @@ uint64_t nyo_marks(const uint8_t *trace, size_t trace_len, uint64_t depth, uint6
                    size_t scratch_len, uint8_t *marks, size_t marks_len, uint64_t *rows, size_t rows_len,
                    uint64_t *answer, size_t answer_len);
 
+/* Profile a trace of asyncs and finishes as nyo_tables and nyo_marks do: the same arguments, room, answer, rows, marks
+ * and refusals, in the same order.
+ * The root is a finish; kind 05 closes the innermost open invocation or finish. Two cost lines i < j are parallel
+ * exactly when some async contains i and not j and the nearest finish around that async is open at j: a call joins
+ * nothing, so what a called invocation leaves running goes on beside what comes behind the call. A finish has no row
+ * and is no call: costs directly in it belong to the row around it, and it counts towards the depth. */
+uint64_t nyo_finish_tables(const uint8_t *trace, size_t trace_len, uint64_t depth, uint64_t sites, uint64_t *scratch,
+                           size_t scratch_len, uint64_t *rows, size_t rows_len, uint64_t *answer, size_t answer_len);
+
+uint64_t nyo_finish_marks(const uint8_t *trace, size_t trace_len, uint64_t depth, uint64_t sites, uint64_t *scratch,
+                          size_t scratch_len, uint8_t *marks, size_t marks_len, uint64_t *rows, size_t rows_len,
+                          uint64_t *answer, size_t answer_len);
+
 /* A forecast entry: the costs directly in the invocations of a row are divided by the factor, each rounded up. */
 typedef struct {
     uint64_t row, factor;
@@ -181,6 +203,13 @@ uint64_t nyo_read_line(const uint8_t *line, size_t line_len, uint64_t *frame, si
  * Refusals, each with line 0: 4, then 6 where a field breaks the table. */
 uint64_t nyo_write_line(const uint64_t *frame, size_t frame_len, uint8_t *out, size_t out_len, uint64_t *written,
                         size_t written_len);
+
+/* Read and write a line of a trace of asyncs and finishes: the same with its kinds, in a frame 0x12 for async and 0x13
+ * for finish. */
+uint64_t nyo_finish_read_line(const uint8_t *line, size_t line_len, uint64_t *frame, size_t frame_len);
+
+uint64_t nyo_finish_write_line(const uint64_t *frame, size_t frame_len, uint8_t *out, size_t out_len, uint64_t *written,
+                               size_t written_len);
 
 /* Writes the report of the root and count sites without idle rows: of row 0 and of each row with calls above zero, in order, a
  * line, and into written[0] how many characters they are. A line is its row in 4 digits, its seven numbers in 16 digits each

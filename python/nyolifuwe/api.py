@@ -7,16 +7,18 @@ from array import array
 from typing import Any, Iterator, List, Optional, Sequence, Tuple
 
 from . import library
-from .errors import Refused
+from .errors import Refused, spawns_alone
 from .library import COLUMNS, LINE_CHARS, MOST_DEPTH, MOST_SITES, ask, numbers, written
-from .model import INSTRUCTIONS, SITE, Case, Frame, Place, Profile, Row, Why
+from .model import BASE, INSTRUCTIONS, SITE, Case, Frame, Place, Profile, Row, Why
 
 FOLDED_ROOM_REFUSAL = 18
 
 
-def profile(trace: bytes, *, depth: int = MOST_DEPTH, sites: int = MOST_SITES, engine: str = "marks") -> Profile:
-    """The profile of a trace; the engine "tables" gives the same without marks."""
-    return _profile(f"nyo_{engine}", trace, depth, sites, engine)
+def profile(
+    trace: bytes, *, depth: int = MOST_DEPTH, sites: int = MOST_SITES, engine: str = "marks", family: str = BASE
+) -> Profile:
+    """The profile of a trace of a family, "base" or "finish"; the engine "tables" gives the same without marks."""
+    return _profile(library.function(engine, family), trace, depth, sites, engine)
 
 
 def forecast(
@@ -26,8 +28,10 @@ def forecast(
     depth: int = MOST_DEPTH,
     sites: int = MOST_SITES,
     engine: str = "marks",
+    family: str = BASE,
 ) -> Profile:
     """The profile as it would be if each named row were faster by its factor; entries are rows and factors, ascending."""
+    _spawns_alone("forecast", family)
     return _profile(f"nyo_forecast_{engine}", trace, depth, sites, engine, library.entries(list(entries)))
 
 
@@ -37,6 +41,12 @@ def forecast_span(
     """The span of a forecast, for where many are asked for and no rows are wanted."""
     answer, _, _ = _run("nyo_forecast_marks", trace, depth, sites, "marks", library.entries(list(entries)))
     return int(answer[1])
+
+
+def _spawns_alone(name: str, family: str) -> None:
+    """ValueError unless the family is the one that a function takes."""
+    if library.known(family) != BASE:
+        raise ValueError(spawns_alone(name))
 
 
 def _run(
@@ -60,8 +70,9 @@ def _profile(name: str, trace: bytes, depth: int, sites: int, engine: str, *entr
     return Profile(work, span, count, lines, own, None if marks is None else marks.raw)
 
 
-def why(trace: bytes, line: int, *, depth: int = MOST_DEPTH, sites: int = MOST_SITES) -> Why:
+def why(trace: bytes, line: int, *, depth: int = MOST_DEPTH, sites: int = MOST_SITES, family: str = BASE) -> Why:
     """Why a line is not on the span, and the chain through it; ValueError for a number that 32 bits do not hold."""
+    _spawns_alone("why", family)
     if not 0 <= line <= library.MOST_ASKED:
         raise ValueError("a line number that 32 bits do not hold")
     scratch, answer = numbers(library.scratch_room("marks", depth, sites)), numbers(library.WHY_NUMBERS)
@@ -99,9 +110,9 @@ def kind_at(trace: bytes, line: int) -> int:
     return int(trace[LINE_CHARS * line : LINE_CHARS * line + 2], 16)
 
 
-def line_at(trace: bytes, line: int) -> Frame:
+def line_at(trace: bytes, line: int, family: str = BASE) -> Frame:
     """A line of an accepted trace, taken apart."""
-    return read_line(trace[LINE_CHARS * line : LINE_CHARS * (line + 1)])
+    return read_line(trace[LINE_CHARS * line : LINE_CHARS * (line + 1)], family=family)
 
 
 def carried(trace: bytes, line: int) -> int:
@@ -109,15 +120,23 @@ def carried(trace: bytes, line: int) -> int:
     return line_at(trace, line + 1).value if kind_at(trace, line + 1) == INSTRUCTIONS else 0
 
 
-def compact(trace: bytes, *, depth: int = MOST_DEPTH, sites: int = MOST_SITES) -> bytes:
+def compact(trace: bytes, *, depth: int = MOST_DEPTH, sites: int = MOST_SITES, family: str = BASE) -> bytes:
     """The trace without the lines that say nothing: the same work, span and rows."""
+    _spawns_alone("compact", family)
     return written("nyo_compact", trace, depth, sites, room=len(trace))
 
 
 def folded(
-    trace: bytes, names: bytes, stock: bytes = b"", *, depth: int = MOST_DEPTH, sites: int = MOST_SITES
+    trace: bytes,
+    names: bytes,
+    stock: bytes = b"",
+    *,
+    depth: int = MOST_DEPTH,
+    sites: int = MOST_SITES,
+    family: str = BASE,
 ) -> bytes:
     """A line for each cost of the trace: the names of the open invocations, and the cost."""
+    _spawns_alone("folded", family)
     scratch = numbers(library.in_range(depth, MOST_DEPTH))
     room = 2 * len(trace)
     while True:
@@ -163,15 +182,15 @@ def read_csv(text: bytes) -> List[Row]:
     return _rows(rows, count[0], [None] * (count[0] + 1))
 
 
-def read_line(chars: bytes) -> Frame:
-    """A trace line, its line feed included, taken apart."""
+def read_line(chars: bytes, *, family: str = BASE) -> Frame:
+    """A trace line of a family, its line feed included, taken apart."""
     frame = numbers(library.FRAME_NUMBERS)
-    ask("nyo_read_line", chars, frame)
+    ask(library.function("read_line", family), chars, frame)
     return Frame(*frame)
 
 
-def write_line(frame: Frame) -> bytes:
-    """A trace line put together, its line feed included."""
+def write_line(frame: Frame, *, family: str = BASE) -> bytes:
+    """A trace line of a family put together, its line feed included."""
     room = numbers(library.FRAME_NUMBERS)
     room[:] = [library.within(number) for number in frame]
-    return written("nyo_write_line", room, room=LINE_CHARS)
+    return written(library.function("write_line", family), room, room=LINE_CHARS)

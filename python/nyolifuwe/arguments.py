@@ -3,10 +3,12 @@
 from __future__ import annotations
 
 import argparse
-from typing import Any, Dict
+from typing import Any, Dict, NoReturn, Optional
 
 from . import streams
+from .errors import spawns_alone
 from .library import MOST_DEPTH, MOST_SITES
+from .model import BASE, FINISHES
 from .names import Names
 from .show import FORMATS
 
@@ -42,6 +44,26 @@ def add_limits(parser: argparse.ArgumentParser) -> None:
         parser.add_argument(f"--{name}", type=int, default=most, metavar="LIMIT", help=said)
 
 
+def add_family(parser: argparse.ArgumentParser) -> None:
+    """The family that traces are of."""
+    said = "traces of asyncs and finishes (kinds 12 and 13), not of spawns and syncs"
+    parser.add_argument("--finish", dest="family", action="store_const", const=FINISHES, default=BASE, help=said)
+
+
+def add_spawns_alone(parser: argparse.ArgumentParser) -> None:
+    """The same word for a command that takes one family alone, and says so."""
+    parser.add_argument("--finish", dest="family", action=SpawnsAlone, nargs=0, default=BASE, help=argparse.SUPPRESS)
+
+
+class SpawnsAlone(argparse.Action):
+    """A word that is wrong usage of a command."""
+
+    def __call__(
+        self, parser: argparse.ArgumentParser, args: argparse.Namespace, values: Any, option: Optional[str] = None
+    ) -> NoReturn:
+        parser.error(f"{spawns_alone(parser.prog.rpartition(' ')[2])}: see nyo top --finish")
+
+
 def add_names(parser: argparse.ArgumentParser) -> None:
     """The two lists of names."""
     parser.add_argument("--names", metavar="FILE", help="the project's names, one a line, line 0 for the root")
@@ -63,6 +85,11 @@ def at_least_one(word: str) -> int:
 def limits(args: argparse.Namespace) -> Dict[str, Any]:
     """The limits as the binding takes them."""
     return {"depth": args.depth, "sites": args.sites}
+
+
+def reading(args: argparse.Namespace) -> Dict[str, Any]:
+    """The limits and the family as the binding takes them."""
+    return {**limits(args), "family": args.family}
 
 
 def lists(args: argparse.Namespace) -> Dict[str, bytes]:

@@ -91,7 +91,7 @@ def outcome(args: argparse.Namespace) -> int:
     try:
         return int(args.run(args))
     except Refused as refused:
-        say(told(args.trace, args.text, refused))
+        say(told(args.trace, args.text, refused, args.family))
         return REFUSED
     except Usage as usage:
         say(str(usage))

@@ -12,9 +12,9 @@ from contextlib import contextmanager
 from functools import partial
 from importlib import import_module
 from multiprocessing.connection import wait
-from typing import Any, Callable, Deque, Iterator, List, NamedTuple, Optional, Protocol, Sequence, Tuple, TypeVar
+from typing import Any, Callable, Deque, Iterator, List, NamedTuple, Optional, Protocol, Sequence, TypeVar
 
-from .judge import Outcome, all_judged
+from .judge import File, Outcome, all_judged
 
 # Files that go to a worker at once, and such batches under way for each worker, so that none waits while results are written.
 BATCH, UNDER_WAY = 8, 3
@@ -42,15 +42,15 @@ class Promise(Protocol):
 class Crew(NamedTuple):
     """How a batch of files is given to a worker, and how many workers there are."""
 
-    give: Callable[[Sequence[Tuple[str, str]]], Promise]
+    give: Callable[[Sequence[File]], Promise]
     size: int
 
 
-def outcomes(crew: Crew, known: Sequence[Tuple[str, str]]) -> Iterator[Outcome]:
-    """What comes of each file, given with the digest known of it, in their order."""
+def outcomes(crew: Crew, files: Sequence[File]) -> Iterator[Outcome]:
+    """What comes of each file, in their order."""
     under_way: Deque[Promise] = deque()
-    for first in range(0, len(known), BATCH):
-        under_way.append(crew.give(known[first : first + BATCH]))
+    for first in range(0, len(files), BATCH):
+        under_way.append(crew.give(files[first : first + BATCH]))
         if len(under_way) > UNDER_WAY * crew.size:
             yield from under_way.popleft().result()
     while under_way:

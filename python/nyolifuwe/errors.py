@@ -1,4 +1,4 @@
-"""What goes wrong: a refusal of the library with the card's sentence, and a library that is not there."""
+"""What goes wrong: a refusal with the card's sentence, a library that is not there, a family that is not taken."""
 
 from typing import Dict
 
@@ -74,4 +74,9 @@ class Refused(Exception):
 
 
 class LibraryMissing(OSError):
-    """The shared library is not where it is looked for, or cannot be loaded."""
+    """The shared library is not where it is looked for, or cannot be loaded, or lacks a function."""
+
+
+def spawns_alone(name: str) -> str:
+    """What is said of a function, command or view where traces of asyncs and finishes are asked for."""
+    return f"{name} takes traces of spawns and syncs alone, and none of asyncs and finishes"

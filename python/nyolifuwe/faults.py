@@ -8,12 +8,18 @@ from typing import Iterator, NamedTuple, Optional
 from .api import read_line
 from .errors import Refused
 from .library import LINE_CHARS
-from .model import Frame
+from .model import BASE, FINISHES, Frame
 from .names import printable
 
 ACCEPTED, LENGTH, CHARACTER, TABLE, PLACE, STRAY = 0, 2, 5, 6, 10, 22
 OF_A_LINE = (*range(5, 13), STRAY)
 OF_THE_SITE = (8, 9, 11)
+
+# How a line begins whose kind the other family alone has, and what to try then.
+OTHER = {
+    BASE: ((b"12", b"13"), "it looks like a trace of asyncs and finishes: try --finish"),
+    FINISHES: ((b"03", b"04"), "it looks like a trace of spawns and syncs: leave --finish out"),
+}
 
 # Characters of a line that are shown: a line that is much too long is cut.
 WIDEST = 80
@@ -39,24 +45,35 @@ class Fault(NamedTuple):
     part: Optional[Part]
 
 
-def fault(trace: bytes, refused: Refused) -> Optional[Fault]:
-    """What can be shown of the refusal of a trace; None where it is about no line that is there."""
+def fault(trace: bytes, refused: Refused, family: str) -> Optional[Fault]:
+    """What can be shown of the refusal of a trace of a family; None where it is about no line that is there."""
     if refused.number == LENGTH:
         return wrong_length(trace)
     chars = trace[LINE_CHARS * refused.line : LINE_CHARS * (refused.line + 1)]
     if refused.number not in OF_A_LINE:
         return None
-    return Fault(refused.line, without_end(chars), wrong_part(chars, refused.number))
+    return Fault(refused.line, without_end(chars), wrong_part(chars, refused.number, family))
 
 
-def told(name: str, trace: bytes, refused: Refused) -> str:
+def hint(trace: bytes, refused: Refused, family: str) -> str:
+    """What to try where a trace that was read as one of a family looks like one of the other; otherwise nothing."""
+    starts, other = OTHER[family]
+    return other if refused.number == TABLE and trace.startswith(starts, LINE_CHARS * refused.line) else ""
+
+
+def remedy(trace: bytes, refused: Refused, family: str) -> str:
+    """What to do about the refusal of a trace of a family."""
+    return hint(trace, refused, family) or refused.remedy
+
+
+def told(name: str, trace: bytes, refused: Refused, family: str) -> str:
     """The refusal of a named trace for people, without the last line feed."""
-    return f"{name}: {refused}\n{below(fault(trace, refused), refused)}"[:-1]
+    return f"{name}: {refused}\n{below(fault(trace, refused, family), remedy(trace, refused, family))}"[:-1]
 
 
-def below(found: Optional[Fault], refused: Refused) -> str:
+def below(found: Optional[Fault], to_do: str) -> str:
     """What is shown below a refusal: the line that is wrong, where one is, and what to do."""
-    return f"{marked(found) if found else ''}  what to do: {refused.remedy}\n"
+    return f"{marked(found) if found else ''}  what to do: {to_do}\n"
 
 
 def marked(found: Fault) -> str:
@@ -89,14 +106,14 @@ def wrong_length(trace: bytes) -> Fault:
     return Fault(number, without_end(line), Part(column, 1, note))
 
 
-def wrong_part(chars: bytes, number: int) -> Optional[Part]:
-    """The part of a line that a refusal is about, where one can be named."""
+def wrong_part(chars: bytes, number: int, family: str) -> Optional[Part]:
+    """The part of a line of a family that a refusal is about, where one can be named."""
     if number == CHARACTER:
         column = wrong_character(chars)
         wanted = "line feed" if column == LINE_CHARS - 1 else "digit"
         return Part(column, 1, f"no {wanted}: {printable(chars[column : column + 1])}")
     if number == TABLE:
-        return field(wrong_field(chars))
+        return field(wrong_field(chars, family))
     if number in OF_THE_SITE:
         return field("site")
     if number == PLACE:
@@ -111,10 +128,10 @@ def field(name: str) -> Part:
     return Part(ENDS[name] - DIGITS[name], DIGITS[name], name)
 
 
-def refusal(chars: bytes) -> int:
+def refusal(chars: bytes, family: str = BASE) -> int:
     """The number of the line reader's refusal, ACCEPTED where it gives none."""
     try:
-        read_line(chars)
+        read_line(chars, family=family)
     except Refused as refused:
         return refused.number
     return ACCEPTED
@@ -127,15 +144,15 @@ def wrong_character(chars: bytes) -> int:
     return next(wrong, LINE_CHARS - 1)
 
 
-def wrong_field(chars: bytes) -> str:
-    """The first field of a line with which no good line begins, whatever stands behind it."""
-    return next(name for name in DIGITS if not begins_a_line(chars, name))
+def wrong_field(chars: bytes, family: str) -> str:
+    """The first field of a line with which no good line of a family begins, whatever stands behind it."""
+    return next(name for name in DIGITS if not begins_a_line(chars, name, family))
 
 
-def begins_a_line(chars: bytes, last: str) -> bool:
+def begins_a_line(chars: bytes, last: str, family: str) -> bool:
     """Whether a line's characters up to a field begin some good line, 0 and 1 tried for each field behind it."""
     start = chars[: ENDS[last]]
-    return any(refusal(start + rest + b"\n") == ACCEPTED for rest in endings(last))
+    return any(refusal(start + rest + b"\n", family) == ACCEPTED for rest in endings(last))
 
 
 def endings(last: str) -> Iterator[bytes]:

@@ -5,7 +5,8 @@ from __future__ import annotations
 from typing import Any, List, NamedTuple
 
 from . import api
-from .model import Profile, Row
+from .errors import spawns_alone
+from .model import BASE, Profile, Row
 from .names import Names, unnamed
 from .show import number, percent
 
@@ -13,6 +14,8 @@ HALF = 2
 
 # A row is large where its own cost is at least this much of the work, in percent.
 LARGE = 5
+
+NO_GAINS = f"Gains are left out: {spawns_alone('a forecast')}."
 
 
 class Gain(NamedTuple):
@@ -28,11 +31,19 @@ def faster_span(trace: bytes, profile: Profile, row: Row, factor: int, **limits:
     return api.forecast_span(trace, [(row.row, factor)], **limits) if row.on_span else profile.span
 
 
-def gains(trace: bytes, profile: Profile, **limits: Any) -> List[Gain]:
-    """What each row gains, the largest gain first, then the largest own cost."""
+def gains(trace: bytes, profile: Profile, *, family: str, **limits: Any) -> List[Gain]:
+    """What each row gains, the largest gain first, then the largest own cost; none for a family without forecasts."""
+    if family != BASE:
+        return []
     spans = [faster_span(trace, profile, row, HALF, **limits) for row in profile.rows]
     found = [Gain(row, span, profile.span - span) for row, span in zip(profile.rows, spans)]
     return sorted(found, key=lambda gain: (-gain.gain, -gain.row.local, gain.row.row))
+
+
+def in_order(profile: Profile, ranked: List[Gain]) -> List[Row]:
+    """The rows as they are ranked; without gains the most on the span first, then the largest own cost."""
+    by_span = sorted(profile.rows, key=lambda row: (-row.on_span, -row.local, row.row))
+    return [gain.row for gain in ranked] or by_span
 
 
 def large_and_vain(profile: Profile, ranked: List[Gain]) -> List[Gain]:
@@ -50,6 +61,8 @@ def advice(profile: Profile, ranked: List[Gain], names: Names) -> str:
     """One sentence: what to split or speed up first, and which large row gains nothing."""
     if not profile.span:
         return "There is no cost in this trace."
+    if not ranked:
+        return NO_GAINS
     best, vain = ranked[0], large_and_vain(profile, ranked)
     first = "No row shortens the span when it alone is halved"
     if best.gain:

@@ -7,8 +7,9 @@ from typing import List, NamedTuple, Optional, Sequence, Tuple
 
 from . import api
 from .errors import Refused
+from .faults import hint
 from .library import LINE_CHARS, MOST_LINES
-from .model import Place
+from .model import BASE, Place
 
 MOST_CHARS = LINE_CHARS * MOST_LINES
 PART = 1 << 20
@@ -16,6 +17,14 @@ PART = 1 << 20
 
 # A row as it is stored: its number, its place (None three times for the root), its columns.
 Stored = Tuple[Optional[int], ...]
+
+
+class File(NamedTuple):
+    """A file to be judged, with the digest known of it, and the family that it is read as."""
+
+    path: str
+    known: str
+    family: str
 
 
 class Accepted(NamedTuple):
@@ -29,7 +38,7 @@ class Accepted(NamedTuple):
 
 
 class Refusal(NamedTuple):
-    """The number, line and sentence of a refused one."""
+    """The number, line and sentence of a refused one, and behind it a hint where it looks like the other family's."""
 
     number: int
     line: int
@@ -65,7 +74,7 @@ def contents(path: str) -> Tuple[str, bytes]:
     return digest.hexdigest(), trace
 
 
-def judged(path: str, known: str) -> Outcome:
+def judged(path: str, known: str, family: str = BASE) -> Outcome:
     """What comes of a file, unless its digest is the one that is known of it; a fault of the file is never an error."""
     try:
         digest, trace = contents(path)
@@ -74,13 +83,14 @@ def judged(path: str, known: str) -> Outcome:
     if digest == known:
         return Outcome(path, digest)
     try:
-        profile = api.profile(trace)
+        profile = api.profile(trace, family=family)
     except Refused as refused:
-        return Outcome(path, digest, refusal=Refusal(refused.number, refused.line, refused.sentence))
+        sentence = "; ".join(filter(None, [refused.sentence, hint(trace, refused, family)]))
+        return Outcome(path, digest, refusal=Refusal(refused.number, refused.line, sentence))
     rows = [(row.row, *(row.place or (None,) * len(Place._fields)), *row[2:]) for row in profile.rows]
     return Outcome(path, digest, accepted=Accepted(profile.work, profile.span, profile.sites, profile.lines, rows))
 
 
-def all_judged(files: Sequence[Tuple[str, str]]) -> List[Outcome]:
-    """What comes of each of some files, given with the digest known of it."""
-    return [judged(path, known) for path, known in files]
+def all_judged(files: Sequence[File]) -> List[Outcome]:
+    """What comes of each of some files."""
+    return [judged(*file) for file in files]

@@ -10,7 +10,7 @@ from pathlib import Path
 from typing import Any, Dict, List, Tuple, Union
 
 from .errors import LibraryMissing, Refused
-from .model import Row
+from .model import BASE, FINISHES, Row
 
 MOST_DEPTH, MOST_SITES, MOST_LINES = 64, 255, 65536
 
@@ -66,6 +66,12 @@ PARAMETERS: Dict[str, Tuple[Any, ...]] = {
     "nyo_compact": TRACE + TO_TEXT,
 }
 
+# How the names of a family's functions begin. Those for asyncs and finishes, which a library may lack, take what their
+# siblings take.
+PREFIXES = {BASE: "nyo_", FINISHES: "nyo_finish_"}
+OF_FINISHES = {PREFIXES[FINISHES] + name: f"nyo_{name}" for name in ("tables", "marks", "read_line", "write_line")}
+PARAMETERS.update({name: PARAMETERS[sibling] for name, sibling in OF_FINISHES.items()})
+
 Slice = Union[bytes, "ctypes.Array[Any]"]
 
 
@@ -85,8 +91,9 @@ def loaded() -> ctypes.CDLL:
     try:
         library = ctypes.CDLL(str(path()))
         for name, parameters in PARAMETERS.items():
-            function = getattr(library, name)
-            function.argtypes, function.restype = parameters, c_uint64
+            if name not in OF_FINISHES or hasattr(library, name):
+                function = getattr(library, name)
+                function.argtypes, function.restype = parameters, c_uint64
     except (OSError, AttributeError) as error:
         raise LibraryMissing(f"the library cannot be loaded: {error}") from error
     if not has_columns(library):
@@ -102,6 +109,18 @@ def has_columns(library: ctypes.CDLL) -> bool:
     return not given and out.raw.startswith(header)
 
 
+def known(family: str) -> str:
+    """The family itself; ValueError where there is none of that name."""
+    if family not in PREFIXES:
+        raise ValueError(f"no such family: {family}")
+    return family
+
+
+def function(name: str, family: str) -> str:
+    """The name of a family's function."""
+    return PREFIXES[known(family)] + name
+
+
 def within(number: int) -> int:
     """The number itself where 64 bits hold it, and otherwise their largest, which is outside every range too."""
     return number if 0 <= number < 1 << 64 else (1 << 64) - 1
@@ -112,7 +131,10 @@ def ask(name: str, *lent: Union[int, Slice]) -> None:
     words: List[Any] = []
     for one in lent:
         words += [within(one)] if isinstance(one, int) else [one, len(one)]
-    given = getattr(loaded(), name)(*words)
+    asked = getattr(loaded(), name, None)
+    if asked is None:
+        raise LibraryMissing(f"the library takes no traces of asyncs and finishes: {path()} has no {name}")
+    given = asked(*words)
     if given:
         raise Refused(given & 255, given >> 8)
 

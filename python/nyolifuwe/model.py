@@ -12,6 +12,10 @@ if TYPE_CHECKING:
 
 # The kinds of trace lines.
 SITE, CALL, SPAWN, SYNC, RETURN, COST, INSTRUCTIONS = range(1, 8)
+ASYNC, FINISH = 0x12, 0x13
+
+# The families of traces: of spawns and syncs, and of asyncs and finishes.
+BASE, FINISHES = "base", "finish"
 
 
 class Place(NamedTuple):

@@ -4,10 +4,11 @@ from __future__ import annotations
 
 from html import escape
 from pathlib import Path
-from typing import Any, Dict, Iterator, List, NamedTuple, Sequence
+from typing import Any, Dict, Iterator, List, NamedTuple, Optional, Sequence
 
 from .flame import Box, widest
-from .gains import Gain, advice
+from .errors import spawns_alone
+from .gains import Gain, advice, in_order
 from .model import Profile, Row
 from .names import Names, place_text
 from .show import CYCLES, INSTRUCTIONS, PER_CYCLE, counted, number, parallelism, percent, ratio, totals
@@ -29,6 +30,9 @@ FLAME_SAYS = (
     ' <span class="key chain"></span> is the part of it on the chosen chain, which makes the span,'
     ' and <span class="key rest"></span> the rest. Choose a box to see it larger.'
 )
+
+
+NO_FLAME = f"No flame view is drawn: {spawns_alone('it')}."
 
 
 class Cell(NamedTuple):
@@ -64,7 +68,9 @@ def bar(profile: Profile, gain: Gain, names: Names) -> str:
 
 
 def forecast(profile: Profile, ranked: Sequence[Gain], names: Names) -> Iterator[str]:
-    """The rows that gain most with their own cost halved."""
+    """The rows that gain most with their own cost halved; nothing where gains are left out."""
+    if not ranked:
+        return
     gaining = [gain for gain in ranked if gain.gain]
     vain = sum(not gain.gain and gain.row.local > 0 for gain in ranked)
     yield '<section id="forecast"><h2>If one site were twice as fast</h2>'
@@ -77,18 +83,23 @@ def forecast(profile: Profile, ranked: Sequence[Gain], names: Names) -> Iterator
     yield "</section>"
 
 
-def cells(profile: Profile, gain: Gain, names: Names) -> List[Cell]:
-    """The cells of a row."""
-    name, place = names.of(gain.row), place_text(gain.row.place)
+def cells(profile: Profile, row: Row, gain: Optional[Gain], names: Names) -> List[Cell]:
+    """The cells of a row, with its gain where there is one."""
+    name, place = names.of(row), place_text(row.place)
     beside = f' <span class="place">{place}</span>' if place not in ("", name) else ""
     return [
         Cell("site", name, escape(name) + beside),
-        *number_cells(gain.row, CYCLES),
-        Cell("of span", gain.row.on_span, percent(gain.row.on_span, profile.span)),
-        Cell("if halved", gain.halved, number(gain.halved)),
-        Cell("gain", gain.gain, percent(gain.gain, profile.span)),
-        *(instruction_cells(gain.row) if profile.has_instructions else []),
+        *number_cells(row, CYCLES),
+        Cell("of span", row.on_span, percent(row.on_span, profile.span)),
+        *(gain_cells(profile, gain) if gain else []),
+        *(instruction_cells(row) if profile.has_instructions else []),
     ]
+
+
+def gain_cells(profile: Profile, gain: Gain) -> List[Cell]:
+    """The cells of a row's gain."""
+    halved = Cell("if halved", gain.halved, number(gain.halved))
+    return [halved, Cell("gain", gain.gain, percent(gain.gain, profile.span))]
 
 
 def number_cells(row: Row, columns: Dict[str, str]) -> List[Cell]:
@@ -102,24 +113,25 @@ def instruction_cells(row: Row) -> List[Cell]:
     return [*number_cells(row, INSTRUCTIONS), Cell(PER_CYCLE, per_cycle, ratio(row.ilocal, row.local))]
 
 
-def choices(headings: Sequence[str], idle: int) -> Iterator[str]:
+def choices(headings: Sequence[str], first: str, idle: int) -> Iterator[str]:
     """What can be chosen about the table: its order, for screens too narrow for headings, and whether idle rows are shown."""
     yield '<div class="choices"><label class="order">order by <select id="order">'
     for column, heading in enumerate(headings):
-        yield f'<option value="{column}"{" selected" if heading == "gain" else ""}>{heading}</option>'
+        yield f'<option value="{column}"{" selected" if heading == first else ""}>{heading}</option>'
     hidden = "" if idle else " hidden"
     yield f'</select></label><label{hidden}><input type="checkbox" id="idle"> {counted(idle, "row")} without calls too</label></div>'
 
 
-def table(profile: Profile, ranked: Sequence[Gain], names: Names) -> Iterator[str]:
-    """The rows as a table that can be sorted, largest gain first."""
-    records = [(gain.row, cells(profile, gain, names)) for gain in ranked]
-    headings = [cell.heading for cell in records[0][1]]
+def table(profile: Profile, ranked: List[Gain], names: Names) -> Iterator[str]:
+    """The rows as a table that can be sorted, largest gain first; without gains the most on the span first."""
+    gained = {gain.row.row: gain for gain in ranked}
+    records = [(row, cells(profile, row, gained.get(row.row), names)) for row in in_order(profile, ranked)]
+    headings, first = [cell.heading for cell in records[0][1]], "gain" if ranked else CYCLES["on_span"]
     yield f'<section id="rows"{" class=carrying" if profile.has_instructions else ""}><h2>Every site</h2>'
-    yield from choices(headings, sum(not row.calls for row, _ in records))
+    yield from choices(headings, first, sum(not row.calls for row, _ in records))
     yield "<table><thead><tr>"
     for heading in headings:
-        sort = ' aria-sort="descending"' if heading == "gain" else ""
+        sort = ' aria-sort="descending"' if heading == first else ""
         yield f'<th scope="col"{sort}><button type="button">{heading}</button></th>'
     yield "</tr></thead><tbody>"
     for row, record in records:
@@ -144,8 +156,11 @@ def flame_box(profile: Profile, box: Box) -> str:
     return f'<button type="button" {data} style="{style}" title="{escape(told(profile, box))}">{escape(box.name)}</button>'
 
 
-def flame(profile: Profile, boxes: Sequence[Box]) -> Iterator[str]:
-    """The flame view, root on top, with the chosen chain marked."""
+def flame(profile: Profile, boxes: Optional[Sequence[Box]]) -> Iterator[str]:
+    """The flame view, root on top, with the chosen chain marked; without boxes, that there is none."""
+    if boxes is None:
+        yield f'<section><p class="note" id="no-flame">{NO_FLAME}</p></section>'
+        return
     drawn = widest(boxes, MOST_BOXES)
     rows = 1 + max((box.depth for box in drawn), default=-1)
     first = told(profile, drawn[0]) if drawn else "There is no cost in this trace."
@@ -158,7 +173,7 @@ def flame(profile: Profile, boxes: Sequence[Box]) -> Iterator[str]:
     yield "</section>"
 
 
-def page(title: str, profile: Profile, ranked: List[Gain], boxes: Sequence[Box], names: Names) -> str:
+def page(title: str, profile: Profile, ranked: List[Gain], boxes: Optional[Sequence[Box]], names: Names) -> str:
     """The whole page."""
     parts = [
         '<!doctype html>\n<html lang="en">\n<head><meta charset="utf-8">',

@@ -6,11 +6,11 @@ import os
 import sqlite3
 from contextlib import contextmanager
 from pathlib import Path
-from typing import Dict, Iterator, List, NamedTuple, Optional, Sequence, Union
+from typing import Dict, Iterator, List, NamedTuple, Optional, Sequence, Tuple, Union
 
 from .judge import Accepted, Outcome, Refusal
 from .library import COLUMNS
-from .model import Place
+from .model import BASE, FINISHES, Place
 
 SIGNATURE = b"SQLite format 3\0"
 APPLICATION = 0x4E594F21  # a file with another application_id is not a night
@@ -21,6 +21,7 @@ CREATE TABLE traces (
     trace INTEGER PRIMARY KEY,
     path NOT NULL UNIQUE, -- text, or the bytes of a name that is not UTF-8
     digest TEXT NOT NULL, -- SHA-256 of the file
+    family TEXT NOT NULL, -- {BASE} or {FINISHES}: what it was read as
     verdict INTEGER NOT NULL, -- 0 for accepted, otherwise the refusal's number
     work INTEGER, span INTEGER, sites INTEGER, lines INTEGER -- of an accepted trace
 );
@@ -41,6 +42,10 @@ CREATE TABLE refusals (
     number INTEGER NOT NULL, line INTEGER NOT NULL, sentence TEXT NOT NULL
 );
 """
+
+
+# The path of a trace as it is stored, its digest and its family.
+Key = Tuple[Union[str, bytes], str, str]
 
 
 class StoreFailed(OSError):
@@ -131,39 +136,42 @@ class Night:
     def _check(self, schema: str) -> None:
         """Raises StoreFailed unless the tables are those of a night with these columns."""
         (application,) = self.connection.execute(f"PRAGMA {schema}.application_id").fetchone()
-        columns = [name for _, name, *_ in self.connection.execute(f"PRAGMA {schema}.table_info(rows)")]
-        if application != APPLICATION or columns[5:] != list(COLUMNS):
+        traces, rows = (
+            [name for _, name, *_ in self.connection.execute(f"PRAGMA {schema}.table_info({table})")]
+            for table in ("traces", "rows")
+        )
+        if application != APPLICATION or "family" not in traces or rows[5:] != list(COLUMNS):
             raise StoreFailed("not a night of this version of nyo")
 
-    def digests(self) -> Dict[Union[str, bytes], str]:
-        """The digest of each trace that is stored, by its stored path."""
-        return dict(self.connection.execute("SELECT path, digest FROM traces"))
+    def digests(self, family: str) -> Dict[Union[str, bytes], str]:
+        """The digest of each trace that is stored as one of a family, by its stored path."""
+        return dict(self.connection.execute("SELECT path, digest FROM traces WHERE family = ?", (family,)))
 
-    def write(self, outcome: Outcome) -> None:
+    def write(self, outcome: Outcome, family: str = BASE) -> None:
         """Stores what came of a file in place of what was stored of it: all of it, or nothing where it fails."""
-        path = kept_as(outcome.path)
+        key = (kept_as(outcome.path), outcome.digest, family)
         with self.connection:
-            self.connection.execute("DELETE FROM traces WHERE path = ?", (path,))
+            self.connection.execute("DELETE FROM traces WHERE path = ?", key[:1])
             if outcome.accepted:
-                self._write_accepted(path, outcome.digest, outcome.accepted)
+                self._write_accepted(key, outcome.accepted)
             elif outcome.refusal:
-                self._write_refusal(path, outcome.digest, outcome.refusal)
+                self._write_refusal(key, outcome.refusal)
 
-    def _write_accepted(self, path: Union[str, bytes], digest: str, accepted: Accepted) -> None:
+    def _write_accepted(self, key: Key, accepted: Accepted) -> None:
         """Stores the totals, places and rows of an accepted trace."""
         one = self.connection.execute(
-            "INSERT INTO traces (path, digest, verdict, work, span, sites, lines) VALUES (?, ?, 0, ?, ?, ?, ?)",
-            (path, digest, *accepted[:4]),
+            "INSERT INTO traces (path, digest, family, verdict, work, span, sites, lines) VALUES (?, ?, ?, 0, ?, ?, ?, ?)",
+            (*key, *accepted[:4]),
         )
         places = [row[1:4] for row in accepted.rows if row[0]]
         self.connection.executemany("INSERT OR IGNORE INTO sites VALUES (?, ?, ?)", places)
         rows = [(one.lastrowid, *row) for row in accepted.rows]
         self.connection.executemany(f"INSERT INTO rows VALUES (?, ?, ?, ?, ?{', ?' * len(COLUMNS)})", rows)
 
-    def _write_refusal(self, path: Union[str, bytes], digest: str, refusal: Refusal) -> None:
+    def _write_refusal(self, key: Key, refusal: Refusal) -> None:
         """Stores the refusal of a trace."""
         one = self.connection.execute(
-            "INSERT INTO traces (path, digest, verdict) VALUES (?, ?, ?)", (path, digest, refusal.number)
+            "INSERT INTO traces (path, digest, family, verdict) VALUES (?, ?, ?, ?)", (*key, refusal.number)
         )
         self.connection.execute("INSERT INTO refusals VALUES (?, ?, ?, ?)", (one.lastrowid, *refusal))
 
@@ -185,7 +193,7 @@ class Night:
             self.connection.execute("DELETE FROM main.traces WHERE path IN (SELECT path FROM part.traces)")
             last = self.connection.execute("SELECT coalesce(max(trace), 0) FROM main.traces").fetchone()
             copy = "INSERT INTO main.{0} SELECT trace + ?, {1} FROM part.{0}"
-            self.connection.execute(copy.format("traces", "path, digest, verdict, work, span, sites, lines"), last)
+            self.connection.execute(copy.format("traces", "path, digest, family, verdict, work, span, sites, lines"), last)
             self.connection.execute("INSERT OR IGNORE INTO main.sites SELECT * FROM part.sites")
             self.connection.execute(copy.format("rows", f"row, file, line, column, {', '.join(COLUMNS)}"), last)
             self.connection.execute(copy.format("refusals", "number, line, sentence"), last)
@@ -211,12 +219,12 @@ class Night:
         return [Worst(shown(path), *numbers) for path, *numbers in self.connection.execute(query, (most,))]
 
     def refusals(self) -> List[RefusalCount]:
-        """The refusals by number, each with the first of its traces."""
+        """The refusals by number and sentence, each with the first of its traces."""
         query = "SELECT number, sentence, path, refusals.line FROM refusals JOIN traces USING (trace) ORDER BY number, path"
-        found: Dict[int, RefusalCount] = {}
+        found: Dict[Tuple[int, str], RefusalCount] = {}
         for number, sentence, path, line in self.connection.execute(query):
-            first = found.setdefault(number, RefusalCount(number, sentence, 0, shown(path), line))
-            found[number] = first._replace(traces=first.traces + 1)
+            first = found.setdefault((number, sentence), RefusalCount(number, sentence, 0, shown(path), line))
+            found[number, sentence] = first._replace(traces=first.traces + 1)
         return list(found.values())
 
 

@@ -9,6 +9,7 @@ import os
 import re
 import subprocess
 import sys
+import unittest
 from pathlib import Path
 from typing import Any, Dict, List, NamedTuple, Sequence, Tuple
 from unittest import mock
@@ -16,12 +17,17 @@ from unittest import mock
 from nyolifuwe import library
 from nyolifuwe.cli import main
 from nyolifuwe.errors import REMEDIES
+from nyolifuwe.model import BASE, FINISHES
 
 TOP = Path(__file__).resolve().parent.parent.parent
 EXAMPLES = TOP / "examples"
 NAMED = ["--names", str(EXAMPLES / "proxy.names"), "--stock", str(EXAMPLES / "stock.names")]
 
 GOOD, REFUSED, USAGE, FAILED = 0, 1, 2, 3
+
+# Whether the library takes traces of asyncs and finishes, and what a test that wants it is marked with.
+HAS_FINISHES = all(hasattr(library.loaded(), name) for name in library.OF_FINISHES)
+with_finishes = unittest.skipUnless(HAS_FINISHES, "a library without asyncs and finishes")
 
 
 class Outcome(NamedTuple):
@@ -94,7 +100,8 @@ def line(kind: int, site: int = 0, value: int = 0, file: int = 0, column: int = 
     return f"{kind:02x}{site:04x}{value:08x}{file:04x}{column:04x}\n"
 
 
-RETURN, SYNC = line(5), line(4)
+BARE = {"}": line(5), "sync": line(4), "finish": line(0x13)}
+RETURN, SYNC = BARE["}"], BARE["sync"]
 
 
 def sites(count: int) -> str:
@@ -103,18 +110,18 @@ def sites(count: int) -> str:
 
 
 def event(word: str) -> str:
-    """A word of 01's notation as a line."""
+    """A word of 01's notation, or an async or a finish, as a line."""
+    if word in BARE:
+        return BARE[word]
     kind, _, number = word.rpartition(" ")
-    if number in ("}", "sync"):
-        return RETURN if number == "}" else SYNC
-    if kind in ("call", "spawn"):
-        return line({"call": 2, "spawn": 3}[kind], int(number))
+    if kind in ("call", "spawn", "async"):
+        return line({"call": 2, "spawn": 3, "async": 0x12}[kind], int(number))
     return line(7 if kind else 6, 0, int(number))
 
 
 def events(words: str) -> str:
     """'call 1 {spawn 2 {7}, 1}, 2, carry 9' as lines: braces hold a body, a bare number is a cost, carry is a 07 line."""
-    return "".join(event(word) for word in re.findall(r"(?:call |spawn |carry )?\d+|sync|\}", words))
+    return "".join(event(word) for word in re.findall(r"(?:call |spawn |async |carry )?\d+|sync|finish|\}", words))
 
 
 def trace(words: str, count: int = 2) -> bytes:
@@ -127,8 +134,14 @@ def trace(words: str, count: int = 2) -> bytes:
 CARRYING = "1, carry 4, spawn 1 {10, carry 3}, 2, spawn 2 {9, carry 20}, 1"
 
 
-def accepted_examples() -> Sequence[str]:
-    """The names of the example traces that the largest limits take."""
+def family_of(name: str) -> str:
+    """The family that an example trace is of."""
+    return FINISHES if re.search(rb"^1[23]", example(name), re.M) else BASE
+
+
+def accepted_examples(family: str = BASE) -> Sequence[str]:
+    """The names of a family's example traces that the largest limits take."""
     beyond_the_report_program = ("refusal-09.trace", "refusal-12.trace")
     names = sorted(path.name for path in EXAMPLES.glob("*.trace"))
-    return [name for name in names if not name.startswith("refusal-") or name in beyond_the_report_program]
+    good = [name for name in names if not name.startswith("refusal-") or name in beyond_the_report_program]
+    return [name for name in good if family_of(name) == family]

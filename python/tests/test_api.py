@@ -15,7 +15,21 @@ from nyolifuwe import Case, Frame, LibraryMissing, Place, Refused, Row, api, lib
 from nyolifuwe.errors import REMEDIES, SENTENCES
 from nyolifuwe.model import COST
 
-from .support import CARRYING, EXAMPLES, RETURN, TOP, accepted_examples, event, events, example, line, sites, trace
+from .support import (
+    CARRYING,
+    EXAMPLES,
+    HAS_FINISHES,
+    RETURN,
+    TOP,
+    accepted_examples,
+    event,
+    events,
+    example,
+    family_of,
+    line,
+    sites,
+    trace,
+)
 
 HEADER = (TOP / "include" / "nyolifuwe.h").read_text()
 CARD = (TOP / "docs" / "CARD.md").read_text()
@@ -143,7 +157,7 @@ class TheTexts(unittest.TestCase):
         self.assertIn("case-i.trace", reports)
         for name, report in reports.items():
             with self.subTest(name):
-                rows = nyolifuwe.profile(example(name)).rows
+                rows = nyolifuwe.profile(example(name), family=family_of(name)).rows
                 self.assertEqual(nyolifuwe.report(rows).decode(), report)
                 called = [text for text in report.splitlines(True) if int(text[4:20], 16)]
                 self.assertEqual(nyolifuwe.report(rows, full=False).decode(), "".join(called))
@@ -308,7 +322,8 @@ class TheHeader(unittest.TestCase):
         for name, parameters in re.findall(r"^uint64_t (nyo_\w+)\((.*?)\);", HEADER, re.M | re.S):
             kinds = (re.sub(r"^const |\w+$", "", " ".join(one.split())) for one in parameters.split(","))
             found[name] = tuple(types[kind] for kind in kinds)
-        self.assertEqual(found, library.PARAMETERS)
+        known = library.PARAMETERS.items()
+        self.assertEqual(found, {name: own for name, own in known if HAS_FINISHES or name not in library.OF_FINISHES})
 
     def test_the_numbers_are_those_of_the_header(self) -> None:
         defined = {name: int(value) for name, value in re.findall(r"^#define NYO_(\w+) (\d+)$", HEADER, re.M)}

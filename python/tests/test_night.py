@@ -133,6 +133,15 @@ class Answers(InAFolder):
         self.assertEqual([file.name for file in self.folder.glob("night.db*")], ["night.db"])
         self.formats()
 
+    def test_traces_of_the_current_folder(self) -> None:
+        """A trace in the current folder is shown from there on, and stored with all of its path."""
+        file = self.put("traces/i.trace", example("case-i.trace"))
+        self.put("traces/bad.trace", example("refusal-05.trace"))
+        ran = program(f"cd {self.folder} && $nyo night traces --db night.db --workers 1")
+        shown = [text.split()[-1] for text in ran.out.splitlines() if ".trace" in text]
+        self.assertEqual(shown, ["traces/i.trace", "traces/bad.trace"])
+        self.assertIn((str(file),), query(self.db, "SELECT path FROM traces"))
+
     def formats(self) -> None:
         """The same as JSON and as comma-separated text."""
         ran = self.night("--format", "json")
@@ -306,6 +315,19 @@ class Database(InAFolder):
         before = self.db.read_bytes()
         wanted = (FAILED, "", f"nyo: {self.db}: not a night of this version of nyo\n")
         self.assertEqual((self.night(), self.db.read_bytes()), (wanted, before))
+
+    def test_a_night_without_a_column(self) -> None:
+        """A night that lacks a column is left as it is, and not taken into another."""
+        self.put("a.trace", example("case-i.trace"))
+        for column in ("traces RENAME COLUMN family", "rows RENAME COLUMN ion_span"):
+            self.assertEqual(self.night().status, GOOD)
+            with closing(sqlite3.connect(self.db)) as connection:
+                connection.execute(f"ALTER TABLE {column} TO other")
+            before = self.db.read_bytes()
+            wanted = (FAILED, "", f"nyo: {self.db}: not a night of this version of nyo\n")
+            self.assertEqual((self.night(), self.db.read_bytes()), (wanted, before))
+            self.assertEqual(nyo("night", self.db, "--db", self.folder / "new.db").status, FAILED)
+            self.db.unlink()
 
     def test_no_room(self) -> None:
         """Where the database cannot be written, or standard output not, the status says so."""

@@ -1,9 +1,9 @@
 //! The checks: every refusal in its order, and the shape of what is accepted.
 
-use crate::line::{self, Kind, Line, Place, CHARS};
+use crate::line::{Family, Kind, Line, Place, CHARS};
 use crate::refusal::{Ground, Refusal};
 use crate::rows::COLUMNS;
-use crate::shape::{Invocation, Shape, Start};
+use crate::shape::{Finish, Invocation, Shape, Start};
 use std::collections::HashSet;
 
 /// "At most 65,536 lines."
@@ -67,20 +67,30 @@ impl Lent {
     }
 }
 
-/// The shape of a trace that an engine is lent, or the refusal.
+/// The shape of a trace of the base family that an engine is lent, or the refusal.
 pub fn trace(chars: &[u8], limits: Limits, lent: &Lent) -> Result<Shape, Refusal> {
-    read(chars, limits, |lines| lent.is_short(limits, lines))
+    trace_of(Family::Base, chars, limits, lent)
+}
+
+/// The same of either family.
+pub fn trace_of(family: Family, chars: &[u8], limits: Limits, lent: &Lent) -> Result<Shape, Refusal> {
+    read_of(family, chars, limits, |lines| lent.is_short(limits, lines))
+}
+
+/// The shape of a trace of the base family, or the refusal.
+pub fn read(chars: &[u8], limits: Limits, short: impl Fn(usize) -> bool) -> Result<Shape, Refusal> {
+    read_of(Family::Base, chars, limits, short)
 }
 
 /// The shape of a trace, or the refusal: "Checks 1 to 4 run in that order. Then the first faulty line decides, and
 /// within it the smallest number. 14 comes last." Whether too little is lent for a number of lines, `short` says.
-pub fn read(chars: &[u8], limits: Limits, short: impl Fn(usize) -> bool) -> Result<Shape, Refusal> {
+pub fn read_of(family: Family, chars: &[u8], limits: Limits, short: impl Fn(usize) -> bool) -> Result<Shape, Refusal> {
     let lines = before_lines(chars, limits, short).map_err(|ground| ground.at(0))?;
-    let mut walk = Walk::new(limits);
+    let mut walk = Walk::new(family, limits);
     for (number, chars) in chars.chunks(CHARS).enumerate() {
         walk.step(chars).map_err(|ground| ground.at(number))?;
     }
-    walk.finish().ok_or(Ground::Unfinished.at(lines))
+    walk.whole().ok_or(Ground::Unfinished.at(lines))
 }
 
 /// Checks 1 to 4, and how many lines there are.
@@ -106,37 +116,54 @@ struct Walk {
     limits: Limits,
     shape: Shape,
     places: HashSet<Place>,
-    /// The open invocations, the root first; none after the root's return.
-    open: Vec<usize>,
+    /// The open things, the root first; none after the root's return.
+    open: Vec<Open>,
+}
+
+/// An open thing, by its index in the shape.
+#[derive(Clone, Copy)]
+enum Open {
+    Invocation(usize),
+    Finish(usize),
 }
 
 impl Walk {
     /// "the root is open from the start"
-    fn new(limits: Limits) -> Walk {
+    fn new(family: Family, limits: Limits) -> Walk {
         let root = Invocation { row: 0, start: Start::Root, first: 0, last: 0 };
+        let (invocations, finishes) = (vec![root], vec![]);
         Walk {
             limits,
-            shape: Shape { lines: vec![], sites: 0, invocations: vec![root], directly_in: vec![] },
+            shape: Shape { family, lines: vec![], sites: 0, invocations, finishes, directly_in: vec![] },
             places: HashSet::new(),
-            open: vec![0],
+            open: vec![Open::Invocation(0)],
         }
     }
 
     /// Takes one more line, or gives the smallest number that it is refused with.
     fn step(&mut self, chars: &[u8]) -> Result<(), Ground> {
-        let line = line::read(chars)?;
-        let inside = *self.open.last().ok_or(Ground::AfterEnd)?;
+        let line = self.shape.family.read(chars)?;
+        let inside = self.innermost().ok_or(Ground::AfterEnd)?;
         match line.kind {
             Kind::Instructions => self.instructions()?,
             Kind::Site => self.site(&line)?,
             Kind::Call => self.enter(&line, Start::Called(inside))?,
-            Kind::Spawn => self.enter(&line, Start::Spawned(inside))?,
+            Kind::Spawn | Kind::Async => self.enter(&line, Start::Spawned(inside))?,
+            Kind::Finish => self.finish()?,
             Kind::Sync | Kind::Cost => (),
             Kind::Return => self.leave(),
         }
         self.shape.directly_in.push(inside);
         self.shape.lines.push(line);
         Ok(())
+    }
+
+    /// The innermost open invocation: "Costs directly in a finish belong to the row around it".
+    fn innermost(&self) -> Option<usize> {
+        self.open.iter().rev().find_map(|open| match open {
+            Open::Invocation(own) => Some(*own),
+            Open::Finish(_) => None,
+        })
     }
 
     /// "22 a 07 line not directly after a cost, checked after 7"
@@ -161,29 +188,44 @@ impl Walk {
         Ok(())
     }
 
-    /// Opens the invocation that a call or spawn line begins: "a call or spawn needs its site declared on an earlier line".
+    /// Opens the invocation that a call or spawn line begins: "a call or spawn needs its site declared on an earlier
+    /// line"; "Refusal 11 and column 1 take async as spawn".
     fn enter(&mut self, line: &Line, start: Start) -> Result<(), Ground> {
         if line.site == 0 || line.site > self.shape.sites as u64 {
             return Err(Ground::Undeclared);
         }
-        if self.open.len() as u64 >= self.limits.depth {
-            return Err(Ground::Depth);
-        }
-        let first = self.shape.lines.len() + 1;
-        self.open.push(self.shape.invocations.len());
+        let first = self.open(Open::Invocation(self.shape.invocations.len()))?;
         self.shape.invocations.push(Invocation { row: line.site as usize, start, first, last: first });
         Ok(())
     }
 
-    /// Closes the innermost open invocation.
+    /// Opens a finish.
+    fn finish(&mut self) -> Result<(), Ground> {
+        let first = self.open(Open::Finish(self.shape.finishes.len()))?;
+        self.shape.finishes.push(Finish { first, last: first });
+        Ok(())
+    }
+
+    /// One more open thing, with its first line: "more than D invocations open"; "a finish counts towards D".
+    fn open(&mut self, thing: Open) -> Result<usize, Ground> {
+        if self.open.len() as u64 >= self.limits.depth {
+            return Err(Ground::Depth);
+        }
+        self.open.push(thing);
+        Ok(self.shape.lines.len() + 1)
+    }
+
+    /// "05 closes the innermost open thing."
     fn leave(&mut self) {
-        if let Some(invocation) = self.open.pop() {
-            self.shape.invocations[invocation].last = self.shape.lines.len();
+        match self.open.pop() {
+            Some(Open::Invocation(own)) => self.shape.invocations[own].last = self.shape.lines.len(),
+            Some(Open::Finish(own)) => self.shape.finishes[own].last = self.shape.lines.len(),
+            None => (),
         }
     }
 
     /// The shape, if the root has returned.
-    fn finish(self) -> Option<Shape> {
+    fn whole(self) -> Option<Shape> {
         self.open.is_empty().then_some(self.shape)
     }
 }

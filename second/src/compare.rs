@@ -4,6 +4,7 @@ pub mod carried;
 pub mod case;
 pub mod compacts;
 pub mod damage;
+pub mod finishes;
 pub mod fixed;
 pub mod forecasts;
 pub mod gain;
@@ -19,6 +20,7 @@ pub mod shrink;
 pub mod sites;
 pub mod stacks;
 pub mod tell;
+pub mod tie;
 pub mod whys;
 
 use crate::library::Library;
@@ -44,7 +46,8 @@ pub fn compare(
 ) -> Option<Box<Difference>> {
     let right = case.ask(expected);
     let keeps = |case: &Case, other: &dyn Library| broken(case, other).is_empty();
-    let (name, other) = others.iter().find(|(_, other)| case.ask(*other) != right || !keeps(case, *other))?;
+    let mut known = others.iter().filter(|(_, other)| other.knows(case.family()));
+    let (name, other) = known.find(|(_, other)| case.ask(*other) != right || !keeps(case, *other))?;
     let case = shrink::smallest(case, |case| case.ask(expected) != case.ask(*other) || !keeps(case, *other));
     let (expected, found, broken) = (case.ask(expected), case.ask(*other), broken(&case, *other));
     Some(Box::new(Difference { case, name, expected, found, broken }))
@@ -52,6 +55,6 @@ pub fn compare(
 
 /// The laws of what a case asks that a program does not keep.
 pub fn broken(case: &Case, library: &dyn Library) -> Vec<&'static str> {
-    let of = [gain::broken, moves::broken, reports::broken, instructions::broken, whys::broken];
+    let of = [gain::broken, moves::broken, reports::broken, instructions::broken, whys::broken, tie::broken];
     of.map(|broken| broken(case, library)).concat()
 }

@@ -11,7 +11,7 @@ use crate::folded;
 use crate::forecast::{self, Entry};
 use crate::graph;
 use crate::heaviest::PAIRS_LINES;
-use crate::line::{self, CHARS, WIDTHS};
+use crate::line::{Family, CHARS, WIDTHS};
 use crate::refusal::{Ground, Refusal};
 use crate::report;
 use crate::rows::{marks, profile, Profile, COLUMNS};
@@ -22,11 +22,25 @@ use crate::why::{self, Why};
 /// What both programs can be asked. Slices are lent; an answer is total work, total span, sites and lines, a frame is
 /// kind, site, value, file and column.
 pub trait Library {
-    /// The table engine.
-    fn tables(&self, trace: &[u8], limits: Limits, scratch: &mut [u64], rows: &mut [u64], answer: &mut [u64]) -> u64;
-    /// The marks engine.
+    /// Whether it can be asked of a family.
+    fn knows(&self, _family: Family) -> bool {
+        true
+    }
+    /// The table engine of a family.
+    fn tables(
+        &self,
+        family: Family,
+        trace: &[u8],
+        limits: Limits,
+        scratch: &mut [u64],
+        rows: &mut [u64],
+        answer: &mut [u64],
+    ) -> u64;
+    /// The marks engine of a family.
+    #[allow(clippy::too_many_arguments)]
     fn marks(
         &self,
+        family: Family,
         trace: &[u8],
         limits: Limits,
         scratch: &mut [u64],
@@ -56,10 +70,10 @@ pub trait Library {
         rows: &mut [u64],
         answer: &mut [u64],
     ) -> u64;
-    /// The line reader.
-    fn read_line(&self, line: &[u8], frame: &mut [u64]) -> u64;
-    /// The line writer.
-    fn write_line(&self, frame: &[u64], out: &mut [u8], written: &mut [u64]) -> u64;
+    /// The line reader of a family.
+    fn read_line(&self, family: Family, line: &[u8], frame: &mut [u64]) -> u64;
+    /// The line writer of a family.
+    fn write_line(&self, family: Family, frame: &[u64], out: &mut [u8], written: &mut [u64]) -> u64;
     /// The report writer, which leaves idle rows off.
     fn report(&self, rows: &[u64], count: u64, out: &mut [u8], written: &mut [u64]) -> u64;
     /// The writer of the full report.
@@ -94,6 +108,57 @@ pub trait Library {
     ) -> u64;
 }
 
+/// Which engines are asked: those of a family, or those with forecast entries.
+#[derive(Clone, Copy)]
+pub enum Asked<'a> {
+    Family(Family),
+    Forecast(&'a [Entry]),
+}
+
+impl<'a> Asked<'a> {
+    /// The forecast entries, where it is a forecast.
+    pub fn entries(self) -> Option<&'a [Entry]> {
+        match self {
+            Asked::Family(_) => None,
+            Asked::Forecast(entries) => Some(entries),
+        }
+    }
+
+    /// The table engine.
+    pub fn tables(
+        self,
+        library: &dyn Library,
+        trace: &[u8],
+        limits: Limits,
+        scratch: &mut [u64],
+        rows: &mut [u64],
+        answer: &mut [u64],
+    ) -> u64 {
+        match self {
+            Asked::Family(family) => library.tables(family, trace, limits, scratch, rows, answer),
+            Asked::Forecast(entries) => library.forecast_tables(trace, limits, entries, scratch, rows, answer),
+        }
+    }
+
+    /// The marks engine.
+    #[allow(clippy::too_many_arguments)]
+    pub fn marks(
+        self,
+        library: &dyn Library,
+        trace: &[u8],
+        limits: Limits,
+        scratch: &mut [u64],
+        marks: &mut [u8],
+        rows: &mut [u64],
+        answer: &mut [u64],
+    ) -> u64 {
+        match self {
+            Asked::Family(family) => library.marks(family, trace, limits, scratch, marks, rows, answer),
+            Asked::Forecast(entries) => library.forecast_marks(trace, limits, entries, scratch, marks, rows, answer),
+        }
+    }
+}
+
 /// The second program, with the way in which it looks for chains.
 #[derive(Clone, Copy)]
 pub struct Second {
@@ -113,9 +178,14 @@ impl Second {
         Second { search: graph::search }
     }
 
-    /// The profile of a trace, or its refusal.
+    /// The profile of a trace of the base family, or its refusal.
     pub fn profile(&self, trace: &[u8], limits: Limits, lent: &Lent) -> Result<Profile, Refusal> {
-        let shape = check::trace(trace, limits, lent)?;
+        self.profile_of(Family::Base, trace, limits, lent)
+    }
+
+    /// The profile of a trace, or its refusal.
+    pub fn profile_of(&self, family: Family, trace: &[u8], limits: Limits, lent: &Lent) -> Result<Profile, Refusal> {
+        let shape = check::trace_of(family, trace, limits, lent)?;
         Ok(profile(&shape, &(self.search)(&shape)))
     }
 
@@ -140,13 +210,22 @@ impl Default for Second {
 }
 
 impl Library for Second {
-    fn tables(&self, trace: &[u8], limits: Limits, scratch: &mut [u64], rows: &mut [u64], answer: &mut [u64]) -> u64 {
+    fn tables(
+        &self,
+        family: Family,
+        trace: &[u8],
+        limits: Limits,
+        scratch: &mut [u64],
+        rows: &mut [u64],
+        answer: &mut [u64],
+    ) -> u64 {
         let lent = Lent { scratch: scratch.len(), rows: rows.len(), answer: answer.len(), marks: None };
-        code(self.profile(trace, limits, &lent).map(|profile| fill(&profile, scratch, rows, answer)))
+        code(self.profile_of(family, trace, limits, &lent).map(|profile| fill(&profile, scratch, rows, answer)))
     }
 
     fn marks(
         &self,
+        family: Family,
         trace: &[u8],
         limits: Limits,
         scratch: &mut [u64],
@@ -155,7 +234,7 @@ impl Library for Second {
         answer: &mut [u64],
     ) -> u64 {
         let lent = Lent { scratch: scratch.len(), rows: rows.len(), answer: answer.len(), marks: Some(marks.len()) };
-        code(self.profile(trace, limits, &lent).map(|profile| {
+        code(self.profile_of(family, trace, limits, &lent).map(|profile| {
             fill(&profile, scratch, rows, answer);
             put(marks, &profile.marks);
         }))
@@ -191,18 +270,18 @@ impl Library for Second {
         }))
     }
 
-    fn read_line(&self, line: &[u8], frame: &mut [u64]) -> u64 {
+    fn read_line(&self, family: Family, line: &[u8], frame: &mut [u64]) -> u64 {
         if line.len() == CHARS && frame.len() < WIDTHS.len() {
             return code(Err(Ground::Room.at(0)));
         }
-        at_0(line::read(line).map(|line| put(frame, &line.fields())))
+        at_0(family.read(line).map(|line| put(frame, &line.fields())))
     }
 
-    fn write_line(&self, frame: &[u64], out: &mut [u8], written: &mut [u64]) -> u64 {
+    fn write_line(&self, family: Family, frame: &[u64], out: &mut [u8], written: &mut [u64]) -> u64 {
         let (Some(fields), true, Some(count)) = (frame.first_chunk(), out.len() >= CHARS, written.first_mut()) else {
             return code(Err(Ground::Room.at(0)));
         };
-        at_0(line::write(fields).map(|chars| {
+        at_0(family.write(fields).map(|chars| {
             put(out, &chars);
             *count = chars.len() as u64;
         }))

@@ -12,7 +12,14 @@ pub const WIDTHS: [usize; 5] = [2, 4, 8, 4, 4];
 /// Kind, site, value, file and column as plain numbers, whether or not they keep to the table.
 pub type Fields = [u64; WIDTHS.len()];
 
-/// What a line says happened.
+/// The two families of traces: that of spawn and sync, and its sibling of async and finish.
+#[derive(Clone, Copy, Debug, PartialEq, Eq)]
+pub enum Family {
+    Base,
+    Finishes,
+}
+
+/// What a line says happened, in either family.
 #[derive(Clone, Copy, Debug, PartialEq, Eq)]
 pub enum Kind {
     Site,
@@ -22,6 +29,8 @@ pub enum Kind {
     Return,
     Cost,
     Instructions,
+    Async,
+    Finish,
 }
 
 /// "file, line and column"
@@ -37,6 +46,42 @@ pub struct Line {
     pub column: u64,
 }
 
+impl Family {
+    pub const BOTH: [Family; 2] = [Family::Base, Family::Finishes];
+
+    /// "kinds 12 async (with a site) and 13 finish; kinds 03 and 04 are refused as 6 in it"; 12 and 13 are in the
+    /// other.
+    pub fn has(self, kind: Kind) -> bool {
+        match kind {
+            Kind::Spawn | Kind::Sync => self == Family::Base,
+            Kind::Async | Kind::Finish => self == Family::Finishes,
+            _ => true,
+        }
+    }
+
+    /// The line with these fields, or refusal 6 "where a field breaks the table".
+    pub fn line(self, fields: &Fields) -> Result<Line, Ground> {
+        let [number, rest @ ..] = *fields;
+        let kind = Kind::numbered(number).filter(|kind| self.has(*kind)).ok_or(Ground::Table)?;
+        let keeps = kind.table().iter().zip(&rest).all(|(range, field)| range.contains(field));
+        let [site, value, file, column] = rest;
+        keeps.then_some(Line { kind, site, value, file, column }).ok_or(Ground::Table)
+    }
+
+    /// "The line reader gives refusal 2 unless it is lent exactly 23 characters, then 5, then 6."
+    pub fn read(self, chars: &[u8]) -> Result<Line, Ground> {
+        if chars.len() != CHARS {
+            return Err(Ground::Length);
+        }
+        self.line(&fields_of(chars).ok_or(Ground::Character)?)
+    }
+
+    /// "The line writer takes a frame and gives 23 characters, or refusal 6."
+    pub fn write(self, fields: &Fields) -> Result<Vec<u8>, Ground> {
+        self.line(fields).map(|_| chars(fields))
+    }
+}
+
 impl Kind {
     /// The kind with this number, if there is one.
     pub fn numbered(number: u64) -> Option<Kind> {
@@ -48,6 +93,8 @@ impl Kind {
             5 => Some(Kind::Return),
             6 => Some(Kind::Cost),
             7 => Some(Kind::Instructions),
+            0x12 => Some(Kind::Async),
+            0x13 => Some(Kind::Finish),
             _ => None,
         }
     }
@@ -62,7 +109,19 @@ impl Kind {
             Kind::Return => 5,
             Kind::Cost => 6,
             Kind::Instructions => 7,
+            Kind::Async => 0x12,
+            Kind::Finish => 0x13,
         }
+    }
+
+    /// Whether a line of this kind opens something that a return closes: "05 closes the innermost open thing".
+    pub fn opens(self) -> bool {
+        self.makes() || self == Kind::Finish
+    }
+
+    /// Whether a line of this kind makes an invocation of its site.
+    pub fn makes(self) -> bool {
+        matches!(self, Kind::Call | Kind::Spawn | Kind::Async)
     }
 
     /// What the table lets site, value, file and column be. "Unused fields are zero."
@@ -71,23 +130,14 @@ impl Kind {
         const ANY_SITE: RangeInclusive<u64> = 0..=0xffff;
         match self {
             Kind::Site => [ANY_SITE, 1..=0xffff_ffff, 1..=0xffff, 1..=0xffff],
-            Kind::Call | Kind::Spawn => [ANY_SITE, UNUSED, UNUSED, UNUSED],
-            Kind::Sync | Kind::Return => [UNUSED, UNUSED, UNUSED, UNUSED],
+            Kind::Call | Kind::Spawn | Kind::Async => [ANY_SITE, UNUSED, UNUSED, UNUSED],
+            Kind::Sync | Kind::Return | Kind::Finish => [UNUSED, UNUSED, UNUSED, UNUSED],
             Kind::Cost | Kind::Instructions => [UNUSED, 1..=0xffff_ffff, UNUSED, UNUSED],
         }
     }
 }
 
 impl Line {
-    /// The line with these fields, or refusal 6 "where a field breaks the table".
-    pub fn from_fields(fields: &Fields) -> Result<Line, Ground> {
-        let [number, rest @ ..] = *fields;
-        let kind = Kind::numbered(number).ok_or(Ground::Table)?;
-        let keeps = kind.table().iter().zip(&rest).all(|(range, field)| range.contains(field));
-        let [site, value, file, column] = rest;
-        keeps.then_some(Line { kind, site, value, file, column }).ok_or(Ground::Table)
-    }
-
     /// Kind, site, value, file and column.
     pub fn fields(&self) -> Fields {
         [self.kind.number(), self.site, self.value, self.file, self.column]
@@ -107,17 +157,19 @@ impl Line {
     }
 }
 
-/// "The line reader gives refusal 2 unless it is lent exactly 23 characters, then 5, then 6."
+/// The line reader of the base family.
 pub fn read(chars: &[u8]) -> Result<Line, Ground> {
-    if chars.len() != CHARS {
-        return Err(Ground::Length);
-    }
-    Line::from_fields(&fields_of(chars).ok_or(Ground::Character)?)
+    Family::Base.read(chars)
 }
 
-/// "The line writer takes a frame and gives 23 characters, or refusal 6."
+/// A line of either family.
+pub fn read_any(chars: &[u8]) -> Result<Line, Ground> {
+    Family::Base.read(chars).or_else(|_| Family::Finishes.read(chars))
+}
+
+/// The line writer of the base family.
 pub fn write(fields: &Fields) -> Result<Vec<u8>, Ground> {
-    Line::from_fields(fields).map(|_| chars(fields))
+    Family::Base.write(fields)
 }
 
 /// The characters of fields that are not too wide, whether or not they keep to the table.
@@ -189,6 +241,31 @@ mod tests {
     fn the_last_character_is_a_line_feed() {
         assert_eq!(read(b"05000000000000000000000"), Err(Ground::Character));
         assert_eq!(read(b"050000000000000000000\n\n"), Err(Ground::Character));
+    }
+
+    #[test]
+    fn each_family_has_its_own_kinds() {
+        let kinds = |family: Family| {
+            let good = |kind: &u64| [0, 1].iter().any(|&value| family.write(&[*kind, 0, value, value, value]).is_ok());
+            let cost = |kind: &u64| family.write(&[*kind, 0, 1, 0, 0]).is_ok();
+            (0..256).filter(|kind| good(kind) || cost(kind)).collect::<Vec<u64>>()
+        };
+        assert_eq!(kinds(Family::Base), [1, 2, 3, 4, 5, 6, 7]);
+        assert_eq!(kinds(Family::Finishes), [1, 2, 5, 6, 7, 0x12, 0x13]);
+    }
+
+    #[test]
+    fn an_async_has_a_site_and_a_finish_has_nothing() {
+        let family = Family::Finishes;
+        assert_eq!(family.read(b"120002000000000000000A\n"), Err(Ground::Table));
+        assert_eq!(family.read(b"1200020000000000000000\n").map(|line| line.fields()), Ok([0x12, 2, 0, 0, 0]));
+        assert_eq!(family.read(b"1300000000000000000000\n").map(|line| line.fields()), Ok([0x13, 0, 0, 0, 0]));
+        for bad in [[0x12, 0x1_0000, 0, 0, 0], [0x12, 1, 1, 0, 0], [0x12, 1, 0, 1, 0], [0x12, 1, 0, 0, 1]] {
+            assert_eq!(family.write(&bad), Err(Ground::Table), "{bad:x?}");
+        }
+        for bad in [[0x13, 1, 0, 0, 0], [0x13, 0, 1, 0, 0], [0x13, 0, 0, 1, 0], [0x13, 0, 0, 0, 1]] {
+            assert_eq!(family.write(&bad), Err(Ground::Table), "{bad:x?}");
+        }
     }
 
     #[test]

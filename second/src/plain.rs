@@ -8,18 +8,27 @@
 
 mod checks;
 pub mod compact;
+mod finishes;
 pub mod folded;
 pub mod why;
 
 use crate::check::{before_lines, Lent, Limits};
 use crate::forecast::{Entry, LEAST_FACTOR, MOST_ENTRIES, MOST_FACTOR};
-use crate::line::CHARS;
+use crate::line::{Family, CHARS};
 use crate::refusal::{Ground, Refusal};
 use crate::rows::{Profile, Row, CALLS, COLUMNS, ILOCAL, ION_SPAN, LOCAL, ON_SPAN, SPAN, WORK};
 
-/// The profile of a trace, or its refusal.
+/// The profile of a trace of the base family, or its refusal.
 pub fn profile(trace: &[u8], limits: Limits, lent: &Lent) -> Result<Profile, Refusal> {
     weighed(trace, limits, lent, |_, value| value)
+}
+
+/// The profile of a trace of either family, or its refusal.
+pub fn profile_of(family: Family, trace: &[u8], limits: Limits, lent: &Lent) -> Result<Profile, Refusal> {
+    match family {
+        Family::Base => profile(trace, limits, lent),
+        Family::Finishes => finishes::profile(trace, limits, lent),
+    }
 }
 
 /// The profile of a trace by forecast entries, or its refusal. The list is judged behind the trace; until then an entry that is
@@ -67,6 +76,8 @@ const SYNC: u8 = 4;
 const RETURN: u8 = 5;
 const COST: u8 = 6;
 const INSTRUCTIONS: u8 = 7;
+const ASYNC: u8 = 0x12;
+const FINISH: u8 = 0x13;
 
 /// What a character is worth as a digit; above 15 if it is none.
 const WORTH: [u8; 256] = {
@@ -96,8 +107,14 @@ impl Fields {
         Fields { kind, site: 0, value: 0, file: 0, column: 0 }
     }
 
-    /// Refusals 5 and 6.
+    /// Refusals 5 and 6 of the base family.
     fn read(chars: &[u8; CHARS]) -> Result<Fields, Ground> {
+        Fields::read_of(Family::Base, chars)
+    }
+
+    /// Refusals 5 and 6.
+    #[inline(always)]
+    fn read_of(family: Family, chars: &[u8; CHARS]) -> Result<Fields, Ground> {
         let mut all = 0;
         let mut field = |digits: &[u8]| number(digits, &mut all);
         let fields = Fields {
@@ -110,18 +127,24 @@ impl Fields {
         if all > 15 || chars[22] != b'\n' {
             return Err(Ground::Character);
         }
-        if !fields.keep_to_the_table() {
+        if !fields.keep_to_the_table(family) {
             return Err(Ground::Table);
         }
         Ok(fields)
     }
 
-    fn keep_to_the_table(&self) -> bool {
+    #[inline(always)]
+    fn keep_to_the_table(&self, family: Family) -> bool {
         let Fields { kind, site, value, file, column } = *self;
+        let base = family == Family::Base;
         match kind {
             SITE => value > 0 && file > 0 && column > 0,
-            CALL | SPAWN => value == 0 && file == 0 && column == 0,
-            SYNC | RETURN => site == 0 && value == 0 && file == 0 && column == 0,
+            CALL => value == 0 && file == 0 && column == 0,
+            SPAWN if base => value == 0 && file == 0 && column == 0,
+            ASYNC if !base => value == 0 && file == 0 && column == 0,
+            RETURN => site == 0 && value == 0 && file == 0 && column == 0,
+            SYNC if base => site == 0 && value == 0 && file == 0 && column == 0,
+            FINISH if !base => site == 0 && value == 0 && file == 0 && column == 0,
             COST | INSTRUCTIONS => site == 0 && value > 0 && file == 0 && column == 0,
             _ => false,
         }

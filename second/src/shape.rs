@@ -1,6 +1,6 @@
-//! The shape of an accepted trace: invocations as intervals of lines, and which cost lines are parallel.
+//! The shape of an accepted trace: invocations and finishes as intervals of lines, and which cost lines are parallel.
 
-use crate::line::{Kind, Line};
+use crate::line::{Family, Kind, Line};
 use std::iter::successors;
 use std::ops::Range;
 
@@ -10,7 +10,7 @@ pub enum Start {
     Root,
     /// Called from the invocation with this index.
     Called(usize),
-    /// Spawned by the invocation with this index.
+    /// Spawned by the invocation with this index; "take async as spawn".
     Spawned(usize),
 }
 
@@ -26,13 +26,23 @@ pub struct Invocation {
     pub last: usize,
 }
 
+/// A finish: the lines from the first of its body to its return.
+#[derive(Clone, Debug, PartialEq, Eq)]
+pub struct Finish {
+    pub first: usize,
+    pub last: usize,
+}
+
 /// A trace that passed every check.
 #[derive(Clone, Debug, PartialEq, Eq)]
 pub struct Shape {
+    pub family: Family,
     pub lines: Vec<Line>,
     pub sites: usize,
     /// In the order in which they open, the root first.
     pub invocations: Vec<Invocation>,
+    /// Those that a line opens, in the order in which they open.
+    pub finishes: Vec<Finish>,
     /// For each line the invocation that it is directly in; a call or spawn line is the caller's.
     pub directly_in: Vec<usize>,
 }
@@ -46,6 +56,13 @@ impl Invocation {
     /// Its lines.
     pub fn range(&self) -> Range<usize> {
         self.first..self.last + 1
+    }
+}
+
+impl Finish {
+    /// Whether it is open at a line.
+    pub fn contains(&self, line: usize) -> bool {
+        self.first <= line && line <= self.last
     }
 }
 
@@ -92,19 +109,29 @@ impl Shape {
         self.around(own).all(|around| around.row != own.row)
     }
 
-    /// For cost lines i < j: "They are parallel exactly when some spawned invocation G contains i and not j, the
-    /// invocation F that spawned G is still open at line j, and no sync line directly in F lies between G's return and
-    /// j."
+    /// For cost lines i < j: "They are parallel exactly when some spawned invocation G contains i and not j", and G is
+    /// not joined before j; in the other family "when some async contains i and not j", and the same.
     pub fn parallel(&self, i: usize, j: usize) -> bool {
         self.invocations.iter().any(|g| match g.start {
-            Start::Spawned(f) => {
-                g.contains(i)
-                    && !g.contains(j)
-                    && self.invocations[f].contains(j)
-                    && !(g.last + 1..j).any(|line| self.syncs(f, line))
-            }
+            Start::Spawned(f) => g.contains(i) && !g.contains(j) && self.beside(g, f, j),
             Start::Root | Start::Called(_) => false,
         })
+    }
+
+    /// Whether nothing joins an invocation G of F up to a line behind it: "the invocation F that spawned G is still
+    /// open at line j, and no sync line directly in F lies between G's return and j"; in the other family "the nearest
+    /// finish around that async is open at j; a call joins nothing".
+    fn beside(&self, g: &Invocation, f: usize, j: usize) -> bool {
+        match self.family {
+            Family::Base => self.invocations[f].contains(j) && !(g.last + 1..j).any(|line| self.syncs(f, line)),
+            Family::Finishes => self.nearest_finish(g).contains(j),
+        }
+    }
+
+    /// The nearest finish around an invocation, which is the last to open of those around it. "The root is a finish."
+    fn nearest_finish(&self, own: &Invocation) -> Finish {
+        let nearest = self.finishes.iter().rfind(|finish| finish.contains(own.first));
+        nearest.cloned().unwrap_or(Finish { first: 0, last: self.lines.len() - 1 })
     }
 
     /// "Otherwise i comes before j in series."

@@ -5,6 +5,9 @@
 use crate::check::Limits;
 use crate::forecast::Entry;
 use crate::library::Library;
+use crate::line::Family;
+
+mod finishes;
 
 extern "C" {
     fn nyo_tables(
@@ -155,9 +158,21 @@ pub struct Proved;
 // SAFETY of every call below: each pointer comes with the length of the slice that it was taken from, slices that are
 // lent for writing are borrowed for it alone, and the library reads and writes only within them and keeps none of them.
 impl Library for Proved {
-    fn tables(&self, trace: &[u8], limits: Limits, scratch: &mut [u64], rows: &mut [u64], answer: &mut [u64]) -> u64 {
+    fn tables(
+        &self,
+        family: Family,
+        trace: &[u8],
+        limits: Limits,
+        scratch: &mut [u64],
+        rows: &mut [u64],
+        answer: &mut [u64],
+    ) -> u64 {
+        let tables = match family {
+            Family::Base => nyo_tables,
+            Family::Finishes => finishes::nyo_finish_tables,
+        };
         unsafe {
-            nyo_tables(
+            tables(
                 trace.as_ptr(),
                 trace.len(),
                 limits.depth,
@@ -174,6 +189,7 @@ impl Library for Proved {
 
     fn marks(
         &self,
+        family: Family,
         trace: &[u8],
         limits: Limits,
         scratch: &mut [u64],
@@ -181,8 +197,12 @@ impl Library for Proved {
         rows: &mut [u64],
         answer: &mut [u64],
     ) -> u64 {
+        let run = match family {
+            Family::Base => nyo_marks,
+            Family::Finishes => finishes::nyo_finish_marks,
+        };
         unsafe {
-            nyo_marks(
+            run(
                 trace.as_ptr(),
                 trace.len(),
                 limits.depth,
@@ -256,14 +276,22 @@ impl Library for Proved {
         }
     }
 
-    fn read_line(&self, line: &[u8], frame: &mut [u64]) -> u64 {
-        unsafe { nyo_read_line(line.as_ptr(), line.len(), frame.as_mut_ptr(), frame.len()) }
+    fn read_line(&self, family: Family, line: &[u8], frame: &mut [u64]) -> u64 {
+        let read = match family {
+            Family::Base => nyo_read_line,
+            Family::Finishes => finishes::nyo_finish_read_line,
+        };
+        unsafe { read(line.as_ptr(), line.len(), frame.as_mut_ptr(), frame.len()) }
     }
 
-    fn write_line(&self, frame: &[u64], out: &mut [u8], written: &mut [u64]) -> u64 {
+    fn write_line(&self, family: Family, frame: &[u64], out: &mut [u8], written: &mut [u64]) -> u64 {
+        let write = match family {
+            Family::Base => nyo_write_line,
+            Family::Finishes => finishes::nyo_finish_write_line,
+        };
         let (out_len, written_len) = (out.len(), written.len());
         let (out, written) = (out.as_mut_ptr(), written.as_mut_ptr());
-        unsafe { nyo_write_line(frame.as_ptr(), frame.len(), out, out_len, written, written_len) }
+        unsafe { write(frame.as_ptr(), frame.len(), out, out_len, written, written_len) }
     }
 
     fn report(&self, rows: &[u64], count: u64, out: &mut [u8], written: &mut [u64]) -> u64 {

@@ -1,26 +1,32 @@
 //! Making traces: line by line, or from the notation in which the rules write their examples.
 
-use crate::line::{chars, read, Fields, Kind, Place, CHARS};
+use crate::line::{chars, Family, Fields, Kind, Place, CHARS};
 
-/// The events of a trace in the notation of the twelve, if its lines are good and every brace has its other. The sites
-/// before the first event and the root's return are left out; a site line on the way is told as `site 3`, a cost of 5 with a 07
-/// line of 9 behind it as `5 with 9`.
+/// The events of a trace of either family in the notation of the twelve, if its lines are good and every brace has its
+/// other. The sites before the first event and the root's return are left out; a site line on the way is told as `site
+/// 3`, a cost of 5 with a 07 line of 9 behind it as `5 with 9`.
 pub fn events(chars: &[u8]) -> Option<String> {
+    Family::BOTH.into_iter().find_map(|family| events_of(family, chars))
+}
+
+fn events_of(family: Family, chars: &[u8]) -> Option<String> {
     let mut text = String::new();
     let mut open = 1_usize;
     for line in chars.chunks(CHARS) {
-        let line = read(line).ok().filter(|_| open > 0)?;
+        let line = family.read(line).ok().filter(|_| open > 0)?;
         match line.kind {
             Kind::Site if text.is_empty() => (),
             Kind::Site => add(&mut text, &format!("site {}", line.site)),
             Kind::Call => add(&mut text, &format!("call {} {{", line.site)),
             Kind::Spawn => add(&mut text, &format!("spawn {} {{", line.site)),
+            Kind::Async => add(&mut text, &format!("async {} {{", line.site)),
+            Kind::Finish => add(&mut text, "finish {"),
             Kind::Sync => add(&mut text, "sync"),
             Kind::Cost => add(&mut text, &line.value.to_string()),
             Kind::Instructions => carry(&mut text, line.value),
             Kind::Return => text += "}",
         }
-        open += usize::from(matches!(line.kind, Kind::Call | Kind::Spawn));
+        open += usize::from(line.kind.opens());
         open -= usize::from(line.kind == Kind::Return);
     }
     text.strip_suffix('}').filter(|_| open == 0).map(str::to_owned)
@@ -56,8 +62,9 @@ impl Trace {
         trace
     }
 
-    /// A trace from the notation of the twelve: "Braces hold a body; the closing brace is its return. A bare number is a
-    /// cost." `site 3` declares site 3 on the way, and `with 9` is a 07 line of 9. The root's return is added.
+    /// A trace from the notation of the twelve: "Braces hold a body; the closing brace is its return. A bare number is
+    /// a cost." `site 3` declares site 3 on the way, and `with 9` is a 07 line of 9; `async 1 {` and `finish {` are the
+    /// other family's. The root's return is added.
     ///
     /// # Panics
     /// On a word that the notation does not have.
@@ -70,6 +77,8 @@ impl Trace {
                 "site" => trace.declare(number(words.next())),
                 "call" => trace.call(number(words.next())),
                 "spawn" => trace.spawn(number(words.next())),
+                "async" => trace.begin(number(words.next())),
+                "finish" => trace.finish(),
                 "sync" => trace.sync(),
                 "with" => trace.carry(number(words.next())),
                 "}" => trace.leave(),
@@ -101,6 +110,15 @@ impl Trace {
 
     pub fn spawn(&mut self, site: u64) -> &mut Trace {
         self.push(&[Kind::Spawn.number(), site, 0, 0, 0])
+    }
+
+    /// An async line.
+    pub fn begin(&mut self, site: u64) -> &mut Trace {
+        self.push(&[Kind::Async.number(), site, 0, 0, 0])
+    }
+
+    pub fn finish(&mut self) -> &mut Trace {
+        self.push(&[Kind::Finish.number(), 0, 0, 0, 0])
     }
 
     pub fn sync(&mut self) -> &mut Trace {
@@ -162,12 +180,14 @@ mod tests {
             "spawn 1 {}, sync, call 2 {1, sync, 1}",
             "1, site 3, spawn 3 {site 4, 1, site 5}, site 6",
             "1 with 5, call 1 {with 2, 3 with 4 with 4}, sync with 6",
+            "async 1 {finish {async 2 {3}, 1}, 4}, finish {}, call 2 {5}",
         ] {
             assert_eq!(events(&Trace::from_events(2, text).chars).as_deref(), Some(text));
         }
         assert_eq!(events(&Trace::from_events(0, "with 7").chars).as_deref(), Some("with 7"));
         assert_eq!(events(&Trace::from_events(0, "}").chars), None);
         assert_eq!(events(&Trace::from_events(1, "call 1").chars), None);
+        assert_eq!(events(&Trace::from_events(1, "finish {sync}").chars), None);
         assert_eq!(events(b"05"), None);
     }
 }

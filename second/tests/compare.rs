@@ -10,7 +10,7 @@ use second::compare::{broken, compare, generate, Difference};
 use second::forecast::Entry;
 use second::graph;
 use second::library::{Library, Second};
-use second::line::{chars, read, Kind, Line, CHARS};
+use second::line::{chars, read, Family, Kind, Line, CHARS};
 use second::refusal::{Ground, Refusal};
 use second::report;
 use second::rows::{self, CALLS, COLUMNS, ILOCAL, LOCAL, WORK};
@@ -24,9 +24,10 @@ fn first_difference(wrong: &dyn Library) -> Difference {
     first_difference_where(wrong, |question| !matches!(question, Question::Why { .. }))
 }
 
-/// The first difference among the generated cases that ask such a question.
+/// The first difference among the generated cases of the base family that ask such a question.
 fn first_difference_where(wrong: &dyn Library, asks: fn(&Question) -> bool) -> Difference {
-    let mut cases = (0..30_000).map(|number| generate::case(1, number)).filter(|case| asks(&case.question));
+    let asks = |case: &Case| case.family() == Family::Base && asks(&case.question);
+    let mut cases = (0..30_000).map(|number| generate::case(1, number)).filter(asks);
     let found = cases.find_map(|case| compare(&case, &Second::new(), &[("the stand-in", wrong)]));
     *found.expect("a difference")
 }
@@ -52,12 +53,14 @@ fn span_of(name: &str, wrong: Second) -> u64 {
 /// A weight and the ascending lines that it comes from.
 type Weighed = (u64, Vec<usize>);
 
-/// Chains under a rule of what is parallel and a rule of which is chosen, grown from the first line to the last.
+/// Chains under a rule of what is parallel in the base family and a rule of which is chosen, grown from the first line
+/// to the last.
 fn chains(
     shape: &Shape,
     parallel: fn(&Shape, usize, usize) -> bool,
     order: fn(&&Weighed, &&Weighed) -> Ordering,
 ) -> Chains {
+    let parallel = if shape.family == Family::Base { parallel } else { Shape::parallel };
     let heaviest = |own: &Invocation| {
         let mut best: Vec<Weighed> = vec![(0, vec![])];
         for line in shape.cost_lines().into_iter().filter(|&line| own.contains(line)) {
@@ -235,16 +238,29 @@ impl Default for Wrong {
 }
 
 impl Library for Wrong {
-    fn tables(&self, trace: &[u8], limits: Limits, scratch: &mut [u64], rows: &mut [u64], answer: &mut [u64]) -> u64 {
+    fn knows(&self, family: Family) -> bool {
+        family == Family::Base
+    }
+
+    fn tables(
+        &self,
+        family: Family,
+        trace: &[u8],
+        limits: Limits,
+        scratch: &mut [u64],
+        rows: &mut [u64],
+        answer: &mut [u64],
+    ) -> u64 {
         let mut trace = trace.to_vec();
         (self.before)(&mut trace);
-        let code = Second::by_paths().tables(&trace, limits, scratch, rows, answer);
+        let code = Second::by_paths().tables(family, &trace, limits, scratch, rows, answer);
         (self.after)(&trace, code, scratch, rows, answer);
         code
     }
 
     fn marks(
         &self,
+        family: Family,
         trace: &[u8],
         limits: Limits,
         scratch: &mut [u64],
@@ -252,7 +268,7 @@ impl Library for Wrong {
         rows: &mut [u64],
         answer: &mut [u64],
     ) -> u64 {
-        Second::by_paths().marks(trace, limits, scratch, marks, rows, answer)
+        Second::by_paths().marks(family, trace, limits, scratch, marks, rows, answer)
     }
 
     fn forecast_tables(
@@ -283,12 +299,12 @@ impl Library for Wrong {
         Second::by_paths().forecast_marks(&trace, limits, &entries, scratch, marks, rows, answer)
     }
 
-    fn read_line(&self, line: &[u8], frame: &mut [u64]) -> u64 {
-        Second::by_paths().read_line(line, frame)
+    fn read_line(&self, family: Family, line: &[u8], frame: &mut [u64]) -> u64 {
+        Second::by_paths().read_line(family, line, frame)
     }
 
-    fn write_line(&self, frame: &[u64], out: &mut [u8], written: &mut [u64]) -> u64 {
-        Second::by_paths().write_line(frame, out, written)
+    fn write_line(&self, family: Family, frame: &[u64], out: &mut [u8], written: &mut [u64]) -> u64 {
+        Second::by_paths().write_line(family, frame, out, written)
     }
 
     fn report(&self, rows: &[u64], count: u64, out: &mut [u8], written: &mut [u64]) -> u64 {

@@ -1,14 +1,16 @@
 //! The examples print what their page says, and the page says what was worked out by hand.
 
 use second::compact;
-use second::compare::moves;
+use second::compare::{finishes, moves};
 use second::folded;
 use second::forecast::Entry;
 use second::library::Second;
+use second::line::Family;
 use second::program::{printed, LIMITS, MOST_BYTES};
 use second::report;
 use second::rows::{all_cycles_alone, Row, LOCAL, ON_SPAN, WORK};
 use second::sheet;
+use second::trace::events;
 use second::why::Why;
 use std::fs;
 use std::path::PathBuf;
@@ -240,6 +242,45 @@ fn why_lines_are_not_on_the_span_is_on_the_page_and_as_worked_out_by_hand() {
     let past =
         |line| Second::new().why(&trace, LIMITS, line, &lent).map_err(|refusal| (refusal.number(), refusal.line));
     assert_eq!((past(22), past(u32::MAX)), (Err((23, 22)), Err((23, u32::MAX.into()))));
+}
+
+/// The page on asyncs and finishes.
+fn finishes_page() -> String {
+    fs::read_to_string(folder().join("../docs/FINISH.md")).expect("the page on asyncs and finishes")
+}
+
+#[test]
+fn the_tree_sum_is_on_the_page_and_as_worked_out_by_hand() {
+    let trace = file("treesum.trace");
+    let half = "2, finish {async 2 {10}, 1, async 3 {10}}, 1";
+    let whole = format!("70, finish {{async 1 {{2, finish {{async 2 {{{half}}}, 1, async 3 {{{half}}}}}, 1}}}}, 5");
+    assert_eq!(events(&trace), Some(whole));
+    let found = Second::new().profile_of(Family::Finishes, &trace, LIMITS, &LIMITS.for_tables()).expect("accepted");
+    let by_hand = [[1, 127, 93, 75, 75], [1, 52, 18, 4, 4], [3, 34, 24, 24, 0], [3, 34, 24, 24, 14]];
+    assert_eq!((found.answer, found.rows), ([127, 93, 3, 41], all_cycles_alone(&by_hand)));
+    let sites = ["main", "line 24", "line 10", "line 13"];
+    for (row, (site, [calls, work, span, local, on_span])) in sites.iter().zip(by_hand).enumerate() {
+        let share = 100.0 * on_span as f64 / 93.0;
+        let told = format!("| {row} | {site} | {calls} | {work} | {span} | {local} | {on_span} | {share:.1} % |");
+        assert!(finishes_page().contains(&told), "{told}");
+    }
+    assert!(page().lines().any(|row| row.contains("`treesum.trace`") && row.contains("`ff0600000004`")));
+    assert_eq!(example("treesum.trace"), "ff0600000004\n");
+}
+
+#[test]
+fn the_twelve_traces_of_asyncs_and_finishes_are_on_the_page() {
+    for case in finishes::twelve() {
+        let events = if case.name == "L" {
+            "63 finishes inside one another, 1 in the innermost".into()
+        } else {
+            format!("`{}`", case.events)
+        };
+        let [_, work, span, ..] = case.rows[0];
+        let [a, b, c] = case.rows.map(|row| row[ON_SPAN]);
+        let told = format!("| {} | {events} | {work} | {span} | {a}, {b}, {c} | ", case.name);
+        assert!(finishes_page().contains(&told), "{told}");
+    }
 }
 
 #[test]

@@ -4,7 +4,7 @@
 use second::check::Limits;
 use second::compact;
 use second::compare::case::{Case, Question};
-use second::compare::{carried, fixed, generate, on_the_way};
+use second::compare::{carried, finishes, fixed, generate, on_the_way};
 use second::folded;
 use second::library::Second;
 use second::plain;
@@ -13,11 +13,11 @@ use second::plain;
 fn alike(cases: impl IntoIterator<Item = Case>) -> usize {
     let mut count = 0;
     for case in cases {
-        let Question::Engines { trace, limits, .. } = &case.question else { continue };
+        let Question::Engines { family, trace, limits, .. } = &case.question else { continue };
         let near = Limits { depth: limits.depth.min(64), sites: limits.sites.min(255) };
         let lent = near.for_marks(trace.len() / 23);
-        let right = Second::new().profile(trace, *limits, &lent);
-        assert_eq!(plain::profile(trace, *limits, &lent), right, "{case}");
+        let right = Second::new().profile_of(*family, trace, *limits, &lent);
+        assert_eq!(plain::profile_of(*family, trace, *limits, &lent), right, "{case}");
         count += 1;
     }
     count
@@ -25,8 +25,10 @@ fn alike(cases: impl IntoIterator<Item = Case>) -> usize {
 
 #[test]
 fn on_the_fixed_traces() {
-    // Those with 07 lines in seven rooms.
-    assert_eq!(alike(fixed::cases()), 58 + on_the_way::traces().len() + 7 * carried::traces().len());
+    // Those with 07 lines and those of asyncs and finishes in seven rooms, the empty file and the longest trace among
+    // these.
+    let finishes = finishes::twelve().len() + finishes::refused().len() + 2;
+    assert_eq!(alike(fixed::cases()), 58 + on_the_way::traces().len() + 7 * (carried::traces().len() + finishes));
 }
 
 #[test]

@@ -11,15 +11,16 @@ use lib.Seq.{drop-cons, take-suc-set}
 use lib.Dec.{eqb, ltb}
 use borrow.Author.Tests.{ltb-true, eqb-true, eqb-false, eq-eqb, ne-eqb}
 use Rattle.line.specs.declared.Place.{Place}
+use Rattle.line.specs.declared.Family.{Family}
 use Rattle.line.specs.declared.Frame.{Frame}
 use Rattle.line.specs.declared.Frame.the-variants.{Site}
 use Rattle.line.specs.declared.Read.the-variants.{Line}
 use Rattle.line.specs.declared.Sight.the-variants.{Seen}
-use Rattle.line.specs.Table.{table, fieldsOf}
-use Rattle.line.specs.Read.{lineAt, readAt}
+use Rattle.line.specs.Table.{tableOf, fieldsOf}
+use Rattle.line.specs.Read.{lineAt, readAtOf}
 use Rattle.line.specs.Write.{narrow, isFrame}
 use Rattle.line.specs.Seeing.{seenOf}
-use Rattle.line.proofs.RoundTrip.{read-write}
+use Rattle.line.proofs.RoundTrip.{read-write-of}
 use Rattle.trace.specs.Shape.{ifSite, has, sites}
 use Rattle.trace.specs.Refusals.{samePlace, placed, placeAgain}
 use Rattle.trace.proofs.Basics.{clash, both, neither}
@@ -131,9 +132,9 @@ narrow-snoc [] f h n = (n, tt)
 narrow-snoc (e ∷ t) f h n = (h .0, narrow-snoc t f (h .1) n)
 
 -- a line that reads as a site has a narrow place
-pub read-narrow : (s : List ℕ) (n k : ℕ) (f : Frame) → readAt s n ≡ Line k f → NarrowSite f
-read-narrow s n k f e i p q =
-    let w = both (narrow (fieldsOf (Site i p))) (isFrame (table (fieldsOf (Site i p)))) (read-write (lineAt s n) n k (Site i p) (e ∙ ap (Line k) q) .1) .0 in
+pub read-narrow : (g : Family) (s : List ℕ) (n k : ℕ) (f : Frame) → readAtOf g s n ≡ Line k f → NarrowSite f
+read-narrow g s n k f e i p q =
+    let w = both (narrow (fieldsOf (Site i p))) (isFrame (tableOf g (fieldsOf (Site i p)))) (read-write-of g (lineAt s n) n k (Site i p) (e ∙ ap (Line k) q) .1) .0 in
     let c = both (ltb 1 256 && ltb i 65536 && ltb (p .line) 4294967296 && ltb (p .file) 65536) (ltb (p .column) 65536) w in
     let f = both (ltb 1 256 && ltb i 65536 && ltb (p .line) 4294967296) (ltb (p .file) 65536) (c .0) in
     let l = both (ltb 1 256 && ltb i 65536) (ltb (p .line) 4294967296) (f .0) in

@@ -1,5 +1,6 @@
 pub mod Keys
 pub mod Strays
+pub mod Judged
 pub mod Tallies
 pub mod Reach
 pub mod Entry

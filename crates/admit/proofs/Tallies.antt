@@ -8,7 +8,7 @@ use lib.ListN.{length, length-append}
 use lib.Dec.{eqb, ltb, leb}
 use borrow.Author.Tests.{eqb-false, leb-true, leb-false, ne-eqb, lt-ltb, le-ltb}
 use Rattle.line.specs.declared.Frame.{Frame}
-use Rattle.line.specs.declared.Frame.the-variants.{Site, Call, Spawn, Sync, Return, Cost, Instructions}
+use Rattle.line.specs.declared.Frame.the-variants.{Site, Call, Spawn, Sync, Return, Cost, Instructions, Async, Finish}
 use Rattle.trace.specs.Shape.{closed, step, sites}
 use Rattle.trace.specs.Refusals.{openNow, empty, afterRoot, afterCost, stray, lastSite, placed, placeAgain, declared, fault}
 use Rattle.trace.proofs.Scan.{now}
@@ -74,7 +74,16 @@ plain a d u v t e g = rw (e, g) (go a)
     go true = refl
     go false = refl
 
--- z, w: the site is 0, or is not declared; k: too deep
+-- k: too deep
+deepen : (a d k : Bool) (u v t : Tally) → d ≡ a → u ≡ v → cond d (refuse t 7) (cond k (refuse t 12) (next u)) ≡ outcome (cond a 7 (cond k 12 0)) v t
+deepen a d k u v t e g = rw (e, g) (go a k)
+  where
+    go : (a k : Bool) → cond a (refuse t 7) (cond k (refuse t 12) (next v)) ≡ outcome (cond a 7 (cond k 12 0)) v t
+    go true k = refl
+    go false true = refl
+    go false false = refl
+
+-- z, w: the site is 0, or is not declared
 make : (a d : Bool) (x z w k : Bool) (u v t : Tally) → d ≡ a → u ≡ v → x ≡ (z || w)
     → cond d (refuse t 7) (cond z (refuse t 11) (cond w (refuse t 11) (cond k (refuse t 12) (next u)))) ≡ outcome (cond a 7 (cond x 11 (cond k 12 0))) v t
 make a d x z w k u v t e g h = rw (e, g, h) (go a z w k)
@@ -129,7 +138,7 @@ module _ (D M : ℕ) (before : List Frame) (against : Bool) (h : Numbered before
   plain-is : (f : Frame) (d : ℕ) → _≡_ {A = ℕ} (sites (f ∷ [])) 0 → d ≡ length (step n f o) → cond (eqb (length o) 0) (refuse t 7) (next (behind (sites before) d)) ≡ outcome (cond (afterRoot before) 7 0) (tallyOf (before ++ f ∷ [])) t
   plain-is f d z e = plain (afterRoot before) (eqb (length o) 0) (behind (sites before) d) (tallyOf (before ++ f ∷ [])) t (none-open o) (next-is before f (sites before) d (omega (arith, z)) e)
 
-  -- a call or spawn of site s
+  -- a call, spawn or async of site s
   make-is : (f : Frame) (s : ℕ) → _≡_ {A = ℕ} (sites (f ∷ [])) 0 → length o + 1 ≡ length (step n f o)
       → cond (eqb (length o) 0) (refuse t 7) (cond (eqb s 0) (refuse t 11) (cond (ltb (sites before) s) (refuse t 11) (cond (leb D (length o)) (refuse t 12) (next (behind (sites before) (length o + 1))))))
       ≡ outcome (cond (afterRoot before) 7 (cond (eqb s 0 || not (declared s before)) 11 (cond (ltb D (suc (length o))) 12 0))) (tallyOf (before ++ f ∷ [])) t
@@ -152,3 +161,8 @@ module _ (D M : ℕ) (before : List Frame) (against : Bool) (h : Numbered before
   step-is (Instructions v) g =
       carry (afterRoot before) (eqb (length o) 0) (not (afterCost false before)) against (behind (sites before) (length o)) (tallyOf (before ++ Instructions v ∷ [])) t
       (none-open o) (next-is before (Instructions v) (sites before) (length o) (omega arith) refl) g
+  step-is (Async s) g = make-is (Async s) s refl (omega arith)
+  step-is Finish g =
+      rw (too-deep-is D (length o))
+      (deepen (afterRoot before) (eqb (length o) 0) (leb D (length o)) (behind (sites before) (length o + 1)) (tallyOf (before ++ Finish ∷ [])) t
+      (none-open o) (next-is before Finish (sites before) (length o + 1) (omega arith) (omega arith)))

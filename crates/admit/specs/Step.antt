@@ -8,12 +8,16 @@ use lib.ListN.{length, take, set}
 use lib.Dec.{eqb, ltb, leb}
 use Rattle.line.specs.declared.Place.{Place}
 use Rattle.line.specs.declared.Frame.{Frame}
-use Rattle.line.specs.declared.Frame.the-variants.{Site, Call, Spawn, Sync, Return, Cost, Instructions}
+use Rattle.line.specs.declared.Frame.the-variants.{Site, Call, Spawn, Sync, Return, Cost, Instructions, Async, Finish}
 use Rattle.line.specs.declared.Read.{Read}
 use Rattle.line.specs.declared.Read.the-variants.{Line, Refused}
 use Rattle.line.specs.At.{kindAt}
-use Rattle.trace.specs.Shape.{ifSite, ifInstructions, has, sites}
+use Rattle.trace.specs.Shape.{ifSite, ifMakes, ifInstructions, has, sites}
+use Rattle.trace.specs.Async.{isFinish}
 use Rattle.trace.specs.Refusals.{lineCount, openNow}
+use Rattle.admit.specs.declared.Verdict.{Verdict}
+use Rattle.admit.specs.declared.Verdict.the-variants.{Accepted}
+use Rattle.admit.specs.declared.Verdict.the-variants.{Refused as Denied}
 use Rattle.admit.specs.declared.Tally.{Tally}
 use Rattle.admit.specs.declared.Tallied.{Tallied}
 
@@ -73,13 +77,20 @@ declaring M again s t =
     (onward t (t .sites + 1) (t .depth))))
     (refuse t 8)
 
--- a call or spawn of site s: refusals 11 and 12
+-- a line that opens something: refusal 12
+abbrev pub deepening : ℕ → Tally → Tallied
+deepening D t = cond (leb D (t .depth)) (refuse t 12) (onward t (t .sites) (t .depth + 1))
+
+-- a call, spawn or async of site s: refusals 11 and 12
 abbrev pub entering : ℕ → ℕ → Tally → Tallied
 entering D s t =
     cond (eqb s 0) (refuse t 11)
     (cond (ltb (t .sites) s) (refuse t 11)
-    (cond (leb D (t .depth)) (refuse t 12)
-    (onward t (t .sites) (t .depth + 1))))
+    (deepening D t))
+
+-- a line that opens something: refusals 11 and 12
+abbrev pub beginning : ℕ → Tally → Frame → Tallied
+beginning D t f = cond (isFinish f) (deepening D t) (entering D (ifMakes (λ s. s) 0 f) t)
 
 -- a 07 line: refusal 22
 abbrev pub carrying : Bool → Tally → Tallied
@@ -94,6 +105,8 @@ inside D M a t Sync = onward t (t .sites) (t .depth)
 inside D M a t Return = onward t (t .sites) (t .depth - 1)
 inside D M a t (Cost v) = onward t (t .sites) (t .depth)
 inside D M a t (Instructions v) = carrying a t
+inside D M a t (Async s) = entering D s t
+inside D M a t Finish = deepening D t
 
 -- a line, refusal 7 first
 abbrev pub stepped : ℕ → ℕ → Bool → Tally → Frame → Tallied
@@ -107,6 +120,14 @@ judgedBy D M s ks t (Line k f) = stepped D M (against s ks t f) t f
 abbrev pub keptBy : List ℕ → Tally → Read → List ℕ
 keptBy ks t (Refused n k) = ks
 keptBy ks t (Line k f) = kept ks (t .sites) f
+
+-- what such a line does is x, and behind it are these keys and their tags
+abbrev pub Judged : ℕ → ℕ → List ℕ → List ℕ → Tally → Read → Tallied → List ℕ → List ℕ → Type 0
+Judged D M s ks t r x ks′ ts′ = (x ≡ judgedBy D M s ks t r) × ((ks′ ≡ keptBy ks t r) × (ts′ ≡ tagsOf (keptBy ks t r)))
+
+-- behind the last line: accepted where nothing is open, else 14
+abbrev pub ended : Tally → Verdict
+ended t = cond (eqb (t .depth) 0) (Accepted (t .sites) (t .lines)) (Denied 14 (t .lines))
 
 -- the numbers stay far below the machine's
 abbrev pub Small : ℕ → Tally → Type 0

@@ -6,17 +6,18 @@ use line::Place;
 use line::Read;
 use line::Sight;
 ghost use mathlib.Core.Path.{_≡_};
-ghost use mathlib.Core.List.{[]};
-ghost use Prim.Native.Nat.{_≤_, _<_};
+ghost use mathlib.Core.List.{List, []};
+ghost use Prim.Native.Nat.{ℕ, _≤_, _<_};
 ghost use lib.ListN.{length};
-ghost use Rattle.line.specs.Read.{readAt};
+ghost use Rattle.line.specs.declared.Family.the-variants.{Finishes};
+ghost use Rattle.line.specs.Read.{readAtOf, readAt};
 ghost use Rattle.line.specs.Seeing.{glanced};
 ghost use Rattle.line.specs.declared.Sight.the-variants.{Other};
-ghost use Rattle.trace.specs.Shape.{has};
-ghost use Rattle.trace.specs.Refusals.{scan, reads, verdict};
+ghost use Rattle.trace.specs.Shape.{ifMakes, has};
+ghost use Rattle.trace.specs.Refusals.{scan, readsOf, reads, verdict};
 ghost use Rattle.trace.specs.Promise.{Engine, rowsRoom};
-ghost use Rattle.admit.specs.Answer.{answerOf, admission, opening};
-ghost use Rattle.admit.specs.Step.{key, tag, tagsOf, seen, kept, behindCost, strayAt, refuse, onward, declaring, entering, carrying, stepped, judgedBy, keptBy, Small, Within, Limits};
+ghost use Rattle.admit.specs.Answer.{answerOf, admissionOf, admission, opening, checksFor};
+ghost use Rattle.admit.specs.Step.{key, tag, tagsOf, seen, kept, behindCost, strayAt, refuse, onward, declaring, deepening, entering, beginning, carrying, stepped, Judged, ended, Small, Within, Limits};
 
 // What acceptance answers: the numbers of sites and of lines, or a refusal's number and line.
 pub enum Verdict {
@@ -172,7 +173,18 @@ fn declare(t: Tally, site: usize, again: bool, limit: usize) -> Tallied
     onward(t, t.sites + 1, t.depth)
 }
 
-// A call or spawn, by its site: refusals 11 and 12.
+// A line that opens something: refusal 12.
+fn deepen(t: Tally, limit: usize) -> Tallied
+    requires { ⌜ (t .lines < 65536) × (limit ≤ 64) ⌝ }
+    ensures { λ r. ⌜ r ≡ deepening limit t ⌝ }
+{
+    if limit <= t.depth {
+        return refuse(t, 12);
+    }
+    onward(t, t.sites, t.depth + 1)
+}
+
+// A call, spawn or async, by its site: refusals 11 and 12.
 fn enter(t: Tally, site: usize, limit: usize) -> Tallied
     requires { ⌜ (t .lines < 65536) × (limit ≤ 64) ⌝ }
     ensures { λ r. ⌜ r ≡ entering limit site t ⌝ }
@@ -183,10 +195,7 @@ fn enter(t: Tally, site: usize, limit: usize) -> Tallied
     if t.sites < site {
         return refuse(t, 11);
     }
-    if limit <= t.depth {
-        return refuse(t, 12);
-    }
-    onward(t, t.sites, t.depth + 1)
+    deepen(t, limit)
 }
 
 // A 07 line: refusal 22.
@@ -200,6 +209,30 @@ fn carry(t: Tally, stray: bool) -> Tallied
     onward(t, t.sites, t.depth)
 }
 
+// The site that a line makes an invocation of, 0 where it makes none.
+fn made(frame: Frame) -> usize
+    ensures { λ r. ⌜ r ≡ ifMakes (λ s. s) 0 frame ⌝ }
+{
+    match frame {
+        Frame::Call(site) => site as usize,
+        Frame::Spawn(site) => site as usize,
+        Frame::Async(site) => site as usize,
+        _ => 0,
+    }
+}
+
+// A line that opens something, a finish without a site: refusals 11 and 12. One copy of `enter` keeps the flat check in one
+// piece.
+fn begin(t: Tally, frame: Frame, limit: usize) -> Tallied
+    requires { ⌜ (t .lines < 65536) × (limit ≤ 64) ⌝ }
+    ensures { λ r. ⌜ r ≡ beginning limit t frame ⌝ }
+{
+    match frame {
+        Frame::Finish => deepen(t, limit),
+        _ => enter(t, made(frame), limit),
+    }
+}
+
 // A line by its kind: the tally behind it, or the first of refusals 7, 22 and 8 to 12 that applies. `against` is what
 // the lines before say against it: its place is declared already, or it is a 07 line that is not directly after a cost.
 fn step(t: Tally, frame: Frame, against: bool, depth: usize, sites: usize) -> Tallied
@@ -211,12 +244,11 @@ fn step(t: Tally, frame: Frame, against: bool, depth: usize, sites: usize) -> Ta
     }
     match frame {
         Frame::Site(site, _) => declare(t, site as usize, against, sites),
-        Frame::Call(site) => enter(t, site as usize, depth),
-        Frame::Spawn(site) => enter(t, site as usize, depth),
         Frame::Sync => onward(t, t.sites, t.depth),
         Frame::Return => onward(t, t.sites, t.depth - 1),
         Frame::Cost(_) => onward(t, t.sites, t.depth),
         Frame::Instructions(_) => carry(t, against),
+        _ => begin(t, frame, depth),
     }
 }
 
@@ -242,22 +274,20 @@ fn updated(t: Tally, frame: Frame, against: bool, depth: usize, sites: usize) ->
     Tallied { refusal, tally }
 }
 
-// A line of the trace that a glance does not see, read whole and judged with the lines before it: their tally, and the
-// keys and tags of their places.
+// A line that a glance does not see, as it reads, judged with the lines before it: their tally, and the keys and tags
+// of their places. It is no 07 line, in whatever text it stands.
 fn judge_whole(
-    trace: &[u8],
+    read: Read,
     keys: &mut [u64],
     tags: &mut [u16],
     t: Tally,
     depth: usize,
     sites: usize,
 ) -> Tallied
-    requires { ⌜ Within depth (now keys) (now tags) t × (glanced (readAt (now trace) (t .lines)) ≡ Other) ⌝ }
-    ensures { λ r. ⌜ (r ≡ judgedBy depth sites (now (trace .entry)) (now (keys .entry)) t (readAt (now (trace .entry)) (t .lines)))
-        × ((now (keys .exit) ≡ keptBy (now (keys .entry)) t (readAt (now (trace .entry)) (t .lines)))
-        × (now (tags .exit) ≡ tagsOf (keptBy (now (keys .entry)) t (readAt (now (trace .entry)) (t .lines))))) ⌝ }
+    requires { ⌜ Within depth (now keys) (now tags) t × (glanced read ≡ Other) ⌝ }
+    ensures { λ r. ⌜ ((s : List ℕ) → Judged depth sites s (now (keys .entry)) t read r (now (keys .exit)) (now (tags .exit))) ⌝ }
 {
-    match line::read_at(trace, t.lines) {
+    match read {
         Read::Line(_, frame) => {
             let found = again(keys, tags, t.sites, frame);
             updated(t, frame, found, depth, sites)
@@ -276,20 +306,58 @@ fn judge(
     sites: usize,
 ) -> Tallied
     requires { ⌜ Within depth (now keys) (now tags) t ⌝ }
-    ensures { λ r. ⌜ (r ≡ judgedBy depth sites (now (trace .entry)) (now (keys .entry)) t (readAt (now (trace .entry)) (t .lines)))
-        × ((now (keys .exit) ≡ keptBy (now (keys .entry)) t (readAt (now (trace .entry)) (t .lines)))
-        × (now (tags .exit) ≡ tagsOf (keptBy (now (keys .entry)) t (readAt (now (trace .entry)) (t .lines))))) ⌝ }
+    ensures { λ r. ⌜ Judged depth sites (now (trace .entry)) (now (keys .entry)) t
+        (readAt (now (trace .entry)) (t .lines)) r (now (keys .exit)) (now (tags .exit)) ⌝ }
 {
     match line::glance(trace, t.lines) {
         Sight::Seen(frame) => {
             let against = stray(trace, t.lines, frame);
             updated(t, frame, against, depth, sites)
         }
-        Sight::Other => judge_whole(trace, keys, tags, t, depth, sites),
+        Sight::Other => judge_whole(line::read_at(trace, t.lines), keys, tags, t, depth, sites),
     }
 }
 
-// All lines in turn: "the first faulty line decides", and "14 comes last".
+// A line of a trace of the finish family.
+fn finish_judge(
+    trace: &[u8],
+    keys: &mut [u64],
+    tags: &mut [u16],
+    t: Tally,
+    depth: usize,
+    sites: usize,
+) -> Tallied
+    requires { ⌜ Within depth (now keys) (now tags) t ⌝ }
+    ensures { λ r. ⌜ Judged depth sites (now (trace .entry)) (now (keys .entry)) t
+        (readAtOf Finishes (now (trace .entry)) (t .lines)) r (now (keys .exit)) (now (tags .exit)) ⌝ }
+{
+    match line::finish_glance(trace, t.lines) {
+        Sight::Seen(frame) => {
+            let against = stray(trace, t.lines, frame);
+            updated(t, frame, against, depth, sites)
+        }
+        Sight::Other => judge_whole(
+            line::finish_read_at(trace, t.lines),
+            keys,
+            tags,
+            t,
+            depth,
+            sites,
+        ),
+    }
+}
+
+// The answer behind the last line: "14 comes last".
+fn ended(t: Tally) -> Verdict
+    ensures { λ r. ⌜ r ≡ ended t ⌝ }
+{
+    if t.depth == 0 {
+        return Verdict::Accepted(t.sites, t.lines);
+    }
+    Verdict::Refused(14, t.lines)
+}
+
+// All lines in turn: "the first faulty line decides".
 fn lines(trace: &[u8], depth: usize, sites: usize) -> Verdict
     requires { ⌜ Limits depth sites (now trace) ⌝ }
     ensures { λ r. ⌜ r ≡ answerOf (scan depth sites [] (reads (now (trace .entry)))) ⌝ }
@@ -309,10 +377,30 @@ fn lines(trace: &[u8], depth: usize, sites: usize) -> Verdict
         }
         tally = next.tally;
     }
-    if tally.depth == 0 {
-        return Verdict::Accepted(tally.sites, tally.lines);
+    ended(tally)
+}
+
+// All lines of a trace of the finish family.
+fn finish_lines(trace: &[u8], depth: usize, sites: usize) -> Verdict
+    requires { ⌜ Limits depth sites (now trace) ⌝ }
+    ensures { λ r. ⌜ r ≡ answerOf (scan depth sites [] (readsOf Finishes (now (trace .entry)))) ⌝ }
+{
+    let count = trace.len() / line::LINE;
+    let mut keys = [0u64; 256];
+    let mut tags = [0u16; 256];
+    let mut tally = Tally {
+        lines: 0,
+        sites: 0,
+        depth: 1,
+    };
+    while tally.lines < count {
+        let next = finish_judge(trace, &mut keys, &mut tags, tally, depth, sites);
+        if next.refusal != 0 {
+            return Verdict::Refused(next.refusal, tally.lines);
+        }
+        tally = next.tally;
     }
-    Verdict::Refused(14, tally.lines)
+    ended(tally)
 }
 
 // The number of the first of checks 1 to 3 that fails, 0 where none does.
@@ -345,24 +433,63 @@ fn rows_room(sites: usize) -> usize
     trace::COLUMNS * (sites + 1)
 }
 
-// Acceptance for the table engine, lent `scratch` numbers of scratch and `rows` row numbers.
-pub fn for_tables(trace: &[u8], depth: usize, sites: usize, scratch: usize, rows: usize) -> Verdict
-    ensures { λ r. ⌜ r ≡ admission Engine.tables (now (trace .entry)) depth sites scratch rows 0 ⌝ }
+// The number of the first of checks 1 to 4 that fails, 0 where none does: for the table engine, lent `scratch` numbers
+// of scratch and `rows` row numbers.
+fn tables_checks(trace: &[u8], depth: usize, sites: usize, scratch: usize, rows: usize) -> u8
+    ensures { λ r. ⌜ r ≡ checksFor Engine.tables (now (trace .entry)) depth sites scratch rows 0 ⌝ }
 {
     let first = opening(trace.len(), depth, sites);
     if first != 0 {
-        return Verdict::Refused(first, 0);
+        return first;
     }
     if scratch < trace::SCRATCH * depth * (sites + 3) {
-        return Verdict::Refused(4, 0);
+        return 4;
     }
     if rows < rows_room(sites) {
-        return Verdict::Refused(4, 0);
+        return 4;
+    }
+    0
+}
+
+// For the marks engine, lent `marks` bytes of marks besides.
+fn marks_checks(
+    trace: &[u8],
+    depth: usize,
+    sites: usize,
+    scratch: usize,
+    rows: usize,
+    marks: usize,
+) -> u8
+    ensures { λ r. ⌜ r ≡ checksFor Engine.marks (now (trace .entry)) depth sites scratch rows marks ⌝ }
+{
+    let first = opening(trace.len(), depth, sites);
+    if first != 0 {
+        return first;
+    }
+    if scratch < 8 * depth {
+        return 4;
+    }
+    if rows < rows_room(sites) {
+        return 4;
+    }
+    if marks < trace.len() / line::LINE {
+        return 4;
+    }
+    0
+}
+
+// Acceptance for the table engine.
+pub fn for_tables(trace: &[u8], depth: usize, sites: usize, scratch: usize, rows: usize) -> Verdict
+    ensures { λ r. ⌜ r ≡ admission Engine.tables (now (trace .entry)) depth sites scratch rows 0 ⌝ }
+{
+    let first = tables_checks(trace, depth, sites, scratch, rows);
+    if first != 0 {
+        return Verdict::Refused(first, 0);
     }
     lines(trace, depth, sites)
 }
 
-// Acceptance for the marks engine, lent `marks` bytes of marks besides.
+// Acceptance for the marks engine.
 pub fn for_marks(
     trace: &[u8],
     depth: usize,
@@ -373,20 +500,46 @@ pub fn for_marks(
 ) -> Verdict
     ensures { λ r. ⌜ r ≡ admission Engine.marks (now (trace .entry)) depth sites scratch rows marks ⌝ }
 {
-    let first = opening(trace.len(), depth, sites);
+    let first = marks_checks(trace, depth, sites, scratch, rows, marks);
     if first != 0 {
         return Verdict::Refused(first, 0);
     }
-    if scratch < 8 * depth {
-        return Verdict::Refused(4, 0);
-    }
-    if rows < rows_room(sites) {
-        return Verdict::Refused(4, 0);
-    }
-    if marks < trace.len() / line::LINE {
-        return Verdict::Refused(4, 0);
-    }
     lines(trace, depth, sites)
+}
+
+// Acceptance of a trace of the finish family for the table engine.
+pub fn finish_for_tables(
+    trace: &[u8],
+    depth: usize,
+    sites: usize,
+    scratch: usize,
+    rows: usize,
+) -> Verdict
+    ensures { λ r. ⌜ r ≡ admissionOf Finishes Engine.tables (now (trace .entry)) depth sites scratch rows 0 ⌝ }
+{
+    let first = tables_checks(trace, depth, sites, scratch, rows);
+    if first != 0 {
+        return Verdict::Refused(first, 0);
+    }
+    finish_lines(trace, depth, sites)
+}
+
+// Acceptance of a trace of the finish family for the marks engine.
+pub fn finish_for_marks(
+    trace: &[u8],
+    depth: usize,
+    sites: usize,
+    scratch: usize,
+    rows: usize,
+    marks: usize,
+) -> Verdict
+    ensures { λ r. ⌜ r ≡ admissionOf Finishes Engine.marks (now (trace .entry)) depth sites scratch rows marks ⌝ }
+{
+    let first = marks_checks(trace, depth, sites, scratch, rows, marks);
+    if first != 0 {
+        return Verdict::Refused(first, 0);
+    }
+    finish_lines(trace, depth, sites)
 }
 
 // Acceptance for a reader of its own: the caller says whether each slice that it was lent is as long as it needs.

@@ -7,34 +7,43 @@ use native.Mathlib.Omega.{arith}
 use lib.ListN.{length, getD}
 use lib.Dec.{eqb}
 use borrow.Author.Tests.{ne-eqb}
+use Rattle.line.specs.declared.Family.{Family}
+use Rattle.line.specs.declared.Family.the-variants.{Base}
 use Rattle.line.specs.declared.Frame.{Frame}
 use Rattle.line.specs.declared.Frame.the-variants.{Cost, Instructions}
 use Rattle.chain.specs.Over.{Each, EachTwo}
 use Rattle.trace.specs.declared.Answer.{Answer}
 use Rattle.trace.specs.Shape.{Is, root, has, sites}
-use Rattle.trace.specs.Series.{valueAt, Series, CostIn, Chain, weight, Span, Chosen}
+use Rattle.trace.specs.Series.{valueAt, SeriesOf, CostIn, ChainOf, weight, SpanOf, ChosenOf, Series, Chain, Span, Chosen}
 use Rattle.trace.specs.Rows.{cycles, instructions, local, onSpan, ilocal, ionSpan}
 use Rattle.trace.specs.Column.{Column, slot}
-use Rattle.trace.specs.Tree.{Parts}
-use Rattle.trace.specs.Promise.{Engine, Lent, acceptance, Marks, Profile}
+use Rattle.trace.specs.Tree.{PartsOf}
+use Rattle.trace.specs.Promise.{Engine, Lent, acceptance, Marks, ProfileOf}
 use Rattle.trace.proofs.Basics.{clash}
 use Rattle.trace.proofs.Sums.{upTo}
 use Rattle.trace.proofs.Chains.{is-length}
 use Rattle.trace.proofs.Declared.{is-one}
 use Rattle.trace.proofs.OnChain.{locals-add-up, ilocals-add-up, on-spans-add-up, ion-spans-add-up}
-use Rattle.trace.proofs.Unique.{span-unique, chosen-unique}
-use Rattle.agree.specs.Shown.{marked, costsInRow, columnTo, AddUp, Shown}
+use Rattle.trace.proofs.Unique.{span-unique-of, chosen-unique-of}
+use Rattle.agree.specs.Shown.{marked, costsInRow, columnTo, AddUp, ShownOf}
 use Rattle.agree.proofs.Picked.{Among, each-map, where-same, where-has, has-where}
 use Rattle.agree.proofs.InRow.{on-span-along, all-along}
 
 -- ── a chain is ascending, and its lines are the trace's ──
 
+pub chain-up-of : (g : Family) (t : List Frame) (c : List ℕ) → EachTwo (SeriesOf g t) c → EachTwo (λ i j. i < j) c
+chain-up-of g t [] h = tt
+chain-up-of g t (x ∷ c) h = (each-map (SeriesOf g t x) (λ z. x < z) (λ z k. k .0) c (h .0), chain-up-of g t c (h .1))
+
+pub chain-within-of : (g : Family) (t : List Frame) (c : List ℕ) → ChainOf g t root c → Each (Among 0 (length t)) c
+chain-within-of g t c h = each-map (CostIn t root) (Among 0 (length t)) (λ k i. (omega arith, omega (arith, is-length t k (Cost (valueAt t k)) (i .is)))) c (h .costs)
+
+-- the same of document 01's traces
 pub chain-up : (t : List Frame) (c : List ℕ) → EachTwo (Series t) c → EachTwo (λ i j. i < j) c
-chain-up t [] h = tt
-chain-up t (x ∷ c) h = (each-map (Series t x) (λ z. x < z) (λ z k. k .0) c (h .0), chain-up t c (h .1))
+chain-up = chain-up-of Base
 
 pub chain-within : (t : List Frame) (c : List ℕ) → Chain t root c → Each (Among 0 (length t)) c
-chain-within t c h = each-map (CostIn t root) (Among 0 (length t)) (λ k i. (omega arith, omega (arith, is-length t k (Cost (valueAt t k)) (i .is)))) c (h .costs)
+chain-within = chain-within-of Base
 
 -- a 07 line is on no chain
 not-carried : (t : List Frame) (k v : ℕ) (c : List ℕ) → Is t k (Instructions v) → Each (CostIn t root) c → has k c ≡ false
@@ -56,8 +65,8 @@ module _ (t : List Frame) (c before after : List ℕ) (h : Marks (length t) c be
       go false e = omega arith
 
   -- LAW: "A 07 line's mark is 0."
-  pub carried-unmarked : Chain t root c → (k v : ℕ) → Is t k (Instructions v) → getD after k 0 ≡ 0
-  carried-unmarked q k v i = h .marks-are k (is-length t k (Instructions v) i) ∙ ap (λ (b : Bool). cond b 1 0) (not-carried t k v c i (q .costs))
+  pub carried-unmarked : (g : Family) → ChainOf g t root c → (k v : ℕ) → Is t k (Instructions v) → getD after k 0 ≡ 0
+  carried-unmarked g q k v i = h .marks-are k (is-length t k (Instructions v) i) ∙ ap (λ (b : Bool). cond b 1 0) (not-carried t k v c i (q .costs))
 
   -- and 1 on the chain
   mark-one : (k : ℕ) → k < length t → eqb (getD after k 0) 1 ≡ has k c
@@ -68,48 +77,52 @@ module _ (t : List Frame) (c before after : List ℕ) (h : Marks (length t) c be
       go false = refl
 
   -- LAW: the marked lines are the chain
-  pub marked-chain : Chain t root c → marked after (length t) ≡ c
-  marked-chain k =
+  pub marked-chain : (g : Family) → ChainOf g t root c → marked after (length t) ≡ c
+  marked-chain g k =
       where-same (λ x. eqb (getD after x 0) 1) (λ x. has x c) 0 (length t) (λ x m. mark-one x (omega (arith, m .1)))
-      ∙ where-has 0 (length t) c (chain-up t c (k .series)) (chain-within t c k)
+      ∙ where-has 0 (length t) c (chain-up-of g t c (k .series)) (chain-within-of g t c k)
 
 -- the weight of the chosen chain is the root's span
+pub chosen-span-of : (g : Family) (t : List Frame) (c : List ℕ) → ChosenOf g t c → SpanOf g t root (weight t c)
+chosen-span-of g t c h = record { chain = c; is-chain = h .chain; weighs = refl; greatest = h .heaviest }
+
+-- the same of document 01's traces
 pub chosen-span : (t : List Frame) (c : List ℕ) → Chosen t c → Span t root (weight t c)
-chosen-span t c h = record { chain = c; is-chain = h .chain; weighs = refl; greatest = h .heaviest }
+chosen-span = chosen-span-of Base
 
 -- one column of the rows, by what each row has there
 column-is : (rows : List ℕ) (k : Column) (f : ℕ → ℕ) (s : ℕ) → ((i : ℕ) → i ≤ s → getD rows (slot i k) 0 ≡ f i) → columnTo rows k s ≡ upTo f s
 column-is rows k f zero h = h 0 (omega arith)
 column-is rows k f (suc s) h = omega (arith, h (suc s) (omega arith), column-is rows k f s (λ i l. h i (omega arith)))
 
-module _ (e : Engine) (D : ℕ) (t : List Frame) (p : Parts D t) (before : Lent) (r : Answer) (after : Lent) (h : Profile e t before r after) where
+module _ {g : Family} (e : Engine) (D : ℕ) (t : List Frame) (p : PartsOf g D t) (before : Lent) (r : Answer) (after : Lent) (h : ProfileOf g e t before r after) where
   abbrev c : List ℕ
   c = h .chain
 
   up : EachTwo (λ i j. i < j) c
-  up = chain-up t c (h .chosen .chain .series)
+  up = chain-up-of g t c (h .chosen .chain .series)
 
   within : Each (Among 0 (length t)) c
-  within = chain-within t c (h .chosen .chain)
+  within = chain-within-of g t c (h .chosen .chain)
 
   -- LAW: the columns add up
   pub columns-add-up : AddUp t (after .rows) (h .chain)
   columns-add-up =
       record {
         local = column-is (after .rows) Column.local (local t) (sites t) (λ s l. h .rows .rows-are s l .local-is) ∙ locals-add-up D t p;
-        on-span = column-is (after .rows) Column.onSpan (onSpan t c) (sites t) (λ s l. h .rows .rows-are s l .on-span-is) ∙ on-spans-add-up D t p c (h .chosen) (weight t c) (chosen-span t c (h .chosen));
+        on-span = column-is (after .rows) Column.onSpan (onSpan t c) (sites t) (λ s l. h .rows .rows-are s l .on-span-is) ∙ on-spans-add-up D t p c (h .chosen) (weight t c) (chosen-span-of g t c (h .chosen));
         ilocal = column-is (after .rows) Column.ilocal (ilocal t) (sites t) (λ s l. h .rows .rows-are s l .ilocal-is) ∙ ilocals-add-up D t p;
         ion-span = column-is (after .rows) Column.ionSpan (ionSpan t c) (sites t) (λ s l. h .rows .rows-are s l .ion-span-is) ∙ ion-spans-add-up D t p c ∙ all-along instructions t c up within;
       }
 
   -- LAW: beside an answer and rows that are those of the chosen chain, it is what demand 3 asks
-  pub chain-shown : Shown t r (after .rows) (h .chain)
+  pub chain-shown : ShownOf g t r (after .rows) (h .chain)
   chain-shown =
       record {
         chain = h .chosen .chain;
         row-by-row = λ s l. sym (h .rows .rows-are s l .on-span-is ∙ on-span-along cycles t c up within s);
         instructions-by-row = λ s l. sym (h .rows .rows-are s l .ion-span-is ∙ on-span-along instructions t c up within s);
-        in-total = h .answer ∙ ap (acceptance t) (span-unique t root (h .span) (weight t c) (h .is-span) (chosen-span t c (h .chosen)));
+        in-total = h .answer ∙ ap (acceptance t) (span-unique-of g t root (h .span) (weight t c) (h .is-span) (chosen-span-of g t c (h .chosen)));
         heaviest = h .chosen .heaviest;
         first = h .chosen .first;
         columns = columns-add-up;
@@ -118,13 +131,13 @@ module _ (e : Engine) (D : ℕ) (t : List Frame) (p : Parts D t) (before : Lent)
 -- ── the demand determines the chain, the answer, the on-span columns and the marks ──
 
 -- LAW: what is shown is the chosen chain
-pub shown-chosen : (t : List Frame) (r : Answer) (rows c : List ℕ) → Shown t r rows c → Chosen t c
-shown-chosen t r rows c h = record { chain = h .chain; heaviest = h .heaviest; first = h .first }
+pub shown-chosen : (g : Family) (t : List Frame) (r : Answer) (rows c : List ℕ) → ShownOf g t r rows c → ChosenOf g t c
+shown-chosen g t r rows c h = record { chain = h .chain; heaviest = h .heaviest; first = h .first }
 
-module _ (t : List Frame) (r q : Answer) (rows rows′ c d : List ℕ) (h : Shown t r rows c) (k : Shown t q rows′ d) where
+module _ (g : Family) (t : List Frame) (r q : Answer) (rows rows′ c d : List ℕ) (h : ShownOf g t r rows c) (k : ShownOf g t q rows′ d) where
   -- LAW
   pub one-chain : c ≡ d
-  one-chain = chosen-unique t c d (shown-chosen t r rows c h) (shown-chosen t q rows′ d k)
+  one-chain = chosen-unique-of g t c d (shown-chosen g t r rows c h) (shown-chosen g t q rows′ d k)
 
   -- LAW
   pub one-answer : r ≡ q

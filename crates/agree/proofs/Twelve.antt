@@ -4,6 +4,7 @@ use mathlib.Core.Bool.{true}
 use mathlib.Core.List.{List, [], _∷_, map}
 use Prim.Native.Nat.{ℕ}
 use lib.ListN.{length}
+use Rattle.line.specs.declared.Family.the-variants.{Base}
 use Rattle.chain.specs.Plan.{choose}
 use Rattle.chain.specs.Over.{linesIn}
 use Rattle.trace.specs.Tree.{Body, linesOf}
@@ -12,7 +13,8 @@ use Rattle.trace.specs.Twelve.{Case, twelve}
 use Rattle.trace.proofs.Basics.{clash}
 use Rattle.trace.proofs.Scan.{accepted-length}
 use Rattle.trace.proofs.Unique.{chosen-unique}
-use Rattle.trace.proofs.Twelve.{trees, sited, Row, expected, computed, test, chosen-here}
+use Rattle.trace.proofs.Twelve.{trees, sited, Row, expected, computed, test}
+use Rattle.trace.proofs.Computed.{chosen-here}
 use Rattle.agree.specs.Shown.{marked}
 use Rattle.agree.specs.Twelve.{chosenLines, MarkedAs, AllMarked, TwelveMarked}
 use Rattle.agree.proofs.Demand.{marked-chosen}
@@ -24,8 +26,9 @@ chosen b = linesIn (chainOf 0 0 (sited b))
 marked-as : (c : Case) (b : Body) → expected c ≡ computed b → MarkedAs c (chosen b)
 marked-as c b e y h room =
     let a = ap (λ (r : Row). r .answer) e in
+    let o = sym (ap (λ (r : Row). r .base) e) in
     ap (marked (y .left .marks)) (sym (accepted-length (c .trace) 4 2 true (linesOf (sited b)) a))
-    ∙ chosen-unique (linesOf (sited b)) (marked (y .left .marks) (length (linesOf (sited b)))) (chosen b) (marked-chosen (c .trace) 4 2 y h room (linesOf (sited b)) a) (chosen-here (c .trace) (sited b) a)
+    ∙ chosen-unique (linesOf (sited b)) (marked (y .left .marks) (length (linesOf (sited b)))) (chosen b) (marked-chosen Base (c .trace) 4 2 y h room (linesOf (sited b)) a) (chosen-here Base (c .trace) 4 2 (sited b) o a)
 
 all-marked : (cs : List Case) (bs : List Body) → map expected cs ≡ map computed bs → AllMarked cs (map chosen bs)
 all-marked [] [] e = tt

@@ -6,11 +6,14 @@ use mathlib.Core.Bool.{Bool, false, cond}
 use mathlib.Core.List.{List, [], _∷_}
 use lib.Dec.{eqb}
 use lib.ListN.{getD}
+use Rattle.line.specs.declared.Family.{Family}
+use Rattle.line.specs.declared.Family.the-variants.{Base}
 use Rattle.line.specs.declared.Frame.{Frame}
 use Rattle.chain.specs.Over.{Before}
 use Rattle.trace.specs.declared.Answer.{Answer}
 use Rattle.trace.specs.Shape.{root, openAt, has, sites}
-use Rattle.trace.specs.Series.{Chain, weight}
+use Rattle.trace.specs.Async.{finish}
+use Rattle.trace.specs.Series.{ChainOf, weight}
 use Rattle.trace.specs.Rows.{ofRow, Measure, cycles, instructions, total, itotal, sum}
 use Rattle.trace.specs.Column.{Column, slot}
 use Rattle.trace.specs.Promise.{acceptance}
@@ -24,14 +27,15 @@ linesWhere p k (suc count) = cond (p k) (k ∷ linesWhere p (suc k) count) (line
 abbrev pub marked : List ℕ → ℕ → List ℕ
 marked marks n = linesWhere (λ k. eqb (getD marks k 0) 1) 0 n
 
--- the innermost of the open invocations is one of l
-abbrev pub firstOf : List ℕ → List ℕ → Bool
-firstOf l [] = false
-firstOf l (F ∷ o) = has F l
+-- the innermost of the open things o that is no finish is one of l
+abbrev pub ownerIn : List Frame → List ℕ → List ℕ → Bool
+ownerIn t l [] = false
+ownerIn t l (F ∷ o) = cond (finish t F) (ownerIn t l o) (has F l)
 
--- line k stands directly in one of the invocations of row s
+-- line k stands directly in one of the invocations of row s; 02, request n: "Costs directly in a finish belong to the
+-- row around it"
 abbrev pub inRow : List Frame → ℕ → ℕ → Bool
-inRow t s k = firstOf (ofRow t s) (openAt t k)
+inRow t s k = ownerIn t (ofRow t s) (openAt t k)
 
 -- what line k comes to in a measure
 abbrev pub atLine : Measure → List Frame → ℕ → ℕ
@@ -59,10 +63,10 @@ pub record AddUp (t : List Frame) (rows c : List ℕ) : Type 0 where
   -- and column 7 to those of the marked lines
   pub ion-span : columnTo rows Column.ionSpan (sites t) ≡ sum (atLine instructions t) c
 
--- the marked lines c of the trace t, beside the answer r and the rows
-pub record Shown (t : List Frame) (r : Answer) (rows c : List ℕ) : Type 0 where
+-- the marked lines c of the trace t of family g, beside the answer r and the rows
+pub record ShownOf (g : Family) (t : List Frame) (r : Answer) (rows c : List ℕ) : Type 0 where
   -- "The marks show one chain"
-  pub chain : Chain t root c
+  pub chain : ChainOf g t root c
   -- "whose costs add up, row by row, to the on-span column"
   pub row-by-row : (s : ℕ) → s ≤ sites t → costsInRow cycles t s c ≡ getD rows (slot s Column.onSpan) 0
   -- 02, request l: "Demand 3's sums hold for instructions by row"
@@ -70,8 +74,12 @@ pub record Shown (t : List Frame) (r : Answer) (rows c : List ℕ) : Type 0 wher
   -- "and in total to the span"
   pub in-total : r ≡ acceptance t (weight t c)
   -- "no chain is heavier"
-  pub heaviest : (d : List ℕ) → Chain t root d → weight t d ≤ weight t c
+  pub heaviest : (d : List ℕ) → ChainOf g t root d → weight t d ≤ weight t c
   -- "and among equals it is the first by line number"
-  pub first : (d : List ℕ) → Chain t root d → weight t d ≡ weight t c → (d ≡ c) ⊎ Before c d
+  pub first : (d : List ℕ) → ChainOf g t root d → weight t d ≡ weight t c → (d ≡ c) ⊎ Before c d
   -- and the columns add up
   pub columns : AddUp t rows c
+
+-- that of document 01's traces
+abbrev pub Shown : List Frame → Answer → List ℕ → List ℕ → Type 0
+Shown t r rows c = ShownOf Base t r rows c

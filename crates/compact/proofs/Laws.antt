@@ -6,13 +6,14 @@ use mathlib.Core.List.{List, [], append-nil}
 use Prim.Native.Nat.{ℕ, zero, suc, _≤_}
 use native.Mathlib.Omega.{arith}
 use lib.ListN.{length}
+use Rattle.line.specs.declared.Family.the-variants.{Base}
 use Rattle.line.specs.declared.Frame.{Frame}
 use Rattle.chain.specs.Plan.{CostLine}
 use Rattle.chain.specs.Over.{linesIn}
 use Rattle.trace.specs.Shape.{root, sites}
 use Rattle.trace.specs.Series.{Span, Chosen}
 use Rattle.trace.specs.Rows.{Spans, onSpan, ionSpan}
-use Rattle.trace.specs.Tree.{Body, linesOf, Within, Parts, workOf, localOf, ilocalOf, spanOf, rowSum, outerRow, callsIn, workIn, spansIn, localIn, ilocalIn}
+use Rattle.trace.specs.Tree.{Body, Of, linesOf, Within, Parts, workOf, localOf, ilocalOf, spanOf, rowSum, outerRow, callsIn, workIn, spansIn, localIn, ilocalIn}
 use Rattle.trace.specs.Fold.{itsCycles, itsInstructions, onRow}
 use Rattle.trace.proofs.Scan.{Fine}
 use Rattle.trace.proofs.Parse.{parts}
@@ -32,7 +33,7 @@ use Rattle.compact.specs.Unchanged.{Unchanged}
 use Rattle.compact.specs.Tree.{compactB}
 use Rattle.compact.proofs.Pairs.{Adds, cycles-add, instructions-add}
 use Rattle.compact.proofs.Lines.{compact-lines, compact-naming}
-use Rattle.compact.proofs.Sums.{compact-within, compact-owned, compact-size, compact-work, compact-local, compact-ilocal, packed-made, packed-outer}
+use Rattle.compact.proofs.Sums.{compact-within, compact-of, compact-owned, compact-size, compact-work, compact-local, compact-ilocal, packed-made, packed-outer}
 use Rattle.compact.proofs.Spans.{compact-span, compact-on}
 use Rattle.compact.proofs.Once.{compact-once}
 
@@ -43,17 +44,18 @@ module _ (f : Body → ℕ) (same : (g : Body) → Paid g → f (compactB g) ≡
   row-same zero b w = same b w
   row-same (suc s) b w = packed-made f same (suc s) b false 0 0 w
 
-  outer-same : (s : ℕ) (b : Body) → Paid b → outerRow f s (compactB b) ≡ outerRow f s b
-  outer-same zero b w = same b w
-  outer-same (suc s) b w = packed-outer f same (suc s) b false 0 0 w
+module _ (f : Body → ℕ) (same : (k : ℕ) (g : Body) → Of Base k g → Paid g → f (compactB g) ≡ f g) where
+  outer-same : (s : ℕ) (b : Body) → Of Base 0 b → Paid b → outerRow f s (compactB b) ≡ outerRow f s b
+  outer-same zero b o w = same 0 b o w
+  outer-same (suc s) b o w = packed-outer f same (suc s) 0 b false 0 0 o w
 
 compact-calls : (s : ℕ) (b : Body) → Paid b → callsIn s (compactB b) ≡ callsIn s b
 compact-calls = row-same (λ g. 1) (λ g w. refl)
 
-compact-works : (s : ℕ) (b : Body) → Paid b → workIn s (compactB b) ≡ workIn s b
-compact-works = outer-same workOf (λ g w. compact-work g)
+compact-works : (s : ℕ) (b : Body) → Of Base 0 b → Paid b → workIn s (compactB b) ≡ workIn s b
+compact-works = outer-same workOf (λ k g o w. compact-work g)
 
-compact-spans : (s : ℕ) (b : Body) → Paid b → spansIn s (compactB b) ≡ spansIn s b
+compact-spans : (s : ℕ) (b : Body) → Of Base 0 b → Paid b → spansIn s (compactB b) ≡ spansIn s b
 compact-spans = outer-same spanOf compact-span
 
 compact-locals : (s : ℕ) (b : Body) → Paid b → localIn s (compactB b) ≡ localIn s b
@@ -82,6 +84,7 @@ module _ (D : ℕ) (t : List Frame) (p : Parts D t) (own : Owned false t) where
   compact-parts =
       record {
         body = compactB (p .body);
+        of = compact-of 0 (p .body) (p .of);
         lines = ap compact (p .lines) ∙ compact-lines (p .body) body-owned;
         within = subst (λ (m : ℕ). Within m D 1 (compactB (p .body))) (sym same-sites) (compact-within (sites t) D 1 (p .body) (p .within));
       }
@@ -104,7 +107,7 @@ module _ (D : ℕ) (t : List Frame) (p : Parts D t) (own : Owned false t) where
   same-on column m a tree c d h k s =
       ap (λ (l : List ℕ). column u l s) (root-chosen-only D u q d k)
       ∙ tree u q s
-      ∙ compact-on m a (p .body) 0 0 0 s w
+      ∙ compact-on m a (p .body) 0 0 0 s (p .of) w
       ∙ sym (tree t p s)
       ∙ sym (ap (λ (l : List ℕ). column t l s) (root-chosen-only D t p c h))
 
@@ -114,11 +117,11 @@ module _ (D : ℕ) (t : List Frame) (p : Parts D t) (own : Owned false t) where
       record {
         same-sites = same-sites;
         same-total = total-tree D u q ∙ compact-work (p .body) ∙ sym (total-tree D t p);
-        same-span = λ n h. subst (Span u root) (compact-span (p .body) w ∙ sym (root-span-only D t p n h)) (root-span D u q);
+        same-span = λ n h. subst (Span u root) (compact-span 0 (p .body) (p .of) w ∙ sym (root-span-only D t p n h)) (root-span D u q);
         same-calls = λ s. calls-tree D u q s ∙ compact-calls s (p .body) w ∙ sym (calls-tree D t p s);
-        same-work = λ s. work-tree D u q s ∙ compact-works s (p .body) w ∙ sym (work-tree D t p s);
+        same-work = λ s. work-tree D u q s ∙ compact-works s (p .body) (p .of) w ∙ sym (work-tree D t p s);
         same-spans = λ s n h.
-            subst (Spans u s) (compact-spans s (p .body) w ∙ sym (spans-unique t s n (spansIn s (p .body)) h (spans-tree D t p s))) (spans-tree D u q s);
+            subst (Spans u s) (compact-spans s (p .body) (p .of) w ∙ sym (spans-unique t s n (spansIn s (p .body)) h (spans-tree D t p s))) (spans-tree D u q s);
         same-local = λ s. local-tree D u q s ∙ compact-locals s (p .body) w ∙ sym (local-tree D t p s);
         same-ilocal = λ s. ilocal-tree D u q s ∙ compact-ilocals s (p .body) w ∙ sym (ilocal-tree D t p s);
         same-on-span = same-on onSpan itsCycles cycles-add (on-span-tree D);
@@ -146,7 +149,7 @@ module _ (D : ℕ) (t : List Frame) (p : Parts D t) (own : Owned false t) where
       )
 
 -- LAW: what passes still passes, with the same limits
-pub compact-fine : (D M : ℕ) (t : List Frame) → Fine D M t → Fine D M (compact t)
+pub compact-fine : (D M : ℕ) (t : List Frame) → Fine Base D M t → Fine Base D M (compact t)
 compact-fine D M t f =
     let x = fine-is-trace D M t f in
     let p = parts D M t f in
@@ -154,6 +157,7 @@ compact-fine D M t f =
     trace-is-fine D M (compact t) (f .least) (f .most) (f .sites-most) (omega (arith, f .lines-most, never-longer D t p (x .owned)))
     (record {
       body = q .body;
+      of = q .of;
       lines = q .lines;
       named = subst (Named M []) (sym (same-naming D t p (x .owned))) (x .named);
       owned = compact-lines-owned D t p (x .owned);

@@ -4,9 +4,9 @@ use mathlib.Core.Bool.{Bool, true, false, not, cond, _||_}
 use mathlib.Core.List.{List, [], _∷_, _++_, append-assoc, append-nil}
 use Prim.Native.Nat.{ℕ, zero, suc, _+_}
 use Rattle.line.specs.declared.Frame.{Frame}
-use Rattle.line.specs.declared.Frame.the-variants.{Site, Call, Spawn, Sync, Return, Cost, Instructions}
+use Rattle.line.specs.declared.Frame.the-variants.{Site, Call, Spawn, Sync, Return, Cost, Instructions, Async, Finish}
 use Rattle.trace.specs.Rows.{carried}
-use Rattle.trace.specs.Tree.{Way, call, spawn, opening, site, carry, spend, sync, note, Body, done, leaf, child, linesOf, ahead}
+use Rattle.trace.specs.Tree.{Way, call, spawn, async, pass, finish, opening, site, carry, spend, sync, note, Body, done, leaf, child, linesOf, ahead}
 use Rattle.trace.proofs.Basics.{clash}
 use Rattle.trace.proofs.Named.{naming, naming-append}
 use Rattle.trace.proofs.Measures.{carried-lines}
@@ -24,6 +24,9 @@ ends-is (leaf (note (site s p)) r) u = refl
 ends-is (leaf (note (carry v)) r) u = refl
 ends-is (child call s g r) u = refl
 ends-is (child spawn s g r) u = refl
+ends-is (child async s g r) u = refl
+ends-is (child pass s g r) u = refl
+ends-is (child finish s g r) u = refl
 
 summed-lines : (h j : ℕ) (b : Body) (u : List Frame) → summed h j (linesOf b ++ u) ≡ linesOf (summedB h j b) ++ u
 summed-lines zero j b u = refl
@@ -34,6 +37,9 @@ opened : (w : Way) (s h j : ℕ) (x : Bool) (o : List Bool) (l : List Frame)
     → mergedFrom h j (keptFrom (x ∷ o) (opening w s ∷ l)) ≡ summed h j (opening w s ∷ mergedFrom 0 0 (keptFrom (false ∷ later w x ∷ o) l))
 opened call s h j x o l = refl
 opened spawn s h j x o l = refl
+opened async s h j x o l = refl
+opened pass s h j x o l = refl
+opened finish s h j x o l = refl
 
 -- ── a 07 line stays directly after its cost ──
 
@@ -46,6 +52,8 @@ not-carried (Sync ∷ t) w = refl
 not-carried (Return ∷ t) w = refl
 not-carried (Cost v ∷ t) w = refl
 not-carried (Instructions v ∷ t) w = clash (let z = w .0 in cc)
+not-carried (Async s ∷ t) w = refl
+not-carried (Finish ∷ t) w = refl
 
 -- LAW: what the lines carry for the cost before them, those that are kept carry for it
 pub kept-carried : (t : List Frame) (c : Bool) (o : List Bool) → Owned c t → carried (keptFrom o t) ≡ carried t
@@ -61,6 +69,8 @@ kept-carried (Sync ∷ t) c o w = go (idleSync o t) (kept-carried t false (since
 kept-carried (Return ∷ t) c o w = refl
 kept-carried (Cost v ∷ t) c o w = refl
 kept-carried (Instructions v ∷ t) c o w = refl
+kept-carried (Async s ∷ t) c o w = refl
+kept-carried (Finish ∷ t) c o w = refl
 
 -- ── the lines of a body ──
 
@@ -118,6 +128,9 @@ compact-lines b w = ap compact (sym (append-nil (linesOf b))) ∙ packed-lines b
 opening-naming : (w : Way) (s : ℕ) (t u : List Frame) → naming t ≡ naming u → naming (opening w s ∷ t) ≡ naming (opening w s ∷ u)
 opening-naming call s t u e = ap (λ (l : List Frame). opening call s ∷ l) e
 opening-naming spawn s t u e = ap (λ (l : List Frame). opening spawn s ∷ l) e
+opening-naming async s t u e = ap (λ (l : List Frame). opening async s ∷ l) e
+opening-naming pass s t u e = ap (λ (l : List Frame). opening pass s ∷ l) e
+opening-naming finish s t u e = e
 
 summed-naming : (h j : ℕ) (b : Body) → naming (linesOf (summedB h j b)) ≡ naming (linesOf b)
 summed-naming zero j b = refl

@@ -9,8 +9,9 @@ use lib.Dec.{eqb}
 use lib.ListN.{length}
 use borrow.Author.Tests.{eq-eqb, ne-eqb, ltb-false}
 use Rattle.line.specs.declared.Place.{Place}
+use Rattle.line.specs.declared.Family.the-variants.{Base}
 use Rattle.line.specs.declared.Frame.{Frame}
-use Rattle.line.specs.declared.Frame.the-variants.{Site, Call, Spawn, Sync, Return, Cost, Instructions}
+use Rattle.line.specs.declared.Frame.the-variants.{Site, Call, Spawn, Sync, Return, Cost, Instructions, Async, Finish}
 use Rattle.trace.specs.Shape.{closed, step}
 use Rattle.trace.specs.Rows.{carried}
 use Rattle.trace.specs.Refusals.{openNow, empty, tooDeep}
@@ -30,7 +31,7 @@ use Rattle.compact.proofs.Lines.{kept-carried}
 
 abbrev pub Inside : List Bool → List Frame → Type 0
 Inside o [] = o ≡ []
-Inside o (f ∷ t) = (1 ≤ length o) × (length o ≤ 64) × InTable f × Inside (since f o) t
+Inside o (f ∷ t) = (1 ≤ length o) × (length o ≤ 64) × InTable Base f × Inside (since f o) t
 
 no-bits : (o : List Bool) → length o ≡ 0 → o ≡ []
 no-bits [] e = refl
@@ -67,10 +68,12 @@ module _ (D : ℕ) (most : D ≤ 64) where
   level-next before n b (Spawn s) h l = record { same = omega (arith, l .same, inner true b); within = ltb-false D (suc (length (openNow before))) h }
   level-next before n b (Cost v) h l = l
   level-next before n b (Instructions v) h l = l
+  level-next before n b (Async s) h l = record { same = omega (arith, l .same); within = ltb-false D (suc (length (openNow before))) h }
+  level-next before n b Finish h l = record { same = omega (arith, l .same); within = ltb-false D (suc (length (openNow before))) h }
   level-next before n b Sync h l = record { same = inner false b ∙ l .same; within = l .within }
   level-next before n b Return h l = closing (openNow before) b l
 
-  clean-inside : (M : ℕ) (before t : List Frame) (b : List Bool) → Clean D M before t → Level (openNow before) b → Inside b t
+  clean-inside : (M : ℕ) (before t : List Frame) (b : List Bool) → Clean Base D M before t → Level (openNow before) b → Inside b t
   clean-inside M before [] b c l = no-bits b (l .same ∙ none-open (openNow before) c)
   clean-inside M before (f ∷ t) b c l =
       let w = faultless D M before f (c .0) in (
@@ -81,11 +84,11 @@ module _ (D : ℕ) (most : D ≤ 64) where
             (subst (λ (o : List ℕ). Level o (since f b)) (sym (now before f)) (level-next before (length before) b f (w .not12) l)),
       )
 
-pub fine-inside : (D M : ℕ) (t : List Frame) → Fine D M t → Inside (false ∷ []) t
+pub fine-inside : (D M : ℕ) (t : List Frame) → Fine Base D M t → Inside (false ∷ []) t
 fine-inside D M t f = clean-inside D (f .most) M [] t (false ∷ []) (f .clean) (record { same = refl; within = f .least })
 
-pub fine-owned : (D M : ℕ) (t : List Frame) → Fine D M t → Owned false t
-fine-owned D M t f = clean-owned D M [] t (f .clean)
+pub fine-owned : (D M : ℕ) (t : List Frame) → Fine Base D M t → Owned false t
+fine-owned D M t f = clean-owned Base D M [] t (f .clean)
 
 carried-most : (o : List Bool) (t : List Frame) → Inside o t → carried t ≤ mostValue
 carried-most o [] i = omega arith
@@ -96,6 +99,8 @@ carried-most o (Sync ∷ t) i = omega arith
 carried-most o (Return ∷ t) i = omega arith
 carried-most o (Cost v ∷ t) i = omega arith
 carried-most o (Instructions v ∷ t) i = i .2 .1
+carried-most o (Async s ∷ t) i = omega arith
+carried-most o (Finish ∷ t) i = omega arith
 
 -- ── the state ──
 
@@ -233,6 +238,8 @@ out (Sync ∷ t) = out-sync t (out t)
 out (Return ∷ t) = out-return t (out t)
 out (Cost v ∷ t) = out-cost v t (out t)
 out (Instructions v ∷ t) = out-carry v t (out t)
+out (Async s ∷ t) = λ o c x y h j i n w. absurd (i .2)
+out (Finish ∷ t) = λ o c x y h j i n w. absurd (i .2)
 
 -- LAW: line by line, what goes out is the compacted trace
 pub outs-compact : (t : List Frame) → Inside (false ∷ []) t → Owned false t → outs start t ≡ compact t
@@ -294,6 +301,8 @@ room (Return ∷ t) o x y h j i f = (ready o x y h j (i .1) f, room-return o t (
 room (Cost v ∷ t) o x y h j i f =
     (ready o x y h j (i .1) f, room-cost v t o x y h j (i .2 .1, carried-most (x ∷ o) t (i .3)) (λ h j. room t o x false h j (i .3)))
 room (Instructions v ∷ t) o x y h j i f = (ready o x y h j (i .1) f, room t o x y h j (i .3) f)
+room (Async s ∷ t) o x y h j i f = absurd (i .2)
+room (Finish ∷ t) o x y h j i f = absurd (i .2)
 
 -- LAW: within the limits the bits fit, and what is held fits a value
 pub room-trace : (t : List Frame) → Inside (false ∷ []) t → Room start t

@@ -10,8 +10,9 @@ use lib.ListN.{length, take, drop, length-append}
 use borrow.Author.Tests.{ne-eqb, not-true, not-false}
 use Rattle.digits.specs.Digits.{smallForm}
 use Rattle.digits.proofs.Laws.{small-length}
+use Rattle.line.specs.declared.Family.the-variants.{Base}
 use Rattle.line.specs.declared.Frame.{Frame}
-use Rattle.line.specs.declared.Frame.the-variants.{Site, Call, Spawn, Sync, Return, Cost, Instructions}
+use Rattle.line.specs.declared.Frame.the-variants.{Site, Call, Spawn, Sync, Return, Cost, Instructions, Async, Finish}
 use Rattle.line.specs.declared.Read.the-variants.{Line}
 use Rattle.line.specs.Read.{lineAt, readAt}
 use Rattle.line.specs.Write.{writeChars}
@@ -202,7 +203,7 @@ module _ (g : Given) (l : List ℕ) (at : ℕ) where
 -- ── a line ──
 
 -- the line behind line n tells what line n's cost has of instructions; behind the last line there is none
-next-carries : (s : List ℕ) (n : ℕ) (u : List Frame) → Stands s (n + 1) u → n + 1 + length u ≡ lineCount s → instructionsAt s n ≡ carried u
+next-carries : (s : List ℕ) (n : ℕ) (u : List Frame) → Stands Base s (n + 1) u → n + 1 + length u ≡ lineCount s → instructionsAt s n ≡ carried u
 next-carries s n [] h e = ap (λ (l : List ℕ). cond (eqb (kindIn l) 7) (valueAt s (n + 1)) 0) (at-none s (n + 1) (omega arith))
 next-carries s n (f ∷ u) h e =
     let i = item s (n + 1) (n + 1) f (h .0) in
@@ -216,6 +217,8 @@ next-carries s n (f ∷ u) h e =
     of Return = refl
     of (Cost v) = refl
     of (Instructions v) = refl
+    of (Async s) = refl
+    of Finish = refl
 
 cost-carries : (f : Frame) (u : List Frame) → cond (eqb (kindOf f) 6) (carried u) 0 ≡ instructionsOf f u
 cost-carries (Site s p) u = refl
@@ -225,6 +228,8 @@ cost-carries Sync u = refl
 cost-carries Return u = refl
 cost-carries (Cost v) u = refl
 cost-carries (Instructions v) u = refl
+cost-carries (Async s) u = refl
+cost-carries Finish u = refl
 
 -- what is read of line n is its item, and the step by it is that at line n
 pub item-is : (s : List ℕ) (n kind v : ℕ) (i : Instructions′) → kind ≡ kindAt s n → v ≡ valueAt s n → i .0 ≡ carriedAt s n kind → record { kind = kind; cycles = cycles v; instructions = i } ≡ itemAt s n
@@ -241,7 +246,7 @@ given-is s n a i g e h = h ∙ ap (λ (x : Item). step (x .kind) (x .cycles) (x 
 
 module _ (s : List ℕ) (n : ℕ) (f : Frame) (reads : readAt s n ≡ Line n f) where
   -- its kind, its value and the line behind it tell the step
-  step-is : (u : List Frame) (a : State) → Stands s (n + 1) u → n + 1 + length u ≡ lineCount s → steppedAt s n a ≡ stepped a f u
+  step-is : (u : List Frame) (a : State) → Stands Base s (n + 1) u → n + 1 + length u ≡ lineCount s → steppedAt s n a ≡ stepped a f u
   step-is u a h e =
       let i = item s n n f reads in
       let c : carriedAt s n (kindAt s n) ≡ instructionsOf f u =
@@ -258,7 +263,7 @@ module _ (s : List ℕ) (n : ℕ) (f : Frame) (reads : readAt s n ≡ Line n f) 
 
 -- the lines from line n on, with a held back before it
 pub record Turn (s : List ℕ) (lines : ℕ) (a : State) (n : ℕ) (rest : List Frame) : Type 0 where
-  pub stands : Stands s n rest
+  pub stands : Stands Base s n rest
   pub ends : n + length rest ≡ lines
   pub room : Room a rest
 
@@ -359,7 +364,7 @@ module _ {s : List ℕ} {lines : ℕ} where
               ∙ e in
               record {
                 tail = u;
-                line = line-whole s n f (t .stands .0);
+                line = line-whole Base s n f (t .stands .0);
                 next = subst (λ (x : Given). Turn s lines (x .next) (n + 1) u) is (turn-next t);
                 then = ap (λ (x : List ℕ). (h .done ++ x) ++ textOf (outs (g .next) u)) (sym same) ∙ ap (λ (x : Given). (h .done ++ p) ++ textOf (outs (x .next) u)) (sym is) ∙ on;
               }

@@ -8,8 +8,9 @@ use Prim.Native.Nat.{ℕ, zero, suc, _+_, _≤_}
 use native.Mathlib.Omega.{arith}
 use lib.ListN.{length}
 use borrow.Author.Tests.{le-leb}
+use Rattle.line.specs.declared.Family.the-variants.{Base}
 use Rattle.line.specs.declared.Frame.{Frame}
-use Rattle.line.specs.declared.Frame.the-variants.{Site, Call, Spawn, Sync, Return, Cost, Instructions}
+use Rattle.line.specs.declared.Frame.the-variants.{Site, Call, Spawn, Sync, Return, Cost, Instructions, Async, Finish}
 use Rattle.line.specs.declared.Wrote.{Wrote}
 use Rattle.line.specs.Write.{writable}
 use Rattle.line.proofs.Writable.{writable-value}
@@ -72,6 +73,8 @@ carried-held (Sync ∷ t) k = inl refl
 carried-held (Return ∷ t) k = inl refl
 carried-held (Cost v ∷ t) k = inl refl
 carried-held (Instructions v ∷ t) k = inr (k .0)
+carried-held (Async s ∷ t) k = inl refl
+carried-held (Finish ∷ t) k = inl refl
 
 -- a line that goes out itself, behind all that is held
 line-writable : (f : Frame) (t : List Frame) (h j : ℕ) → Held Cost h → Held Instructions j → writable f ≡ true → Writable t → Writable (summed h j (f ∷ t))
@@ -85,6 +88,8 @@ merged-writable (Spawn s ∷ t) h j l n k = line-writable (Spawn s) (mergedFrom 
 merged-writable (Sync ∷ t) h j l n k = line-writable Sync (mergedFrom 0 0 t) h j l n (k .0) (merged-writable t 0 0 (inl refl) (inl refl) (k .1))
 merged-writable (Return ∷ t) h j l n k = line-writable Return (mergedFrom 0 0 t) h j l n (k .0) (merged-writable t 0 0 (inl refl) (inl refl) (k .1))
 merged-writable (Instructions v ∷ t) h j l n k = merged-writable t h j l n (k .1)
+merged-writable (Async s ∷ t) h j l n k = line-writable (Async s) (mergedFrom 0 0 t) h j l n (k .0) (merged-writable t 0 0 (inl refl) (inl refl) (k .1))
+merged-writable (Finish ∷ t) h j l n k = line-writable Finish (mergedFrom 0 0 t) h j l n (k .0) (merged-writable t 0 0 (inl refl) (inl refl) (k .1))
 merged-writable (Cost v ∷ t) h j l n k =
     go (fit-either (h + v) (j + i)) (λ q. merged-writable t (h + v) (j + i) (cost-held (h + v) (q .0)) (instructions-held (j + i) (q .1)) (k .1))
     (merged-writable t v i (inr (k .0)) (carried-held t (k .1)) (k .1))
@@ -107,7 +112,7 @@ compact-writable t h = merged-writable (kept t) 0 0 (inl refl) (inl refl) (kept-
 -- ── the result ──
 
 module _ (s : List ℕ) (D M : ℕ) (room : Bool) (t : List Frame) (e : verdict s D M room ≡ accepted t) (u : List Frame) (c : Compacted t u) where
-  fine : Fine D M t
+  fine : Fine Base D M t
   fine = accepted-fine s D M room t e
 
   own : Owned false t

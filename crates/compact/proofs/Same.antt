@@ -10,8 +10,7 @@ use lib.Dec.{eqb}
 use Rattle.chain.specs.Plan.{CostLine, Plan, none, cost, seq, par, weight, choose, pick}
 use Rattle.chain.proofs.Lists.{weight-append}
 use Rattle.chain.proofs.Choose.{choose-cases}
-use Rattle.trace.specs.Tree.{Way, call, spawn}
-use Rattle.trace.specs.Fold.{costAt, together, onRow}
+use Rattle.trace.specs.Fold.{costAt, onRow}
 use Rattle.trace.proofs.Basics.{cond-same, cond-add}
 use Rattle.trace.proofs.OnChain.{row-append}
 use Rattle.compact.proofs.Pairs.{Adds}
@@ -89,7 +88,3 @@ same-add s h j v i =
 
 pub same-zero : (s : ℕ) → Same (held s 0 0) none
 same-zero s = record { weighs = refl; on = λ m d r. omega (arith, ap (λ (x : ℕ). cond (eqb s r) x 0) (d .none 0 s), cond-same (eqb s r)) }
-
-pub same-together : (w : Way) {p q a b : Plan} → Same p q → Same a b → Same (together w p a) (together w q b)
-same-together call h k = same-seq h k
-same-together spawn h k = same-par h k

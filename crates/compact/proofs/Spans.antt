@@ -4,7 +4,8 @@ use mathlib.Core.Bool.{Bool, true, false, cond}
 use Prim.Native.Nat.{ℕ, zero, suc, _+_, _≤_}
 use native.Mathlib.Omega.{arith}
 use Rattle.chain.specs.Plan.{CostLine, Plan, none, cost, seq, weight, pick}
-use Rattle.trace.specs.Tree.{Way, call, spawn, Note, site, carry, spend, sync, note, Body, done, leaf, child, ahead, size, spanOf}
+use Rattle.line.specs.declared.Family.the-variants.{Base}
+use Rattle.trace.specs.Tree.{call, spawn, async, pass, finish, Note, site, carry, spend, sync, note, Body, done, leaf, child, Of, ahead, size, spanOf}
 use Rattle.trace.specs.Fold.{costAt, block, after, plan, chainOf, onRow}
 use Rattle.trace.proofs.Basics.{clash}
 use Rattle.trace.proofs.Recurrence.{Paid, chain-is-pick, weight-chain}
@@ -12,7 +13,7 @@ use Rattle.compact.specs.Tree.{ends, summedB, packed, compactB}
 use Rattle.compact.proofs.Pairs.{Paired, Adds}
 use Rattle.compact.proofs.Sums.{cost-either, packed-paid, packed-ahead}
 use Rattle.compact.proofs.Once.{ends-done}
-use Rattle.compact.proofs.Same.{Same, same-refl, same-sym, same-trans, same-seq, same-assoc, same-left, held, same-cost, same-add, same-zero, same-together}
+use Rattle.compact.proofs.Same.{Same, same-refl, same-sym, same-trans, same-seq, same-par, same-assoc, same-left, held, same-cost, same-add, same-zero}
 
 -- Two bodies are the same to what stands before them: with a spawn since, what stands before the next sync and what behind
 -- it; without one, the two together.
@@ -128,10 +129,15 @@ note-whole x a r w n k s = w (suc n) (suc k) s
 
 -- ── an invocation ──
 
-child-both : (w : Way) (i : ℕ) (a b g r : Body) → Whole a g → Both b r → Both (child w i a b) (child w i g r)
-child-both w i a b g r p q n k s =
+called-both : (i : ℕ) (a b g r : Body) → Whole a g → Both b r → Both (child call i a b) (child call i g r)
+called-both i a b g r p q n k s =
     let x = q (suc n + size a) (suc k + size g) s in
-    (same-together w (p (suc n) (suc k) i) (x .0), x .1)
+    (same-seq (p (suc n) (suc k) i) (x .0), x .1)
+
+spawned-both : (i : ℕ) (a b g r : Body) → Whole a g → Both b r → Both (child spawn i a b) (child spawn i g r)
+spawned-both i a b g r p q n k s =
+    let x = q (suc n + size a) (suc k + size g) s in
+    (same-par (p (suc n) (suc k) i) (x .0), x .1)
 
 called-whole : (i : ℕ) (a b g r : Body) → Whole a g → Whole b r → Whole (child call i a b) (child call i g r)
 called-whole i a b g r p q n k s =
@@ -156,12 +162,12 @@ lone-pair v l j e = absurd (omega arith)
 no-pair : Paired 0 0
 no-pair e = refl
 
-packed-same : (b : Body) → Paid b → Packs b
-packed-same done w =
+packed-same : (k : ℕ) (b : Body) → Of Base k b → Paid b → Packs b
+packed-same k done o w =
     (λ h j p. summed-both h j done done p refl (λ n k s. (same-refl none, same-refl none)), λ h j p. summed-whole h j done done p refl (λ n k s. same-refl (seq none none)))
-packed-same (leaf (spend v) r) w =
+packed-same k (leaf (spend v) r) o w =
     let i = ahead r in
-    let q = packed-same r (w .1) in (
+    let q = packed-same k r (o .1) (w .1) in (
       λ h j p. cost-either (λ b. BothWith h j b (leaf (spend v) r)) true h j v r
           (λ f. add-both h j v (packed true (h + v) (j + i) r) r (q .0 (h + v) (j + i) (paid-pair v (w .0) h (j + i))))
           (λ f. summed-both h j (packed true v i r) (leaf (spend v) r) p (packed-ahead r true v i) (line-both v (packed true v i r) r (q .0 v i (lone-pair v (w .0) i)))),
@@ -169,42 +175,45 @@ packed-same (leaf (spend v) r) w =
           (λ f. add-whole h j v (packed false (h + v) (j + i) r) r (q .1 (h + v) (j + i) (paid-pair v (w .0) h (j + i))))
           (λ f. summed-whole h j (packed false v i r) (leaf (spend v) r) p (packed-ahead r false v i) (line-whole v (packed false v i r) r (q .1 v i (lone-pair v (w .0) i)))),
     )
-packed-same (leaf sync r) w =
-    let q = packed-same r (w .1) in
+packed-same k (leaf sync r) o w =
+    let q = packed-same k r (o .1) (w .1) in
     (λ h j p. sync-both h j r p (zero-whole (compactB r) r (q .1 0 0 no-pair)), λ h j p. sync-whole h j r (q .1 h j p))
-packed-same (leaf (note (site i c)) r) w =
-    let q = packed-same r (w .1) in
+packed-same k (leaf (note (site i c)) r) o w =
+    let q = packed-same k r (o .1) (w .1) in
     let x = site i c in (
       λ h j p. summed-both h j (leaf (note x) (packed true 0 0 r)) (leaf (note x) r) p refl (note-both x (packed true 0 0 r) r (zero-both (packed true 0 0 r) r (q .0 0 0 no-pair))),
       λ h j p. summed-whole h j (leaf (note x) (compactB r)) (leaf (note x) r) p refl (note-whole x (compactB r) r (zero-whole (compactB r) r (q .1 0 0 no-pair))),
     )
-packed-same (leaf (note (carry v)) r) w = let q = packed-same r (w .1) in (λ h j p n k s. q .0 h j p n (suc k) s, λ h j p n k s. q .1 h j p n (suc k) s)
-packed-same (child call i g r) w =
-    let p = zero-whole (compactB g) g (packed-same g (w .0) .1 0 0 no-pair) in
-    let q = packed-same r (w .1) in (
+packed-same k (leaf (note (carry v)) r) o w = let q = packed-same k r (o .1) (w .1) in (λ h j p n k s. q .0 h j p n (suc k) s, λ h j p n k s. q .1 h j p n (suc k) s)
+packed-same k (child call i g r) o w =
+    let p = zero-whole (compactB g) g (packed-same i g (o .1) (w .0) .1 0 0 no-pair) in
+    let q = packed-same k r (o .2) (w .1) in (
       λ h j k. summed-both h j (child call i (compactB g) (packed true 0 0 r)) (child call i g r) k refl
-          (child-both call i (compactB g) (packed true 0 0 r) g r p (zero-both (packed true 0 0 r) r (q .0 0 0 no-pair))),
+          (called-both i (compactB g) (packed true 0 0 r) g r p (zero-both (packed true 0 0 r) r (q .0 0 0 no-pair))),
       λ h j k. summed-whole h j (child call i (compactB g) (compactB r)) (child call i g r) k refl
           (called-whole i (compactB g) (compactB r) g r p (zero-whole (compactB r) r (q .1 0 0 no-pair))),
     )
-packed-same (child spawn i g r) w =
-    let p = zero-whole (compactB g) g (packed-same g (w .0) .1 0 0 no-pair) in
-    let q = child-both spawn i (compactB g) (packed true 0 0 r) g r p (zero-both (packed true 0 0 r) r (packed-same r (w .1) .0 0 0 no-pair)) in
+packed-same k (child spawn i g r) o w =
+    let p = zero-whole (compactB g) g (packed-same i g (o .1) (w .0) .1 0 0 no-pair) in
+    let q = spawned-both i (compactB g) (packed true 0 0 r) g r p (zero-both (packed true 0 0 r) r (packed-same k r (o .2) (w .1) .0 0 0 no-pair)) in
     let c = child spawn i (compactB g) (packed true 0 0 r) in
     (λ h j k. summed-both h j c (child spawn i g r) k refl q, λ h j k. summed-whole h j c (child spawn i g r) k refl (both-whole c (child spawn i g r) q))
+packed-same k (child async i g r) o w = absurd (o .0)
+packed-same k (child pass i g r) o w = absurd (o .0)
+packed-same k (child finish i g r) o w = absurd (o .0)
 
 -- LAW: the plans of a body and of the compacted body are the same but for line numbers
-pub compact-same : (b : Body) → Paid b → Whole (compactB b) b
-compact-same b w = zero-whole (compactB b) b (packed-same b w .1 0 0 no-pair)
+pub compact-same : (k : ℕ) (b : Body) → Of Base k b → Paid b → Whole (compactB b) b
+compact-same k b o w = zero-whole (compactB b) b (packed-same k b o w .1 0 0 no-pair)
 
 span-pick : (b : Body) (n s : ℕ) → Paid b → spanOf b ≡ weight (pick (plan n s b))
 span-pick b n s w = sym (weight-chain b n s) ∙ ap weight (chain-is-pick b n s w)
 
 -- LAW
-pub compact-span : (b : Body) → Paid b → spanOf (compactB b) ≡ spanOf b
-compact-span b w = span-pick (compactB b) 0 0 (packed-paid b false 0 0 w) ∙ compact-same b w 0 0 0 .weighs ∙ sym (span-pick b 0 0 w)
+pub compact-span : (k : ℕ) (b : Body) → Of Base k b → Paid b → spanOf (compactB b) ≡ spanOf b
+compact-span k b o w = span-pick (compactB b) 0 0 (packed-paid b false 0 0 w) ∙ compact-same k b o w 0 0 0 .weighs ∙ sym (span-pick b 0 0 w)
 
 -- LAW: each row has the same part of the chosen chain, in each measure
-pub compact-on : (m : CostLine → ℕ) → Adds m → (b : Body) (n k s r : ℕ) → Paid b → onRow m r (chainOf n s (compactB b)) ≡ onRow m r (chainOf k s b)
-compact-on m d b n k s r w =
-    ap (onRow m r) (chain-is-pick (compactB b) n s (packed-paid b false 0 0 w)) ∙ compact-same b w n k s .on m d r ∙ sym (ap (onRow m r) (chain-is-pick b k s w))
+pub compact-on : (m : CostLine → ℕ) → Adds m → (b : Body) (n k s r : ℕ) → Of Base s b → Paid b → onRow m r (chainOf n s (compactB b)) ≡ onRow m r (chainOf k s b)
+compact-on m d b n k s r o w =
+    ap (onRow m r) (chain-is-pick (compactB b) n s (packed-paid b false 0 0 w)) ∙ compact-same s b o w n k s .on m d r ∙ sym (ap (onRow m r) (chain-is-pick b k s w))

@@ -1,12 +1,13 @@
 -- On the tree: compacting keeps the limits, the costs and the sums over a row's invocations, and is never longer. Assumes
 -- nothing.
-use mathlib.Core.Path.{_≡_, refl, sym, _∙_, ap, subst}
+use mathlib.Core.Path.{_≡_, refl, sym, _∙_, ap, ap₂, subst}
 use mathlib.Core.Logic.{_⊎_, inl, inr}
-use mathlib.Core.Bool.{Bool, true, false, not, cond, _||_}
+use mathlib.Core.Bool.{Bool, true, false, not, cond, _||_, _&&_}
 use Prim.Native.Nat.{ℕ, zero, suc, _+_, _≤_}
 use native.Mathlib.Omega.{arith}
 use lib.Dec.{eqb}
-use Rattle.trace.specs.Tree.{site, carry, spend, sync, note, Body, done, leaf, child, ahead, size, Within, workOf, directOf, localOf, ilocalOf, madeSum, outerSum}
+use Rattle.line.specs.declared.Family.the-variants.{Base}
+use Rattle.trace.specs.Tree.{invokes, site, carry, spend, sync, note, Body, done, leaf, child, Of, ahead, size, Within, workOf, directOf, localOf, ilocalOf, madeSum, outerSum}
 use Rattle.trace.specs.Fold.{costAt}
 use Rattle.trace.proofs.Recurrence.{Paid}
 use Rattle.trace.proofs.Measures.{Measured, by-cycles, by-instructions}
@@ -74,6 +75,26 @@ module _ (m D : ℕ) where
   -- LAW: a compacted body is within the limits
   pub compact-within : (d : ℕ) (b : Body) → Within m D d b → Within m D d (compactB b)
   compact-within d b w = packed-within d b false 0 0 none w
+
+summed-of : (k h j : ℕ) (b : Body) → Of Base k b → Of Base k (summedB h j b)
+summed-of k zero j b o = o
+summed-of k (suc h) zero b o = (tt, o)
+summed-of k (suc h) (suc j) b o = (tt, (tt, o))
+
+packed-of : (k : ℕ) (b : Body) (x : Bool) (h j : ℕ) → Of Base k b → Of Base k (packed x h j b)
+packed-of k done x h j o = summed-of k h j done tt
+packed-of k (leaf (spend v) r) x h j o =
+    cost-either (Of Base k) x h j v r (λ q. packed-of k r x (h + v) (j + ahead r) (o .1)) (λ q. summed-of k h j (packed x v (ahead r) r) (packed-of k r x v (ahead r) (o .1)))
+packed-of k (leaf sync r) x h j o =
+    sync-either (Of Base k) x h j r (packed-of k r false h j (o .1)) (summed-of k h j (leaf sync (packed false 0 0 r)) (tt, packed-of k r false 0 0 (o .1)))
+packed-of k (leaf (note (site s p)) r) x h j o = summed-of k h j (leaf (note (site s p)) (packed x 0 0 r)) (tt, packed-of k r x 0 0 (o .1))
+packed-of k (leaf (note (carry v)) r) x h j o = packed-of k r x h j (o .1)
+packed-of k (child y s g r) x h j o =
+    summed-of k h j (child y s (compactB g) (packed (later y x) 0 0 r)) (o .0, packed-of s g false 0 0 (o .1), packed-of k r (later y x) 0 0 (o .2))
+
+-- LAW: a compacted body is one of document 01
+pub compact-of : (k : ℕ) (b : Body) → Of Base k b → Of Base k (compactB b)
+compact-of k b o = packed-of k b false 0 0 o
 
 summed-paid : (h j : ℕ) (b : Body) → Paid b → Paid (summedB h j b)
 summed-paid zero j b w = w
@@ -242,12 +263,10 @@ module _ (m : Measured) (a : Adds (m .of-cost)) where
       )
   packed-direct (leaf (note (carry v)) r) x h j w k = omega (arith, packed-direct r x h j (w .1) k, m .note-none (carry v) r)
   packed-direct (child y s g r) x h j w k =
-      omega (
-        arith,
-        summed-direct h j (child y s (compactB g) (packed (later y x) 0 0 r)) k refl,
-        packed-direct r (later y x) 0 0 (w .1) (λ z. refl),
-        a .none 0 0,
-      )
+      let c = packed (later y x) 0 0 r in
+      let p : directly (compactB g) ≡ directly g = omega (arith, packed-direct g false 0 0 (w .0) (λ z. refl), a .none 0 0) in
+      let q : directly c ≡ directly r = omega (arith, packed-direct r (later y x) 0 0 (w .1) (λ z. refl), a .none 0 0) in
+      summed-direct h j (child y s (compactB g) c) k refl ∙ ap₂ (λ (m n : ℕ). amount h j + cond (invokes y) n (m + n)) p q
 
   compact-direct : (b : Body) → Paid b → directly (compactB b) ≡ directly b
   compact-direct b w = omega (arith, packed-direct b false 0 0 w (λ z. refl), a .none 0 0)
@@ -282,27 +301,31 @@ module _ (f : Body → ℕ) (same : (g : Body) → Paid g → f (compactB g) ≡
       omega (
         arith,
         summed-made h j (child y i (compactB g) (packed (later y x) 0 0 r)),
-        ap (λ (n : ℕ). cond (eqb i s) n 0) (same g (w .0)),
+        ap (λ (n : ℕ). cond (invokes y && eqb i s) n 0) (same g (w .0)),
         packed-made g false 0 0 (w .0),
         packed-made r (later y x) 0 0 (w .1),
       )
 
+-- what is said of a body of document 01 and of the compacted body alike
+module _ (f : Body → ℕ) (same : (k : ℕ) (g : Body) → Of Base k g → Paid g → f (compactB g) ≡ f g) (s : ℕ) where
   summed-outer : (h j : ℕ) (b : Body) → outerSum f s (summedB h j b) ≡ outerSum f s b
   summed-outer zero j b = refl
   summed-outer (suc h) zero b = refl
   summed-outer (suc h) (suc j) b = refl
 
-  pub packed-outer : (b : Body) (x : Bool) (h j : ℕ) → Paid b → outerSum f s (packed x h j b) ≡ outerSum f s b
-  packed-outer done x h j w = summed-outer h j done
-  packed-outer (leaf (spend v) r) x h j w =
-      cost-either (λ b. outerSum f s b ≡ outerSum f s r) x h j v r (λ q. packed-outer r x (h + v) (j + ahead r) (w .1))
-      (λ q. summed-outer h j (packed x v (ahead r) r) ∙ packed-outer r x v (ahead r) (w .1))
-  packed-outer (leaf sync r) x h j w =
-      sync-either (λ b. outerSum f s b ≡ outerSum f s r) x h j r (packed-outer r false h j (w .1)) (summed-outer h j (leaf sync (packed false 0 0 r)) ∙ packed-outer r false 0 0 (w .1))
-  packed-outer (leaf (note (site i p)) r) x h j w = summed-outer h j (leaf (note (site i p)) (packed x 0 0 r)) ∙ packed-outer r x 0 0 (w .1)
-  packed-outer (leaf (note (carry v)) r) x h j w = packed-outer r x h j (w .1)
-  packed-outer (child y i g r) x h j w =
+  pub packed-outer : (k : ℕ) (b : Body) (x : Bool) (h j : ℕ) → Of Base k b → Paid b → outerSum f s (packed x h j b) ≡ outerSum f s b
+  packed-outer k done x h j o w = summed-outer h j done
+  packed-outer k (leaf (spend v) r) x h j o w =
+      cost-either (λ b. outerSum f s b ≡ outerSum f s r) x h j v r (λ q. packed-outer k r x (h + v) (j + ahead r) (o .1) (w .1))
+      (λ q. summed-outer h j (packed x v (ahead r) r) ∙ packed-outer k r x v (ahead r) (o .1) (w .1))
+  packed-outer k (leaf sync r) x h j o w =
+      sync-either (λ b. outerSum f s b ≡ outerSum f s r) x h j r (packed-outer k r false h j (o .1) (w .1))
+      (summed-outer h j (leaf sync (packed false 0 0 r)) ∙ packed-outer k r false 0 0 (o .1) (w .1))
+  packed-outer k (leaf (note (site i p)) r) x h j o w = summed-outer h j (leaf (note (site i p)) (packed x 0 0 r)) ∙ packed-outer k r x 0 0 (o .1) (w .1)
+  packed-outer k (leaf (note (carry v)) r) x h j o w = packed-outer k r x h j (o .1) (w .1)
+  packed-outer k (child y i g r) x h j o w =
+      let t = invokes y && eqb i s in
       summed-outer h j (child y i (compactB g) (packed (later y x) 0 0 r))
-      ∙ ap (λ (n : ℕ). cond (eqb i s) n (outerSum f s (compactB g)) + outerSum f s (packed (later y x) 0 0 r)) (same g (w .0))
-      ∙ ap (λ (n : ℕ). cond (eqb i s) (f g) n + outerSum f s (packed (later y x) 0 0 r)) (packed-outer g false 0 0 (w .0))
-      ∙ ap (λ (n : ℕ). cond (eqb i s) (f g) (outerSum f s g) + n) (packed-outer r (later y x) 0 0 (w .1))
+      ∙ ap (λ (n : ℕ). cond t n (outerSum f s (compactB g)) + outerSum f s (packed (later y x) 0 0 r)) (same i g (o .1) (w .0))
+      ∙ ap (λ (n : ℕ). cond t (f g) n + outerSum f s (packed (later y x) 0 0 r)) (packed-outer i g false 0 0 (o .1) (w .0))
+      ∙ ap (λ (n : ℕ). cond t (f g) (outerSum f s g) + n) (packed-outer k r (later y x) 0 0 (o .2) (w .1))

@@ -8,7 +8,7 @@ use native.Mathlib.Nat.{le-dest}
 use native.Mathlib.Omega.{arith}
 use lib.Dec.{T}
 use Rattle.line.specs.declared.Frame.{Frame}
-use Rattle.line.specs.declared.Frame.the-variants.{Site, Call, Spawn, Sync, Return, Cost, Instructions}
+use Rattle.line.specs.declared.Frame.the-variants.{Site, Call, Spawn, Sync, Return, Cost, Instructions, Async, Finish}
 use Rattle.trace.specs.Shape.{Is, root, step, walk, openAt, has, firstIs, Directly}
 use Rattle.trace.proofs.Basics.{clash, below}
 use Rattle.trace.proofs.Open.{has-here, has-later, first-eq, first-of, first-has, Low, below-not}
@@ -131,6 +131,9 @@ module _ (t : List Frame) where
   bits-next n o b (Instructions v) u a h = quiet-bits n o b (λ F m. other-quiet n o (Instructions v) u a (λ s e. clash (cc)) (λ e. clash (cc)) F) h
   bits-next n o b (Call s) u a h =
       (new-bit n o (Call s) u a, quiet-bits n o b (λ F m. other-quiet n o (Call s) u a (λ s e. clash (cc)) (λ e. clash (cc)) F) h)
+  bits-next n o b (Async s) u a h =
+      (new-bit n o (Async s) u a, quiet-bits n o b (λ F m. other-quiet n o (Async s) u a (λ s e. clash (cc)) (λ e. clash (cc)) F) h)
+  bits-next n o b Finish u a h = (new-bit n o Finish u a, quiet-bits n o b (λ F m. other-quiet n o Finish u a (λ s e. clash (cc)) (λ e. clash (cc)) F) h)
   bits-next n [] [] (Spawn s) u a h = (new-bit n [] (Spawn s) u a, tt)
   bits-next n [] (x ∷ b) (Spawn s) u a h = absurd h
   bits-next n (c ∷ o) [] (Spawn s) u a h = absurd h
@@ -178,6 +181,8 @@ module _ (t : List Frame) where
   syncs-to F m o (Spawn s ∷ u) a e = clash (cc)
   syncs-to F m o (Cost v ∷ u) a e = clash (cc)
   syncs-to F m o (Instructions v ∷ u) a e = clash (cc)
+  syncs-to F m o (Async s ∷ u) a e = clash (cc)
+  syncs-to F m o (Finish ∷ u) a e = clash (cc)
   syncs-to F m o (Return ∷ u) a e =
       record { end = m; is = it-is m (F ∷ o) Return u a; its-own = directly m (F ∷ o) Return u a F (first-of F F o refl); behind = omega arith; only = λ j l k. absurd (omega arith) }
   syncs-to F m o (Sync ∷ u) a e = go (syncs-to F (suc m) o u (along-next m (F ∷ o) Sync u a) e)
@@ -212,6 +217,8 @@ module _ (t : List Frame) where
   syncs-from F m o (Spawn s ∷ u) a r = elim (first-line m o (Spawn s) u a F r) [ inl e ↦ clash (cc) | inr e ↦ clash (let z = e .0 in cc) ]
   syncs-from F m o (Cost v ∷ u) a r = elim (first-line m o (Cost v) u a F r) [ inl e ↦ clash (cc) | inr e ↦ clash (let z = e .0 in cc) ]
   syncs-from F m o (Instructions v ∷ u) a r = elim (first-line m o (Instructions v) u a F r) [ inl e ↦ clash (cc) | inr e ↦ clash (let z = e .0 in cc) ]
+  syncs-from F m o (Async s ∷ u) a r = elim (first-line m o (Async s) u a F r) [ inl e ↦ clash (cc) | inr e ↦ clash (let z = e .0 in cc) ]
+  syncs-from F m o (Finish ∷ u) a r = elim (first-line m o Finish u a F r) [ inl e ↦ clash (cc) | inr e ↦ clash (let z = e .0 in cc) ]
   syncs-from F m o (Return ∷ u) a r = refl
   syncs-from F m o (Sync ∷ u) a r = elim (first-line m o Sync u a F r) [
     | inl e ↦ clash (cc)
@@ -258,6 +265,8 @@ module _ (t : List Frame) where
       go Return a h r = keep (not-sync n o Return u a (λ e. clash (cc))) r
       go (Cost v) a h r = keep (not-sync n o (Cost v) u a (λ e. clash (cc))) r
       go (Instructions v) a h r = keep (not-sync n o (Instructions v) u a (λ e. clash (cc))) r
+      go (Async s) a h r = keep (not-sync n o (Async s) u a (λ e. clash (cc))) r
+      go Finish a h r = keep (not-sync n o Finish u a (λ e. clash (cc))) r
       go Sync a h r = sync o b a h r (onlySyncs u) refl
         where
           sync : (o : List ℕ) (b : List Bool) → Along n o (Sync ∷ u) → Bits n o b → Undropped t (suc n) u (keptFrom (since Sync b) u) → (e : Bool) → onlySyncs u ≡ e → Undropped t n (Sync ∷ u) (keptFrom b (Sync ∷ u))

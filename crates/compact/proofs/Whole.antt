@@ -7,6 +7,7 @@ use native.Mathlib.Omega.{arith}
 use lib.Dec.{leb}
 use lib.ListN.{length, drop}
 use borrow.Author.Tests.{leb-true, leb-false}
+use Rattle.line.specs.declared.Family.the-variants.{Base}
 use Rattle.line.specs.declared.Frame.{Frame}
 use Rattle.line.specs.declared.Read.the-variants.{Line}
 use Rattle.line.specs.declared.Wrote.{Wrote}
@@ -37,7 +38,7 @@ use Rattle.compact.proofs.Machine.{fine-inside, fine-owned, outs-compac
 -- ── an accepted trace ──
 
 module _ (s : List ℕ) (D M : ℕ) (t : List Frame) (e : verdict s D M true ≡ accepted t) where
-  fine : Fine D M t
+  fine : Fine Base D M t
   fine = accepted-fine s D M true t e
 
   outs-are : outs start t ≡ compact t
@@ -49,8 +50,8 @@ module _ (s : List ℕ) (D M : ℕ) (t : List Frame) (e : verdict s D M true ≡
   writable : Writable (outs start t)
   writable = subst Writable (sym outs-are) (compact-writable t (accepted-writable s D M true t e))
 
-  stands : Stands s 0 t
-  stands = stands-all s t 0 (λ i f h. let z : i ≡ 0 + i = omega arith in subst (λ (k : ℕ). readAt s k ≡ Line k f) z (accepted-reads s D M true t e i f h))
+  stands : Stands Base s 0 t
+  stands = stands-all Base s t 0 (λ i f h. let z : i ≡ 0 + i = omega arith in subst (λ (k : ℕ). readAt s k ≡ Line k f) z (accepted-reads s D M true t e i f h))
 
   abbrev lines : (n : ℕ) → length t ≡ n → Lines s n
   lines n l =

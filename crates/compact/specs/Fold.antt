@@ -2,7 +2,7 @@
 use mathlib.Core.Bool.{Bool, true, false, not, cond, _||_}
 use mathlib.Core.List.{List, [], _∷_}
 use Rattle.line.specs.declared.Frame.{Frame}
-use Rattle.line.specs.declared.Frame.the-variants.{Site, Call, Spawn, Sync, Return, Cost, Instructions}
+use Rattle.line.specs.declared.Frame.the-variants.{Site, Call, Spawn, Sync, Return, Cost, Instructions, Async, Finish}
 use Rattle.compact.specs.Compact.{merged}
 
 -- Of each open invocation, innermost first: has a spawn stood directly in it since its start or last sync? What a line
@@ -20,6 +20,8 @@ since Return [] = []
 since Return (x ∷ o) = o
 since (Cost v) o = o
 since (Instructions v) o = o
+since (Async s) o = false ∷ o
+since Finish o = false ∷ o
 
 -- the lines t begin with syncs and then a return
 abbrev pub onlySyncs : List Frame → Bool
@@ -31,6 +33,8 @@ onlySyncs (Sync ∷ t) = onlySyncs t
 onlySyncs (Return ∷ t) = true
 onlySyncs (Cost v ∷ t) = false
 onlySyncs (Instructions v ∷ t) = false
+onlySyncs (Async s ∷ t) = false
+onlySyncs (Finish ∷ t) = false
 
 -- a sync is to be dropped, before the lines t
 abbrev pub idleSync : List Bool → List Frame → Bool
@@ -45,6 +49,8 @@ idle Sync o t = idleSync o t
 idle Return o t = false
 idle (Cost v) o t = false
 idle (Instructions v) o t = false
+idle (Async s) o t = false
+idle Finish o t = false
 
 abbrev pub keptFrom : List Bool → List Frame → List Frame
 keptFrom o [] = []

@@ -5,6 +5,7 @@ use mathlib.Core.Bool.{cond}
 use mathlib.Core.List.{List}
 use lib.Dec.{eqb}
 use lib.ListN.{length}
+use Rattle.line.specs.declared.Family.the-variants.{Base}
 use Rattle.line.specs.declared.Frame.{Frame}
 use Rattle.line.specs.declared.Wrote.{Wrote}
 use Rattle.trace.specs.Refusals.{lineCount}
@@ -34,7 +35,7 @@ steppedAt s n a = step (kindAt s n) (cycles (valueAt s n)) (instructions (carrie
 -- the lines of the text s are these frames and no more, their bits fit, and no more go out
 pub record Lines (s : List ℕ) (lines : ℕ) : Type 0 where
   pub frames : List Frame
-  pub stands : Stands s 0 frames
+  pub stands : Stands Base s 0 frames
   pub long : length frames ≡ lines
   pub all : lineCount s ≡ lines
   pub room : Room start frames

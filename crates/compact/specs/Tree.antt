@@ -1,7 +1,7 @@
 -- For proofs, not for the reader of document 02: compacting on the tree.
 use Prim.Native.Nat.{ℕ, zero, suc, _+_}
 use mathlib.Core.Bool.{Bool, true, false, not, cond, _||_}
-use Rattle.trace.specs.Tree.{Way, call, spawn, site, carry, spend, sync, note, Body, done, leaf, child, ahead}
+use Rattle.trace.specs.Tree.{Way, call, spawn, async, pass, finish, site, carry, spend, sync, note, Body, done, leaf, child, ahead}
 use Rattle.compact.specs.Compact.{bothFit}
 
 -- only syncs stand before the return
@@ -16,6 +16,9 @@ ends (child w s g r) = false
 abbrev pub later : Way → Bool → Bool
 later call x = x
 later spawn x = true
+later async x = x
+later pass x = x
+later finish x = x
 
 -- the instructions j before the body, none where they are 0
 abbrev pub carryingB : ℕ → Body → Body

@@ -2,43 +2,33 @@
 -- leaves one outcome. Assumes nothing.
 use Prim.Native.Nat.{ℕ, _+_, _≤_}
 use mathlib.Core.Bool.{Bool, true, false, cond}
-use mathlib.Core.List.{List, [], _∷_, _++_}
+use mathlib.Core.List.{List, [], _∷_}
 use mathlib.Core.Path.{_≡_, refl, ap, _∙_, sym}
 use native.Mathlib.Omega.{arith}
 use borrow.Author.Tests.{ltb-false}
 use lib.Dec.{leb, ltb}
 use lib.ListN.{length}
 use Rattle.line.specs.declared.Frame.{Frame}
-use Rattle.line.specs.declared.Frame.the-variants.{Site, Call, Spawn, Sync, Return, Cost, Instructions}
 use Rattle.line.specs.declared.Wrote.{Wrote}
 use Rattle.trace.specs.Shape.{sites}
 use Rattle.trace.specs.Rows.{total}
 use Rattle.trace.specs.Refusals.{accepted, refused, verdict}
 use Rattle.trace.specs.Refusals.{Verdict as Judgement}
 use Rattle.trace.proofs.Basics.{clash}
-use Rattle.trace.proofs.Scan.{Clean, accepted-fine}
+use Rattle.trace.proofs.Scan.{accepted-fine}
 use Rattle.report.specs.Room.{Decision, write, refuse}
 use Rattle.names.specs.Names.{shown, isName, nameChars, firstBad}
 use Rattle.names.proofs.Names.{good-before}
 use Rattle.folded.specs.Text.{folded}
 use Rattle.folded.specs.Reading.{stacksIn, stacksOf, costSum, costLines}
 use Rattle.folded.specs.Folding.{decide, folding, Folds}
-use Rattle.folded.proofs.Printed.{Small, folded-reads, stacks-sum, stacks-count}
+use Rattle.folded.proofs.Tied.{clean-in-table}
+use Rattle.folded.proofs.Printed.{folded-reads, stacks-sum, stacks-count}
 use Rattle.folded.proofs.Whole.{fine-flows}
 
 name-chars : (s : List ℕ) → isName s ≡ true → nameChars s ≡ true
 name-chars [] h = refl
 name-chars (c ∷ s) h = h
-
-clean-small : (D M : ℕ) (before t : List Frame) → Clean D M before t → Small t
-clean-small D M before [] c = tt
-clean-small D M before (Site s p ∷ t) c = (omega arith, clean-small D M (before ++ Site s p ∷ []) t (c .2))
-clean-small D M before (Call s ∷ t) c = (omega arith, clean-small D M (before ++ Call s ∷ []) t (c .2))
-clean-small D M before (Spawn s ∷ t) c = (omega arith, clean-small D M (before ++ Spawn s ∷ []) t (c .2))
-clean-small D M before (Sync ∷ t) c = (omega arith, clean-small D M (before ++ Sync ∷ []) t (c .2))
-clean-small D M before (Return ∷ t) c = (omega arith, clean-small D M (before ++ Return ∷ []) t (c .2))
-clean-small D M before (Cost v ∷ t) c = (c .1 .1, clean-small D M (before ++ Cost v ∷ []) t (c .2))
-clean-small D M before (Instructions v ∷ t) c = (omega arith, clean-small D M (before ++ Instructions v ∷ []) t (c .2))
 
 -- what a written text says
 pub record Says (s : List ℕ) (D M : ℕ) (project stock : List ℕ) (scratch : ℕ) (text : List ℕ) : Type 0 where
@@ -70,7 +60,7 @@ written-says s D M p q scratch room text e = go (verdict s D M (leb D scratch)) 
         let is : text ≡ folded name t = sym (same (folded name t) text x) in
         let none = ltb-false (firstBad p q (sites t + 1)) (sites t + 1) h in
         let good : (r : ℕ) → r ≤ sites t → nameChars (name r) ≡ true = λ r l. name-chars (name r) (good-before p q (sites t + 1) r (omega arith)) in
-        let reads = ap stacksIn is ∙ folded-reads name (sites t) good D t (fine-flows D M t fine) (clean-small D M [] t (fine .clean)) in
+        let reads = ap stacksIn is ∙ folded-reads name (sites t) good D t (fine-flows D M t fine) (clean-in-table D M [] t (fine .clean)) in
         record { t = t; is-accepted = v; is-folded = is; reads = reads; costs = ap costSum reads ∙ stacks-sum name t; lines = ap length reads ∙ stacks-count name t }
 
     go : (v : Judgement) → verdict s D M (leb D scratch) ≡ v → decide p q room v ≡ write text → Says s D M p q scratch text

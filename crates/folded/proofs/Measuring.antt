@@ -8,9 +8,12 @@ use lib.ListN.{length, getD, set, length-append}
 use lib.Seq.{getD-set-same, getD-set-other}
 use Rattle.digits.specs.Decimal.{sizeOf, decimal}
 use Rattle.digits.proofs.Figures.{decimal-length}
+use Rattle.line.specs.declared.Family.the-variants.{Base}
 use Rattle.line.specs.declared.Frame.{Frame}
+use Rattle.line.specs.Read.{lineAt}
 use Rattle.line.specs.At.{kindAt, siteAt, valueAt}
 use Rattle.trace.specs.Shape.{closed}
+use Rattle.trace.proofs.Scan.{read-line}
 use Rattle.walk.specs.Stands.{kindOf, valueOf}
 use Rattle.walk.proofs.Says.{kind-says, site-says, value-says}
 use Rattle.names.specs.Names.{shown}
@@ -68,13 +71,13 @@ module _ {s : List ℕ} {n : ℕ} {project stock spots : List ℕ} {room : ℕ} 
 
   module _ (kind : ℕ) (k : kind ≡ kindAt s n) where
     says : kind ≡ kindOf (q .frame)
-    says = kind-says s n n kind refl k (q .frame) (q .reads)
+    says = kind-says Base s n n kind refl k (q .frame) (q .reads)
 
     pub cost-left : kind ≡ 6 → (v size : ℕ) (one two : Room) → v ≡ valueAt s n → size ≡ sizeOf v → one ≡ less (room - getD t (a .depth - 1) 0) (a .room)
         → two ≡ less (2 + size) one → Left (measured (a .depth) two) t
     cost-left e v size one two w z i j =
         let does = a-cost name (q .rows) (q .frame) (sym says ∙ e) in
-        let value = value-says s n n v refl w (q .frame) (q .reads) in
+        let value = value-says Base s n n v refl w (q .frame) (q .reads) in
         let l = length (stack name (q .rows)) in
         let tail : length (costText (valueOf (q .frame))) ≡ 2 + size = omega (arith, length-append (decimal (valueOf (q .frame))) (10 ∷ []), decimal-length (valueOf (q .frame)), z, ap sizeOf value) in
         let all : l + (2 + size) ≡ length (stack name (q .rows) ++ costText (valueOf (q .frame))) = omega (arith, tail, length-append (stack name (q .rows)) (costText (valueOf (q .frame)))) in
@@ -90,7 +93,7 @@ module _ {s : List ℕ} {n : ℕ} {project stock spots : List ℕ} {room : ℕ} 
         go (y ∷ o) some d h x = left-by o [] x (measured (a .depth - 1) (a .room)) t (omega arith) unprinted (h .1)
 
     pub passed-left : (kind ≡ 6 → ⊥) → (kind ≡ 5 → ⊥) → 3 < kind → Left a t
-    passed-left n6 n5 e = left-by (q .rows) [] (a-passed name (q .rows) (q .frame) (λ e. n6 (says ∙ e)) (λ e. n5 (says ∙ e)) (omega (arith, says))) a t (q .depth-is) unprinted (q .held)
+    passed-left n6 n5 e = left-by (q .rows) [] (a-passed name (q .rows) (q .frame) (read-line Base (lineAt s n) n n (q .frame) (q .reads) .1) (λ e. n6 (says ∙ e)) (λ e. n5 (says ∙ e)) (omega (arith, says))) a t (q .depth-is) unprinted (q .held)
 
     pub site-left : kind ≡ 1 → Left a t
     site-left e = left-by (q .rows) [] (a-site name (q .rows) (q .frame) (sym says ∙ e)) a t (q .depth-is) unprinted (q .held)
@@ -98,7 +101,7 @@ module _ {s : List ℕ} {n : ℕ} {project stock spots : List ℕ} {room : ℕ} 
     module _ (low : kind ≤ 3) (n1 : kind ≡ 1 → ⊥) (site : ℕ) (i : site ≡ siteAt s n) where
       made : Does name (q .frame) (q .rows) (site ∷ q .rows) []
       made =
-          subst (λ (x : ℕ). Does name (q .frame) (q .rows) (x ∷ q .rows) []) (sym (site-says s n n site refl i (q .frame) (q .reads)))
+          subst (λ (x : ℕ). Does name (q .frame) (q .rows) (x ∷ q .rows) []) (sym (site-says Base s n n site refl i (q .frame) (q .reads)))
           (a-making name (q .rows) (q .frame) (omega (arith, says)) (λ e. n1 (says ∙ e)))
 
       next : Few (q .m) (q .D) (site ∷ q .rows)

@@ -8,7 +8,7 @@ use native.Mathlib.Omega.{arith}
 use borrow.Author.Tests.{eqb-true}
 use lib.Dec.{T}
 use Rattle.line.specs.declared.Frame.{Frame}
-use Rattle.line.specs.declared.Frame.the-variants.{Site, Call, Spawn, Sync, Return, Cost, Instructions}
+use Rattle.line.specs.declared.Frame.the-variants.{Site, Call, Spawn, Sync, Return, Cost, Instructions, Async, Finish}
 use Rattle.trace.specs.Shape.{ifMakes, has}
 use Rattle.trace.specs.Rows.{makes, made, ofRow}
 use Rattle.trace.proofs.Open.{has-cases}
@@ -35,6 +35,8 @@ made-by n (f ∷ u) s F h = go (makes s f) refl h (made-by (suc n) u s F)
     makes-site Return x = absurd (let z : _≡_ {A = ℕ} 0 1 = cc in omega arith)
     makes-site (Cost v) x = absurd (let z : _≡_ {A = ℕ} 0 1 = cc in omega arith)
     makes-site (Instructions v) x = absurd (let z : _≡_ {A = ℕ} 0 1 = cc in omega arith)
+    makes-site (Async i) x = eqb-true i s x
+    makes-site Finish x = absurd (let z : _≡_ {A = ℕ} 0 1 = cc in omega arith)
 
     first : makes s f ≡ true → (F ≡ suc n) ⊎ T (has F (made (suc n) u s)) → (T (has F (made (suc n) u s)) → Made (suc n) u s F) → Made n (f ∷ u) s F
     first e (inl z) on = record { k = 0; is = omega arith; site = makes-site f e }

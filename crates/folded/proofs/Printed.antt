@@ -10,18 +10,17 @@ use lib.ListN.{length}
 use Rattle.digits.specs.Decimal.{isFigure, allFigures, behind, decimal}
 use Rattle.digits.proofs.Figures.{figure-bounds, proper-figures, decimal-proper, decimal-number}
 use Rattle.line.specs.declared.Frame.{Frame}
-use Rattle.line.specs.declared.Frame.the-variants.{Site, Call, Spawn, Sync, Return, Cost, Instructions}
+use Rattle.line.specs.declared.Frame.the-variants.{Site, Call, Spawn, Sync, Return, Cost, Instructions, Async, Finish}
 use Rattle.trace.specs.Shape.{root, step}
-use Rattle.trace.specs.Series.{value}
 use Rattle.trace.specs.Rows.{cycles, sumOf, total}
 use Rattle.trace.proofs.Basics.{both}
 use Rattle.names.specs.Names.{nameChar, nameChars}
 use Rattle.folded.specs.Text.{rootFirst, further, joined, costText, folded}
-use Rattle.folded.specs.Reading.{Stack, inName, inCost, stacksIn, stacksOf, costSum, costLines}
+use Rattle.folded.specs.Reading.{Stack, inName, inCost, stacksIn, stacksFrom, stacksOf, costSum, costLines}
 use Rattle.weigh.specs.Weighed.{rowStep}
 use Rattle.folded.specs.Rows.{stack, prints, says, AtMost, Flows}
 use Rattle.folded.proofs.Stacks.{root-length}
-use Rattle.folded.proofs.Tied.{folded-prints, stacks-say}
+use Rattle.folded.proofs.Tied.{AllInTable, folded-prints, stacks-say}
 
 -- a character of a name is read on
 name-on : (names : List (List ℕ)) (so : List ℕ) (c : ℕ) (s : List ℕ) → nameChar c ≡ true → inName names so (c ∷ s) ≡ inName names (so ++ c ∷ []) s
@@ -55,11 +54,6 @@ cost-read names v s h =
     ap (inCost names 0) (append-assoc (decimal v) (10 ∷ []) s)
     ∙ cost-on names 0 (decimal v) (10 ∷ s) (proper-figures (decimal v) (decimal-proper v h))
     ∙ ap (λ (n : ℕ). inCost names n (10 ∷ s)) (decimal-number v h)
-
--- no cost is beyond the table
-abbrev pub Small : List Frame → Type 0
-Small [] = Unit {0}
-Small (f ∷ u) = (value f ≤ 4294967295) × Small u
 
 module _ (name : ℕ → List ℕ) (m : ℕ) (good : (r : ℕ) → r ≤ m → nameChars (name r) ≡ true) where
   most-append : (a b : List ℕ) → AtMost m a → AtMost m b → AtMost m (a ++ b)
@@ -95,7 +89,7 @@ module _ (name : ℕ → List ℕ) (m : ℕ) (good : (r : ℕ) → r ≤ m → n
       ∙ joined-read (rootFirst o) ((decimal v ++ 10 ∷ []) ++ s) (root-some o h) (most-root o k)
       ∙ cost-read (map name (rootFirst o)) v s l
 
-  prints-read : (D : ℕ) (o : List ℕ) (u : List Frame) → Flows m D o u → Small u → stacksIn (prints name o u) ≡ says name o u
+  prints-read : (D : ℕ) (o : List ℕ) (u : List Frame) → Flows m D o u → AllInTable u → stacksIn (prints name o u) ≡ says name o u
   prints-read D o [] h l = refl
   prints-read D o (Site s p ∷ u) h l = prints-read D o u (h .2) (l .1)
   prints-read D o (Call s ∷ u) h l = prints-read D (s ∷ o) u (h .2) (l .1)
@@ -103,39 +97,45 @@ module _ (name : ℕ → List ℕ) (m : ℕ) (good : (r : ℕ) → r ≤ m → n
   prints-read D o (Sync ∷ u) h l = prints-read D o u (h .2) (l .1)
   prints-read D o (Return ∷ u) h l = prints-read D (rowStep Return o) u (h .2) (l .1)
   prints-read D o (Cost v ∷ u) h l =
-      line-read o v (prints name o u) (h .0) (h .1 .rows) (omega (arith, l .0))
+      line-read o v (prints name o u) (h .0) (h .1 .rows) (omega (arith, l .0 .1))
       ∙ ap (λ (x : List Stack). record { names = map name (rootFirst o); cost = v } ∷ x) (prints-read D o u (h .2) (l .1))
   prints-read D o (Instructions v ∷ u) h l = prints-read D o u (h .2) (l .1)
+  prints-read D o (Async s ∷ u) h l = absurd (l .0)
+  prints-read D o (Finish ∷ u) h l = absurd (l .0)
 
   -- LAW: the text reads back as the stacks and costs of the trace's cost lines, in their order
-  pub folded-reads : (D : ℕ) (t : List Frame) → Flows m D (0 ∷ []) t → Small t → stacksIn (folded name t) ≡ stacksOf name t
-  folded-reads D t h l = ap stacksIn (folded-prints name t) ∙ prints-read D (0 ∷ []) t h l ∙ sym (stacks-say name t)
+  pub folded-reads : (D : ℕ) (t : List Frame) → Flows m D (0 ∷ []) t → AllInTable t → stacksIn (folded name t) ≡ stacksOf name t
+  folded-reads D t h l = ap stacksIn (folded-prints name t l) ∙ prints-read D (0 ∷ []) t h l ∙ sym (stacks-say name t l)
 
 -- The costs of these add up to the total work, and there is one for each cost line.
 
 module _ (name : ℕ → List ℕ) where
-  says-sum : (o : List ℕ) (u : List Frame) (n : ℕ) (i : List ℕ) → costSum (says name o u) ≡ sumOf cycles (λ k z. true) n i u
-  says-sum o [] n i = refl
-  says-sum o (Site s p ∷ u) n i = omega (arith, says-sum o u (suc n) (step n (Site s p) i))
-  says-sum o (Call s ∷ u) n i = omega (arith, says-sum (s ∷ o) u (suc n) (step n (Call s) i))
-  says-sum o (Spawn s ∷ u) n i = omega (arith, says-sum (s ∷ o) u (suc n) (step n (Spawn s) i))
-  says-sum o (Sync ∷ u) n i = omega (arith, says-sum o u (suc n) (step n Sync i))
-  says-sum o (Return ∷ u) n i = omega (arith, says-sum (rowStep Return o) u (suc n) (step n Return i))
-  says-sum o (Cost v ∷ u) n i = ap (λ (k : ℕ). v + k) (says-sum o u (suc n) (step n (Cost v) i))
-  says-sum o (Instructions v ∷ u) n i = omega (arith, says-sum o u (suc n) (step n (Instructions v) i))
+  sum-from : (t : List Frame) (j : ℕ) (u : List Frame) (n : ℕ) (i : List ℕ) → costSum (stacksFrom name t j u) ≡ sumOf cycles (λ k z. true) n i u
+  sum-from t j [] n i = refl
+  sum-from t j (Site s p ∷ u) n i = omega (arith, sum-from t (suc j) u (suc n) (step n (Site s p) i))
+  sum-from t j (Call s ∷ u) n i = omega (arith, sum-from t (suc j) u (suc n) (step n (Call s) i))
+  sum-from t j (Spawn s ∷ u) n i = omega (arith, sum-from t (suc j) u (suc n) (step n (Spawn s) i))
+  sum-from t j (Sync ∷ u) n i = omega (arith, sum-from t (suc j) u (suc n) (step n Sync i))
+  sum-from t j (Return ∷ u) n i = omega (arith, sum-from t (suc j) u (suc n) (step n Return i))
+  sum-from t j (Cost v ∷ u) n i = ap (λ (k : ℕ). v + k) (sum-from t (suc j) u (suc n) (step n (Cost v) i))
+  sum-from t j (Instructions v ∷ u) n i = omega (arith, sum-from t (suc j) u (suc n) (step n (Instructions v) i))
+  sum-from t j (Async s ∷ u) n i = omega (arith, sum-from t (suc j) u (suc n) (step n (Async s) i))
+  sum-from t j (Finish ∷ u) n i = omega (arith, sum-from t (suc j) u (suc n) (step n Finish i))
 
-  says-count : (o : List ℕ) (u : List Frame) → length (says name o u) ≡ costLines u
-  says-count o [] = refl
-  says-count o (Site s p ∷ u) = says-count o u
-  says-count o (Call s ∷ u) = says-count (s ∷ o) u
-  says-count o (Spawn s ∷ u) = says-count (s ∷ o) u
-  says-count o (Sync ∷ u) = says-count o u
-  says-count o (Return ∷ u) = says-count (rowStep Return o) u
-  says-count o (Cost v ∷ u) = ap suc (says-count o u)
-  says-count o (Instructions v ∷ u) = says-count o u
+  count-from : (t : List Frame) (j : ℕ) (u : List Frame) → length (stacksFrom name t j u) ≡ costLines u
+  count-from t j [] = refl
+  count-from t j (Site s p ∷ u) = count-from t (suc j) u
+  count-from t j (Call s ∷ u) = count-from t (suc j) u
+  count-from t j (Spawn s ∷ u) = count-from t (suc j) u
+  count-from t j (Sync ∷ u) = count-from t (suc j) u
+  count-from t j (Return ∷ u) = count-from t (suc j) u
+  count-from t j (Cost v ∷ u) = ap suc (count-from t (suc j) u)
+  count-from t j (Instructions v ∷ u) = count-from t (suc j) u
+  count-from t j (Async s ∷ u) = count-from t (suc j) u
+  count-from t j (Finish ∷ u) = count-from t (suc j) u
 
   pub stacks-sum : (t : List Frame) → costSum (stacksOf name t) ≡ total t
-  stacks-sum t = ap costSum (stacks-say name t) ∙ says-sum (0 ∷ []) t 0 (root ∷ [])
+  stacks-sum t = sum-from t 0 t 0 (root ∷ [])
 
   pub stacks-count : (t : List Frame) → length (stacksOf name t) ≡ costLines t
-  stacks-count t = ap length (stacks-say name t) ∙ says-count (0 ∷ []) t
+  stacks-count t = count-from t 0 t

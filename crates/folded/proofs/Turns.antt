@@ -5,6 +5,7 @@ use mathlib.Core.List.{List, [], _∷_}
 use mathlib.Core.Path.{_≡_, refl, sym, subst}
 use native.Mathlib.Omega.{arith}
 use lib.ListN.{length}
+use Rattle.line.specs.declared.Family.the-variants.{Base}
 use Rattle.line.specs.declared.Frame.{Frame}
 use Rattle.walk.specs.Stands.{Stands}
 use Rattle.weigh.specs.Weighed.{rowStep}
@@ -16,7 +17,7 @@ few-flows m D o (f ∷ u) h = h .1
 
 -- before line n
 pub record Turn (s : List ℕ) (lines m D n : ℕ) (rest : List Frame) (rows : List ℕ) : Type 0 where
-  pub stands : Stands s n rest
+  pub stands : Stands Base s n rest
   pub ends : n + length rest ≡ lines
   pub flows : Flows m D rows rest
 

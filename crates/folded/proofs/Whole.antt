@@ -8,6 +8,7 @@ use borrow.Author.Tests.{leb-true, leb-false, lt-ltb, le-ltb}
 use lib.Dec.{leb}
 use lib.ListN.{length, drop, replicate}
 use lib.Seq.{drop-length}
+use Rattle.line.specs.declared.Family.the-variants.{Base}
 use Rattle.line.specs.declared.Frame.{Frame}
 use Rattle.line.specs.declared.Read.the-variants.{Line}
 use Rattle.line.specs.declared.Wrote.{Wrote}
@@ -16,7 +17,7 @@ use Rattle.line.specs.Read.{readAt}
 use Rattle.trace.specs.Shape.{closed, sites}
 use Rattle.trace.specs.Refusals.{accepted, verdict}
 use Rattle.trace.specs.Refusals.{Verdict as Judgement}
-use Rattle.trace.specs.Tree.{call, spawn, site, carry, spend, sync, note, Body, done, leaf, child, linesOf, Within}
+use Rattle.trace.specs.Tree.{call, spawn, async, pass, finish, site, carry, spend, sync, note, Body, done, leaf, child, Of, linesOf, Within}
 use Rattle.trace.proofs.Scan.{Fine, accepted-is, accepted-fine, accepted-reads}
 use Rattle.trace.proofs.Parse.{parts}
 use Rattle.trace.proofs.Accept.{sites-le-M}
@@ -36,26 +37,29 @@ use Rattle.folded.specs.Spots.{Found}
 use Rattle.folded.specs.Measure as Measure
 use Rattle.folded.specs.Write as Write
 use Rattle.folded.specs.Whole.{Admitted, Decided}
-use Rattle.folded.proofs.Tied.{folded-prints}
+use Rattle.folded.proofs.Tied.{clean-in-table, folded-prints}
 
 -- The lines of an accepted trace, by its tree: the root's body, with other lines behind it.
 
-flows-body : (m D : ℕ) (b : Body) (o : List ℕ) (u : List Frame) → 1 ≤ length o → Few m D o → Within m D (length o) b → Flows m D (closed o) u → Flows m D o (linesOf b ++ u)
-flows-body m D done o u a l w h = (a, l, h)
-flows-body m D (leaf (spend v) r) o u a l w h = (a, l, flows-body m D r o u a l (w .1) h)
-flows-body m D (leaf sync r) o u a l w h = (a, l, flows-body m D r o u a l (w .1) h)
-flows-body m D (leaf (note (site i p)) r) o u a l w h = (a, l, flows-body m D r o u a l (w .1) h)
-flows-body m D (leaf (note (carry v)) r) o u a l w h = (a, l, flows-body m D r o u a l (w .1) h)
-flows-body m D (child call s g r) o u a l w h =
-    (a, l, subst (Flows m D (s ∷ o)) (sym (append-assoc (linesOf g) (linesOf r) u)) (flows-body m D g (s ∷ o) (linesOf r ++ u) (omega arith) (record { rows = (w .1, l .rows); deep = w .2 }) (w .3) (flows-body m D r o u a l (w .4) h)))
-flows-body m D (child spawn s g r) o u a l w h =
-    (a, l, subst (Flows m D (s ∷ o)) (sym (append-assoc (linesOf g) (linesOf r) u)) (flows-body m D g (s ∷ o) (linesOf r ++ u) (omega arith) (record { rows = (w .1, l .rows); deep = w .2 }) (w .3) (flows-body m D r o u a l (w .4) h)))
+flows-body : (m D k : ℕ) (b : Body) (o : List ℕ) (u : List Frame) → 1 ≤ length o → Few m D o → Of Base k b → Within m D (length o) b → Flows m D (closed o) u → Flows m D o (linesOf b ++ u)
+flows-body m D k done o u a l e w h = (a, l, h)
+flows-body m D k (leaf (spend v) r) o u a l e w h = (a, l, flows-body m D k r o u a l (e .1) (w .1) h)
+flows-body m D k (leaf sync r) o u a l e w h = (a, l, flows-body m D k r o u a l (e .1) (w .1) h)
+flows-body m D k (leaf (note (site i p)) r) o u a l e w h = (a, l, flows-body m D k r o u a l (e .1) (w .1) h)
+flows-body m D k (leaf (note (carry v)) r) o u a l e w h = (a, l, flows-body m D k r o u a l (e .1) (w .1) h)
+flows-body m D k (child call s g r) o u a l e w h =
+    (a, l, subst (Flows m D (s ∷ o)) (sym (append-assoc (linesOf g) (linesOf r) u)) (flows-body m D s g (s ∷ o) (linesOf r ++ u) (omega arith) (record { rows = (w .1, l .rows); deep = w .2 }) (e .1) (w .3) (flows-body m D k r o u a l (e .2) (w .4) h)))
+flows-body m D k (child spawn s g r) o u a l e w h =
+    (a, l, subst (Flows m D (s ∷ o)) (sym (append-assoc (linesOf g) (linesOf r) u)) (flows-body m D s g (s ∷ o) (linesOf r ++ u) (omega arith) (record { rows = (w .1, l .rows); deep = w .2 }) (e .1) (w .3) (flows-body m D k r o u a l (e .2) (w .4) h)))
+flows-body m D k (child async s g r) o u a l e w h = absurd (e .0)
+flows-body m D k (child pass s g r) o u a l e w h = absurd (e .0)
+flows-body m D k (child finish s g r) o u a l e w h = absurd (e .0)
 
-pub fine-flows : (D M : ℕ) (t : List Frame) → Fine D M t → Flows (sites t) D (0 ∷ []) t
+pub fine-flows : (D M : ℕ) (t : List Frame) → Fine Base D M t → Flows (sites t) D (0 ∷ []) t
 fine-flows D M t fine =
     let p = parts D M t fine in
     let m = sites t in
-    let b = flows-body m D (p .body) (0 ∷ []) [] (omega arith) (record { rows = (omega arith, tt); deep = fine .least }) (p .within) refl in
+    let b = flows-body m D 0 (p .body) (0 ∷ []) [] (omega arith) (record { rows = (omega arith, tt); deep = fine .least }) (p .of) (p .within) refl in
     subst (Flows m D (0 ∷ [])) (append-nil (linesOf (p .body)) ∙ sym (p .lines)) b
 
 -- a refusal, with all as it was
@@ -63,14 +67,14 @@ pub folds-refused : {d : Decision} (number line : ℕ) (out scratch : List ℕ) 
 folds-refused number line out scratch e = record { writes = refused number line out e; scratch-is = sym (ap (λ (d : Decision). cleared d scratch) e) }
 
 module _ {s : List ℕ} {count lines n : ℕ} (q : Admitted s count lines n) where
-  pub fine : Fine (q .D) (q .M) (q .frames)
+  pub fine : Fine Base (q .D) (q .M) (q .frames)
   fine = accepted-fine s (q .D) (q .M) (leb (q .D) n) (q .frames) (q .is)
 
   pub few : count ≤ 255
   few = omega (arith, sites-le-M (q .D) (q .M) (q .frames) fine, fine .sites-most, q .count-is)
 
-  pub stands : Stands s 0 (q .frames)
-  stands = stands-all s (q .frames) 0 (λ i f h. let z : i ≡ 0 + i = omega arith in subst (λ (k : ℕ). readAt s k ≡ Line k f) z (accepted-reads s (q .D) (q .M) (leb (q .D) n) (q .frames) (q .is) i f h))
+  pub stands : Stands Base s 0 (q .frames)
+  stands = stands-all Base s (q .frames) 0 (λ i f h. let z : i ≡ 0 + i = omega arith in subst (λ (k : ℕ). readAt s k ≡ Line k f) z (accepted-reads s (q .D) (q .M) (leb (q .D) n) (q .frames) (q .is) i f h))
 
   abbrev trace : Lines s lines count (q .D)
   trace =
@@ -90,7 +94,7 @@ module _ {s : List ℕ} {count lines n : ℕ} (q : Admitted s count lines n) whe
     text = prints (shown p st) (0 ∷ []) (q .frames)
 
     as-folded : folded (shown p st) (q .frames) ≡ text
-    as-folded = folded-prints (shown p st) (q .frames)
+    as-folded = folded-prints (shown p st) (q .frames) (clean-in-table (q .D) (q .M) [] (q .frames) (fine .clean))
 
     module _ (out : List ℕ) (r : Bool) (is : r ≡ leb (length text) (length out)) where
       pub short-18 : r ≡ false → (scratch : List ℕ) → Folds (fitting 18 (folded (shown p st) (q .frames)) (length out)) (Refused 18 0) out out scratch scratch

@@ -9,9 +9,12 @@ use native.Mathlib.Omega.{arith}
 use lib.ListN.{length, take, drop, getD, set, length-append, List·getD-append}
 use lib.Seq.{length-take-le, take-take, take-all, take-at, take-append-le, take-suc-set, getD-take, getD-at}
 use Rattle.digits.specs.Decimal.{decimal}
+use Rattle.line.specs.declared.Family.the-variants.{Base}
 use Rattle.line.specs.declared.Frame.{Frame}
+use Rattle.line.specs.Read.{lineAt}
 use Rattle.line.specs.At.{kindAt, siteAt, valueAt}
 use Rattle.trace.specs.Shape.{closed}
+use Rattle.trace.proofs.Scan.{read-line}
 use Rattle.walk.specs.Stands.{kindOf}
 use Rattle.walk.proofs.Says.{kind-says, site-says, value-says}
 use Rattle.names.specs.Names.{shown}
@@ -171,12 +174,12 @@ module _ {s : List ℕ} {n : ℕ} {project stock spots t out : List ℕ} {a : Wr
 
   module _ (kind : ℕ) (k : kind ≡ kindAt s n) where
     says : kind ≡ kindOf (q .frame)
-    says = kind-says s n n kind refl k (q .frame) (q .reads)
+    says = kind-says Base s n n kind refl k (q .frame) (q .reads)
 
     module _ (is : kind ≡ 6) (v : ℕ) (w : v ≡ valueAt s n) where
       costs : Does name (q .frame) (q .rows) (q .rows) (stack name (q .rows) ++ costText v)
       costs =
-          subst (λ (x : ℕ). Does name (q .frame) (q .rows) (q .rows) (stack name (q .rows) ++ costText x)) (sym (value-says s n n v refl w (q .frame) (q .reads)))
+          subst (λ (x : ℕ). Does name (q .frame) (q .rows) (q .rows) (stack name (q .rows) ++ costText x)) (sym (value-says Base s n n v refl w (q .frame) (q .reads)))
           (a-cost name (q .rows) (q .frame) (sym says ∙ is))
 
       fits : a .at + (length (joined name rows) + length (costText v)) ≤ length out
@@ -240,7 +243,7 @@ module _ {s : List ℕ} {n : ℕ} {project stock spots t out : List ℕ} {a : Wr
             (common-off name out (a .at) (rootFirst o) y (a .last) l k closes)
 
     pub passed-left : (kind ≡ 6 → ⊥) → (kind ≡ 5 → ⊥) → 3 < kind → Left a t out
-    passed-left n6 n5 e = left-by (q .rows) [] (a-passed name (q .rows) (q .frame) (λ e. n6 (says ∙ e)) (λ e. n5 (says ∙ e)) (omega (arith, says))) a t out (q .depth-is) (q .held) (lays-nothing (a .at) out) (q .common)
+    passed-left n6 n5 e = left-by (q .rows) [] (a-passed name (q .rows) (q .frame) (read-line Base (lineAt s n) n n (q .frame) (q .reads) .1) (λ e. n6 (says ∙ e)) (λ e. n5 (says ∙ e)) (omega (arith, says))) a t out (q .depth-is) (q .held) (lays-nothing (a .at) out) (q .common)
 
     pub site-left : kind ≡ 1 → Left a t out
     site-left e = left-by (q .rows) [] (a-site name (q .rows) (q .frame) (sym says ∙ e)) a t out (q .depth-is) (q .held) (lays-nothing (a .at) out) (q .common)
@@ -248,7 +251,7 @@ module _ {s : List ℕ} {n : ℕ} {project stock spots t out : List ℕ} {a : Wr
     module _ (low : kind ≤ 3) (n1 : kind ≡ 1 → ⊥) (site : ℕ) (i : site ≡ siteAt s n) where
       made : Does name (q .frame) (q .rows) (site ∷ q .rows) []
       made =
-          subst (λ (x : ℕ). Does name (q .frame) (q .rows) (x ∷ q .rows) []) (sym (site-says s n n site refl i (q .frame) (q .reads)))
+          subst (λ (x : ℕ). Does name (q .frame) (q .rows) (x ∷ q .rows) []) (sym (site-says Base s n n site refl i (q .frame) (q .reads)))
           (a-making name (q .rows) (q .frame) (omega (arith, says)) (λ e. n1 (says ∙ e)))
 
       pub made-room : a .depth < length t

@@ -3,6 +3,7 @@ use Prim.Native.Nat.{ℕ, _≤_}
 use mathlib.Core.Path.{_≡_}
 use mathlib.Core.List.{List, [], _∷_, _++_, map}
 use lib.ListN.{length}
+use Rattle.line.specs.declared.Family.the-variants.{Base}
 use Rattle.line.specs.declared.Frame.{Frame}
 use Rattle.trace.specs.Shape.{ifCost}
 use Rattle.weigh.specs.Weighed.{rowStep}
@@ -48,7 +49,7 @@ Flows m D o (f ∷ u) = (1 ≤ length o) × Few m D o × Flows m D (rowStep f o)
 -- a trace of the text s: its lines are these frames, and its sites are m
 pub record Lines (s : List ℕ) (lines m D : ℕ) : Type 0 where
   pub frames : List Frame
-  pub stands : Stands s 0 frames
+  pub stands : Stands Base s 0 frames
   pub long : length frames ≡ lines
   pub flows : Flows m D (0 ∷ []) frames
   pub some : 1 ≤ D

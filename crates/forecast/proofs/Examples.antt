@@ -1,9 +1,10 @@
 -- Forecasts and refusals worked out by hand, and computed.
 use mathlib.Core.Path.{_≡_, refl, ap, subst}
-use mathlib.Core.Bool.{true}
+use mathlib.Core.Bool.{Bool, true}
 use mathlib.Core.List.{List, [], _∷_, map}
 use Prim.Native.Nat.{ℕ}
 use lib.ListN.{replicate}
+use Rattle.line.specs.declared.Family.the-variants.{Base}
 use Rattle.line.specs.declared.Frame.{Frame}
 use Rattle.trace.specs.Shape.{root}
 use Rattle.trace.specs.Series.{Span}
@@ -11,7 +12,9 @@ use Rattle.trace.specs.Rows.{total}
 use Rattle.trace.specs.Refusals.{Verdict, accepted, verdict}
 use Rattle.trace.specs.Tree.{call, spawn, spend, Body, done, leaf, child, linesOf, spanOf}
 use Rattle.trace.specs.Written.{textOf}
-use Rattle.trace.proofs.Twelve.{sited, span-here}
+use Rattle.trace.proofs.Tree.{isOf}
+use Rattle.trace.proofs.Computed.{span-here}
+use Rattle.trace.proofs.Twelve.{sited}
 use Rattle.forecast.specs.declared.Entry.{Entry}
 use Rattle.forecast.specs.Rewritten.{rewritten}
 use Rattle.forecast.specs.Asked.{asked}
@@ -91,13 +94,14 @@ AllHold (x ∷ l) = Holds x × AllHold l
 
 -- an example holds where it computes so; both traces, written out, are accepted
 holds : (x : Example) → rewritten (x .entries) (lines (x .trace)) ≡ lines (x .becomes) → spanOf (x .trace) ≡ x .plain → total (lines (x .becomes)) ≡ x .work → spanOf (x .becomes) ≡ x .span
-    → verdict (textOf (lines (x .trace))) 4 2 true ≡ accepted (lines (x .trace)) → verdict (textOf (lines (x .becomes))) 4 2 true ≡ accepted (lines (x .becomes)) → Holds x
-holds x r p w s a b =
+    → verdict (textOf (lines (x .trace))) 4 2 true ≡ accepted (lines (x .trace)) → verdict (textOf (lines (x .becomes))) 4 2 true ≡ accepted (lines (x .becomes))
+    → isOf Base 0 (sited (x .trace)) ≡ true → isOf Base 0 (sited (x .becomes)) ≡ true → Holds x
+holds x r p w s a b y z =
     record {
       is-rewritten = r;
-      plain-is = subst (Span (lines (x .trace)) root) p (span-here (textOf (lines (x .trace))) (sited (x .trace)) a);
+      plain-is = subst (Span (lines (x .trace)) root) p (span-here Base (textOf (lines (x .trace))) 4 2 (sited (x .trace)) y a);
       work-is = w;
-      span-is = subst (Span (lines (x .becomes)) root) s (span-here (textOf (lines (x .becomes))) (sited (x .becomes)) b);
+      span-is = subst (Span (lines (x .becomes)) root) s (span-here Base (textOf (lines (x .becomes))) 4 2 (sited (x .becomes)) z b);
     }
 
 record Tested : Type 0 where
@@ -107,6 +111,8 @@ record Tested : Type 0 where
   span : ℕ
   before : Verdict
   after : Verdict
+  base : Bool
+  base-after : Bool
 
 abbrev computed : Example → Tested
 computed x =
@@ -117,11 +123,13 @@ computed x =
       span = spanOf (x .becomes);
       before = verdict (textOf (lines (x .trace))) 4 2 true;
       after = verdict (textOf (lines (x .becomes))) 4 2 true;
+      base = isOf Base 0 (sited (x .trace));
+      base-after = isOf Base 0 (sited (x .becomes));
     }
 
 abbrev wanted : Example → Tested
 wanted x =
-    record { rewritten = lines (x .becomes); plain = x .plain; work = x .work; span = x .span; before = accepted (lines (x .trace)); after = accepted (lines (x .becomes)) }
+    record { rewritten = lines (x .becomes); plain = x .plain; work = x .work; span = x .span; before = accepted (lines (x .trace)); after = accepted (lines (x .becomes)); base = true; base-after = true }
 
 -- the one computed test
 test : map computed examples ≡ map wanted examples
@@ -132,7 +140,7 @@ all-hold [] e = tt
 all-hold (x ∷ l) e =
     let h : computed x ≡ wanted x = cc in
     let k : map computed l ≡ map wanted l = cc in (
-      holds x (ap (λ (y : Tested). y .rewritten) h) (ap (λ (y : Tested). y .plain) h) (ap (λ (y : Tested). y .work) h) (ap (λ (y : Tested). y .span) h) (ap (λ (y : Tested). y .before) h) (ap (λ (y : Tested). y .after) h),
+      holds x (ap (λ (y : Tested). y .rewritten) h) (ap (λ (y : Tested). y .plain) h) (ap (λ (y : Tested). y .work) h) (ap (λ (y : Tested). y .span) h) (ap (λ (y : Tested). y .before) h) (ap (λ (y : Tested). y .after) h) (ap (λ (y : Tested). y .base) h) (ap (λ (y : Tested). y .base-after) h),
       all-hold l k,
     )
 

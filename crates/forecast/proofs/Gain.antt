@@ -7,18 +7,21 @@ use mathlib.Core.List.{List, [], _∷_}
 use Prim.Native.Nat.{ℕ, zero, suc, _+_, _-_, _≤_}
 use native.Mathlib.Omega.{arith}
 use lib.Dec.{eqb}
-use borrow.Author.Tests.{eqb-true, eq-eqb}
+use borrow.Author.Tests.{eqb-true, eq-eqb, ne-eqb}
 use Rattle.line.specs.declared.Frame.{Frame}
-use Rattle.line.specs.declared.Frame.the-variants.{Site, Call, Spawn, Sync, Return, Cost, Instructions}
+use Rattle.line.specs.declared.Frame.the-variants.{Site, Call, Spawn, Sync, Return, Cost, Instructions, Async, Finish}
 use Rattle.chain.specs.Over.{Each}
 use Rattle.chain.specs.Over as Over
 use Rattle.trace.specs.Shape.{Is, root, step, walk, openAt, has, firstIs}
+use Rattle.trace.specs.Async.{isFinish, finishLine, finish, ownerIs}
 use Rattle.trace.specs.Series.{value, valueAt, CostIn, weight, Span, Chosen}
-use Rattle.trace.specs.Rows.{ofRow, cycles, sumOf, directOn, sum, total, calls, work, Spans, onSpan, ilocal}
+use Rattle.trace.specs.Rows.{makes, ofRow, made, cycles, sumOf, directOn, sum, total, calls, work, Spans, onSpan, ilocal}
 use Rattle.trace.specs.Refusals.{Verdict, accepted, refused}
 use Rattle.trace.proofs.Basics.{no-way}
+use Rattle.trace.proofs.Sums.{makesAt, has-made}
 use Rattle.weigh.specs.Cost.{costing}
 use Rattle.weigh.proofs.Alike.{ButCosts, chain-alike}
+use Rattle.weigh.proofs.Weighed.{same-costing, plain-costing}
 use Rattle.weigh.proofs.Accepted.{costing-bare}
 use Rattle.weigh.proofs.Less.{AtMost, calls-alike, ilocal-alike, total-most, work-most, span-most, spans-most}
 use Rattle.forecast.specs.declared.Entry.{Entry}
@@ -31,13 +34,7 @@ use Rattle.forecast.proofs.Asked.{factor-of-range}
 -- ── an empty list ──
 
 as-it-is : (f : Frame) → costing (λ v. divided v 1) f ≡ f
-as-it-is (Site s p) = refl
-as-it-is (Call s) = refl
-as-it-is (Spawn s) = refl
-as-it-is Sync = refl
-as-it-is Return = refl
-as-it-is (Cost v) = ap Cost (divided-one v)
-as-it-is (Instructions v) = refl
+as-it-is f = same-costing (λ v. divided v 1) (λ v. v) divided-one f ∙ plain-costing f
 
 no-factor : (t : List Frame) (o : List ℕ) → factorAt [] t o ≡ 1
 no-factor t [] = refl
@@ -81,6 +78,8 @@ module _ (es : List Entry) (good : badFactor es ≡ false) (t : List Frame) wher
   lighter g h Return = omega arith
   lighter g h (Cost v) = h v
   lighter g h (Instructions v) = omega arith
+  lighter g h (Async s) = omega arith
+  lighter g h Finish = omega arith
 
   most-lines : (n : ℕ) (o : List ℕ) (u : List Frame) → AtMost u (rewrittenFrom es t n o u)
   most-lines n o [] = tt
@@ -180,12 +179,40 @@ one-of f F (G ∷ l) h = go (eqb F G) refl h (one-of f F l)
     go true e q r = omega (arith, ap f (eqb-true F G e))
     go false e q r = omega (arith, r q)
 
+-- no finish is made from a site, and so none is of a row
+makes-none : (s : ℕ) (f : Frame) → makes s f ≡ true → isFinish f ≡ false
+makes-none s (Site i p) h = refl
+makes-none s (Call i) h = refl
+makes-none s (Spawn i) h = refl
+makes-none s Sync h = refl
+makes-none s Return h = refl
+makes-none s (Cost v) h = refl
+makes-none s (Instructions v) h = refl
+makes-none s (Async i) h = refl
+makes-none s Finish h = absurd (no-way h)
+
+made-none : (t : List Frame) (g s : ℕ) → makesAt t g s ≡ true → finishLine t g ≡ false
+made-none [] g s h = refl
+made-none (e ∷ t) zero s h = makes-none s e h
+made-none (e ∷ t) (suc g) s h = made-none t g s h
+
+row-none : (t : List Frame) (s F : ℕ) → has F (ofRow t s) ≡ true → finish t F ≡ false
+row-none t s zero h = refl
+row-none t zero (suc g) h = absurd (no-way (sym (ap (λ (b : Bool). b || false) (ne-eqb (suc g) root (λ q. omega arith))) ∙ h))
+row-none t (suc s) (suc g) h = let e : 0 + g ≡ g = omega arith in made-none t g (suc s) (sym (has-made 0 t g (suc s)) ∙ ap (λ (k : ℕ). has (suc k) (made 0 t (suc s))) e ∙ h)
+
+first-owner : (t : List Frame) (F : ℕ) (o : List ℕ) → finish t F ≡ false → firstIs F o ≡ true → ownerIs t F o ≡ true
+first-owner t F [] n d = d
+first-owner t F (x ∷ o) n d =
+    ap (λ (y : ℕ). cond (finish t y) (ownerIs t F o) (eqb F x)) (sym (eqb-true F x d)) ∙ ap (λ (b : Bool). cond b (ownerIs t F o) (eqb F x)) n ∙ d
+
 -- a line of the chain that is directly in an invocation of a row is part of the row's on-span number
 on-row : (t : List Frame) (c : List ℕ) (s F k : ℕ) → has F (ofRow t s) ≡ true → firstIs F (openAt t k) ≡ true → has k c ≡ true → valueAt t k ≤ onSpan t c s
 on-row t c s F k h d i =
     let e : 0 + k ≡ k = omega arith in
-    let z : (firstIs F (openAt t k) && has (0 + k) c) ≡ true = ap (λ (j : ℕ). firstIs F (openAt t k) && has j c) e ∙ ap (λ (b : Bool). b && has k c) d ∙ i in
-    omega (arith, picks (λ j o. firstIs F o && has j c) 0 (root ∷ []) t k z, one-of (directOn cycles t c) F (ofRow t s) h)
+    let own = first-owner t F (openAt t k) (row-none t s F h) d in
+    let z : (ownerIs t F (openAt t k) && has (0 + k) c) ≡ true = ap (λ (j : ℕ). ownerIs t F (openAt t k) && has j c) e ∙ ap (λ (b : Bool). b && has k c) own ∙ i in
+    omega (arith, picks (λ j o. ownerIs t F o && has j c) 0 (root ∷ []) t k z, one-of (directOn cycles t c) F (ofRow t s) h)
 
 module _ (t : List Frame) (c : List ℕ) where
   off-factor : (es : List Entry) → OffSpan t c es → (F k : ℕ) → firstIs F (openAt t k) ≡ true → has k c ≡ true → (valueAt t k ≡ 0) ⊎ (factorOf es t F ≡ 1)

@@ -6,8 +6,9 @@ use mathlib.Core.List.{List, [], _∷_, _++_}
 use Prim.Native.Nat.{ℕ, suc, _≤_}
 use native.Mathlib.Omega.{arith}
 use borrow.Author.Tests.{le-leb}
+use Rattle.line.specs.declared.Family.the-variants.{Base}
 use Rattle.line.specs.declared.Frame.{Frame}
-use Rattle.line.specs.declared.Frame.the-variants.{Site, Call, Spawn, Sync, Return, Cost, Instructions}
+use Rattle.line.specs.declared.Frame.the-variants.{Site, Call, Spawn, Sync, Return, Cost, Instructions, Async, Finish}
 use Rattle.line.specs.Write.{writable}
 use Rattle.line.proofs.Writable.{writable-value}
 use Rattle.trace.specs.declared.Answer.{Answer}
@@ -35,18 +36,20 @@ use Rattle.forecast.proofs.Gain.{least}
 -- ── its lines can be written ──
 
 -- a cost divided by a factor stays in the table
-divided-writable : (f : Frame) (k : ℕ) → 1 ≤ k → InTable f → writable f ≡ true → writable (costing (λ v. divided v k) f) ≡ true
+divided-writable : (f : Frame) (k : ℕ) → 1 ≤ k → InTable Base f → writable f ≡ true → writable (costing (λ v. divided v k) f) ≡ true
 divided-writable (Site s p) k l h w = w
 divided-writable (Call s) k l h w = w
 divided-writable (Spawn s) k l h w = w
 divided-writable Sync k l h w = w
 divided-writable Return k l h w = w
 divided-writable (Instructions v) k l h w = w
+divided-writable (Async s) k l h w = w
+divided-writable Finish k l h w = w
 divided-writable (Cost v) k l h w =
     writable-value (Cost (divided v k)) (divided v k) (omega (arith, divided-most v k l, h .1)) ∙ le-leb 1 (divided v k) (divided-least v k (h .0) l)
 
 module _ (es : List Entry) (good : badFactor es ≡ false) (t : List Frame) (D M : ℕ) where
-  lines-writable : (n : ℕ) (o : List ℕ) (before u : List Frame) → Clean D M before u → Writable u → Writable (rewrittenFrom es t n o u)
+  lines-writable : (n : ℕ) (o : List ℕ) (before u : List Frame) → Clean Base D M before u → Writable u → Writable (rewrittenFrom es t n o u)
   lines-writable n o before [] c w = tt
   lines-writable n o before (f ∷ u) c w =
       (divided-writable f (factorAt es t o) (least es good t o) (c .1) (w .0), lines-writable (suc n) (step n f o) (before ++ f ∷ []) u (c .2) (w .1))
@@ -60,8 +63,8 @@ module _ (es : List Entry) (s : List ℕ) (D M : ℕ) (room : Bool) (t : List Fr
   writes : Writable (rewritten es t)
   writes = lines-writable es good t D M 0 (root ∷ []) [] t (accepted-fine s D M room t a .clean) (accepted-writable s D M room t a)
 
-  fine : Fine D M (rewritten es t)
-  fine = subst (Fine D M) (sym (rewritten-weighed es t D (accepted-parts s D M room t a))) (reweighed-fine (byEntries es) (entries-tabled es good) D M t (accepted-fine s D M room t a))
+  fine : Fine Base D M (rewritten es t)
+  fine = subst (Fine Base D M) (sym (rewritten-weighed es t D (accepted-parts s D M room t a))) (reweighed-fine (byEntries es) (entries-tabled es good) D M t (accepted-fine s D M room t a))
 
   -- LAW: the rewritten trace, written out by the line writer, is accepted as the rewritten trace
   pub forecast-written : verdict (textOf (rewritten es t)) D M true ≡ accepted (rewritten es t)

@@ -7,7 +7,8 @@ use mathlib.Core.Path.{_≡_, refl, ap, _∙_, sym}
 use borrow.Author.Tests.{eq-eqb, ne-eqb, eqb-true, eqb-false}
 use lib.Dec.{eqb}
 use lib.ListN.{length}
-use Rattle.line.specs.Read.{lineAt, readLine, readAt}
+use Rattle.line.specs.declared.Family.{Family}
+use Rattle.line.specs.Read.{lineAt, readLineOf, readAtOf}
 use Rattle.line.specs.At.{wholeAt}
 use Rattle.line.proofs.Lines.{read-long, whole, not-whole}
 
@@ -35,9 +36,9 @@ module _ (s : List ℕ) (n : ℕ) where
             absurd (h (ap length (cut ∙ at-long k) ∙ k))
         go false e = at-of false e
 
-    pub cut-read : readLine l n ≡ readAt s n
-    cut-read = ap (λ (x : List ℕ). readLine x n) cut ∙ go (eqb (length (lineAt s n)) 23) refl
+    pub cut-read : (g : Family) → readLineOf g l n ≡ readAtOf g s n
+    cut-read g = ap (λ (x : List ℕ). readLineOf g x n) cut ∙ go (eqb (length (lineAt s n)) 23) refl
       where
-        go : (b : Bool) → eqb (length (lineAt s n)) 23 ≡ b → readLine (wholeAt s n) n ≡ readAt s n
-        go true e = ap (λ (x : List ℕ). readLine x n) (at-of true e)
-        go false e = ap (λ (x : List ℕ). readLine x n) (at-of false e) ∙ sym (read-long (lineAt s n) n (eqb-false (length (lineAt s n)) 23 e))
+        go : (b : Bool) → eqb (length (lineAt s n)) 23 ≡ b → readLineOf g (wholeAt s n) n ≡ readAtOf g s n
+        go true e = ap (λ (x : List ℕ). readLineOf g x n) (at-of true e)
+        go false e = ap (λ (x : List ℕ). readLineOf g x n) (at-of false e) ∙ sym (read-long g (lineAt s n) n (eqb-false (length (lineAt s n)) 23 e))

@@ -1,15 +1,18 @@
--- Document 01's case I read and written line by line, and lines that are refused, by computing: the definitions at work.
+-- Document 01's case I read and written line by line, lines of the finish family, and lines that are refused, by
+-- computing: the definitions at work.
 -- Assumes nothing.
 use Prim.Native.Nat.{ℕ}
 use mathlib.Core.List.{List, [], _∷_, _++_, map}
 use mathlib.Core.Path.{_≡_, refl}
 use lib.ListN.{take, set, replicate}
 use Rattle.digits.specs.Digits.{digits}
+use Rattle.line.specs.declared.Family.the-variants.{Finishes}
 use Rattle.line.specs.declared.Frame.{Frame}
-use Rattle.line.specs.declared.Frame.the-variants.{Site, Call, Spawn, Return, Cost, Instructions}
+use Rattle.line.specs.declared.Frame.the-variants.{Site, Call, Spawn, Sync, Return, Cost, Instructions, Async, Finish}
 use Rattle.line.specs.declared.Read.the-variants.{Line, Refused}
-use Rattle.line.specs.Read.{readLine}
-use Rattle.line.specs.Write.{writeChars}
+use Rattle.line.specs.declared.Wrote.the-variants.{Refused as Unwritten}
+use Rattle.line.specs.Read.{readLineOf, readLine}
+use Rattle.line.specs.Write.{writeAnswerOf, writeCharsOf, writeAnswer, writeChars}
 
 -- the 22 digits of a number, and a line feed
 abbrev printed : ℕ → List ℕ
@@ -56,6 +59,34 @@ instructions-read = refl
 
 instructions-written : writeChars (Instructions 3) ≡ printed 0x0700000000000300000000
 instructions-written = refl
+
+-- 02, request n: "kinds 12 async (with a site) and 13 finish", read and written in the finish family, and refused as 6
+-- in document 01's
+abbrev apart : List ℕ
+apart = 0x1200010000000000000000 ∷ 0x1300000000000000000000 ∷ []
+
+apart-read : map (λ (x : ℕ). readLineOf Finishes (printed x) 0) apart ≡ Line 0 (Async 1) ∷ Line 0 Finish ∷ []
+apart-read = refl
+
+apart-written : map (writeCharsOf Finishes) (Async 1 ∷ Finish ∷ []) ≡ map printed apart
+apart-written = refl
+
+apart-unread : map (λ (x : ℕ). readLine (printed x) 0) apart ≡ replicate 2 (Refused 6 0)
+apart-unread = refl
+
+apart-unwritten : map writeAnswer (Async 1 ∷ Finish ∷ []) ≡ replicate 2 (Unwritten 6 0)
+apart-unwritten = refl
+
+-- "kinds 03 and 04 are refused as 6 in it"
+spawned-unread : map (λ (x : ℕ). readLineOf Finishes (printed x) 0) (0x0300010000000000000000 ∷ 0x0400000000000000000000 ∷ []) ≡ replicate 2 (Refused 6 0)
+spawned-unread = refl
+
+spawned-unwritten : map (writeAnswerOf Finishes) (Spawn 1 ∷ Sync ∷ []) ≡ replicate 2 (Unwritten 6 0)
+spawned-unwritten = refl
+
+-- 6 in it: a finish with a site, an async with a value, and kind 16, which ends as a cost does
+listed-nowhere-apart : map (λ (x : ℕ). readLineOf Finishes (printed x) 0) (0x1300010000000000000000 ∷ 0x1200010000000100000000 ∷ 0x1600000000000700000000 ∷ []) ≡ replicate 3 (Refused 6 0)
+listed-nowhere-apart = refl
 
 -- 6: kind 00, kind 08, a site without a line, a call with a value, a sync with a site, a cost of 0, instructions of 0
 -- and with a site

@@ -1,4 +1,4 @@
--- What the line reader rests on: a line's parts, its five numerals, and readLine by cases.
+-- What the line reader rests on: a line's parts, its five numerals, and readLineOf by cases.
 -- Assumes nothing.
 use Prim.Native.Nat.{ℕ, _+_, _*_, _/_, _^_, _≤_, _<_}
 use mathlib.Core.Bool.{Bool, true, false, not, cond, _&&_, and-assoc}
@@ -14,22 +14,41 @@ use Rattle.digits.specs.Read.{reading}
 use Rattle.digits.specs.declared.read.Numeral.{Numeral}
 use Rattle.digits.proofs.Laws.{all-append, and-left, and-right}
 use Rattle.digits.proofs.Reading.{reading-tells, reading-value, reading-below}
+use Rattle.line.specs.declared.Family.{Family}
+use Rattle.line.specs.declared.Family.the-variants.{Finishes}
+use Rattle.line.specs.declared.Read.{Read}
 use Rattle.line.specs.declared.Read.the-variants.{Refused}
-use Rattle.line.specs.Table.{Fields, table}
-use Rattle.line.specs.Read.{part, fields, wrong, tabled, readLine, lineAt}
+use Rattle.line.specs.Table.{Fields, none, tableOf, table}
+use Rattle.line.specs.Read.{part, fields, wrong, tabled, readLineOf, lineAt}
 
--- readLine by cases
-module _ (s : List ℕ) (n : ℕ) where
-  read-of : (a b : Bool) → eqb (length s) 23 ≡ a → wrong s ≡ b → readLine s n ≡ cond a (cond b (Refused 5 n) (tabled (table (fields s)) n)) (Refused 2 0)
-  read-of a b e f = ap (λ (x : Bool). cond x (cond (wrong s) (Refused 5 n) (tabled (table (fields s)) n)) (Refused 2 0)) e ∙ ap (λ (x : Bool). cond a (cond x (Refused 5 n) (tabled (table (fields s)) n)) (Refused 2 0)) f
+-- kinds that document 01's table does not have
+pub table-none : (x : Fields) → (x .kind ≡ 1 → ⊥) → (x .kind ≡ 2 → ⊥) → (x .kind ≡ 3 → ⊥) → (x .kind ≡ 4 → ⊥) → (x .kind ≡ 5 → ⊥) → (x .kind ≡ 6 → ⊥) → (x .kind ≡ 7 → ⊥) → table x ≡ none
+table-none x a b c d e f g =
+    simp (ne-eqb (x .kind) 1 a, ne-eqb (x .kind) 2 b, ne-eqb (x .kind) 3 c, ne-eqb (x .kind) 4 d, ne-eqb (x .kind) 5 e, ne-eqb (x .kind) 6 f, ne-eqb (x .kind) 7 g)
+    (neither (eqb (x .kind) 0x12) (eqb (x .kind) 0x13))
+  where
+    neither : (a b : Bool) → cond a none (cond b none none) ≡ none
+    neither true b = refl
+    neither false true = refl
+    neither false false = refl
 
-  pub read-long : (length s ≡ 23 → ⊥) → readLine s n ≡ Refused 2 0
+-- kinds that both families have, or none
+pub same-table : (x : Fields) → (x .kind ≡ 3 → ⊥) → (x .kind ≡ 4 → ⊥) → (x .kind ≡ 0x12 → ⊥) → (x .kind ≡ 0x13 → ⊥)
+    → (n : ℕ) {r : Read} → r ≡ tabled (table x) n → r ≡ tabled (tableOf Finishes x) n
+same-table x a b c d n h = h ∙ simp (ne-eqb (x .kind) 3 a, ne-eqb (x .kind) 4 b, ne-eqb (x .kind) 0x12 c, ne-eqb (x .kind) 0x13 d)
+
+-- readLineOf by cases
+module _ (g : Family) (s : List ℕ) (n : ℕ) where
+  read-of : (a b : Bool) → eqb (length s) 23 ≡ a → wrong s ≡ b → readLineOf g s n ≡ cond a (cond b (Refused 5 n) (tabled (tableOf g (fields s)) n)) (Refused 2 0)
+  read-of a b e f = ap (λ (x : Bool). cond x (cond (wrong s) (Refused 5 n) (tabled (tableOf g (fields s)) n)) (Refused 2 0)) e ∙ ap (λ (x : Bool). cond a (cond x (Refused 5 n) (tabled (tableOf g (fields s)) n)) (Refused 2 0)) f
+
+  pub read-long : (length s ≡ 23 → ⊥) → readLineOf g s n ≡ Refused 2 0
   read-long h = read-of false (wrong s) (ne-eqb (length s) 23 h) refl
 
-  pub read-wrong : length s ≡ 23 → wrong s ≡ true → readLine s n ≡ Refused 5 n
+  pub read-wrong : length s ≡ 23 → wrong s ≡ true → readLineOf g s n ≡ Refused 5 n
   read-wrong h e = read-of true true (eq-eqb (length s) 23 h) e
 
-  pub read-tabled : length s ≡ 23 → wrong s ≡ false → readLine s n ≡ tabled (table (fields s)) n
+  pub read-tabled : length s ≡ 23 → wrong s ≡ false → readLineOf g s n ≡ tabled (tableOf g (fields s)) n
   read-tabled h e = read-of true false (eq-eqb (length s) 23 h) e
 
 pub part-length : (s : List ℕ) (from size : ℕ) → from + size ≤ length s → length (part s from size) ≡ size
@@ -137,12 +156,12 @@ module _ {s : List ℕ} {kind site value file column : Numeral} (m : Numerals s 
         numeral-value s 18 4 (fits 22 (omega arith)) (omega arith) column (m .column-is) (and-right (kind .good && site .good && value .good && file .good) (column .good) five),
       )
 
-  pub wrong-line : (n : ℕ) → not (allGood kind site value file column (getD s 22 0)) ≡ true → Refused 5 n ≡ readLine s n
-  wrong-line n e = sym (read-wrong s n (m .long) (wrong-is ∙ e))
+  pub wrong-line : (g : Family) (n : ℕ) → not (allGood kind site value file column (getD s 22 0)) ≡ true → Refused 5 n ≡ readLineOf g s n
+  wrong-line g n e = sym (read-wrong g s n (m .long) (wrong-is ∙ e))
 
-  pub good-line : (n : ℕ) → not (allGood kind site value file column (getD s 22 0)) ≡ false
-      → tabled (table (record { kind = kind .value; site = site .value; value = value .value; file = file .value; column = column .value })) n ≡ readLine s n
-  good-line n e = ap (λ (x : Fields). tabled (table x) n) (sym (fields-are (not-false _ e))) ∙ sym (read-tabled s n (m .long) (wrong-is ∙ e))
+  pub good-line : (g : Family) (n : ℕ) → not (allGood kind site value file column (getD s 22 0)) ≡ false
+      → {r : Read} → r ≡ tabled (tableOf g (record { kind = kind .value; site = site .value; value = value .value; file = file .value; column = column .value })) n → r ≡ readLineOf g s n
+  good-line g n e h = h ∙ ap (λ (x : Fields). tabled (tableOf g x) n) (sym (fields-are (not-false _ e))) ∙ sym (read-tabled g s n (m .long) (wrong-is ∙ e))
 
 -- line n of a text is whole exactly where n is below the number of whole lines
 module _ (s : List ℕ) (n : ℕ) where

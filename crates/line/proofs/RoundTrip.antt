@@ -11,14 +11,16 @@ use lib.ListN.{length, getD, take, drop, replicate, take-append-drop, drop-of-le
 use lib.Seq.{drop-cons}
 use Rattle.digits.specs.Digits.{allDigits, smallForm, number, digits}
 use Rattle.digits.proofs.Laws.{and-left, and-right, digits-good, digits-number, number-digits, number-below, small-append}
+use Rattle.line.specs.declared.Family.{Family}
+use Rattle.line.specs.declared.Family.the-variants.{Base, Finishes}
 use Rattle.line.specs.declared.Frame.{Frame}
-use Rattle.line.specs.declared.Frame.the-variants.{Site, Call, Spawn, Sync, Return, Cost, Instructions}
+use Rattle.line.specs.declared.Frame.the-variants.{Site, Call, Spawn, Sync, Return, Cost, Instructions, Async, Finish}
 use Rattle.line.specs.declared.Read.the-variants.{Line}
-use Rattle.line.specs.Table.{Fields, Entry, frame, none, only, valueOnly, table, fieldsOf}
-use Rattle.line.specs.Read.{part, fields, wrong, tabled, readLine}
-use Rattle.line.specs.Write.{chars, narrow, isFrame, writable, writeChars}
+use Rattle.line.specs.Table.{Fields, Entry, frame, only, valueOnly, isBase, inBase, inFinishes, tableOf, table, fieldsOf}
+use Rattle.line.specs.Read.{part, fields, wrong, tabled, readLineOf, readLine}
+use Rattle.line.specs.Write.{chars, narrow, isFrame, writableOf, writeCharsOf, writable, writeChars}
 use Rattle.line.proofs.Lines.{part-length, parts, all-parts, read-tabled}
-use Rattle.line.proofs.Cases.{frames}
+use Rattle.line.proofs.Cases.{frames-of}
 
 -- five fields that have room in their digits
 pub record Narrow (x : Fields) : Type 0 where
@@ -69,49 +71,68 @@ module _ (x : Fields) where
       (digits-number 4 (x .file) (h .file))
       (digits-number 4 (x .column) (h .column))
 
-  chars-read : (n : ℕ) → Narrow x → readLine (chars x) n ≡ tabled (table x) n
-  chars-read n h = read-tabled (chars x) n refl chars-good ∙ ap (λ (y : Fields). tabled (table y) n) (fields-back h)
+  chars-read : (g : Family) (n : ℕ) → Narrow x → readLineOf g (chars x) n ≡ tabled (tableOf g x) n
+  chars-read g n h = read-tabled g (chars x) n refl chars-good ∙ ap (λ (y : Fields). tabled (tableOf g y) n) (fields-back h)
 
 -- the table gives a frame back from its own fields
 only-frame : (b : Bool) (f : Frame) → isFrame (only b f) ≡ true → only b f ≡ frame f
 only-frame true f e = refl
 only-frame false f e = absurd (let z : _≡_ {A = ℕ} 0 1 = cc in omega arith)
 
-table-back : (f : Frame) → isFrame (table (fieldsOf f)) ≡ true → table (fieldsOf f) ≡ frame f
-table-back (Site s p) e = only-frame (leb 1 (p .line) && leb 1 (p .file) && leb 1 (p .column)) (Site s p) e
-table-back (Call s) e = refl
-table-back (Spawn s) e = refl
-table-back Sync e = refl
-table-back Return e = refl
-table-back (Cost v) e = only-frame (valueOnly 0 v 0 0) (Cost v) e
-table-back (Instructions v) e = only-frame (valueOnly 0 v 0 0) (Instructions v) e
+-- the entry of a kind that one family has, where the family has it
+base-frame : (g : Family) (f : Frame) → isFrame (inBase g (frame f)) ≡ true → inBase g (frame f) ≡ frame f
+base-frame g f e = only-frame (isBase g) f e
+
+finishes-frame : (g : Family) (f : Frame) → isFrame (inFinishes g (frame f)) ≡ true → inFinishes g (frame f) ≡ frame f
+finishes-frame Base f e = absurd (let z : _≡_ {A = ℕ} 0 1 = cc in omega arith)
+finishes-frame Finishes f e = refl
+
+table-back : (g : Family) (f : Frame) → isFrame (tableOf g (fieldsOf f)) ≡ true → tableOf g (fieldsOf f) ≡ frame f
+table-back g (Site s p) e = only-frame (leb 1 (p .line) && leb 1 (p .file) && leb 1 (p .column)) (Site s p) e
+table-back g (Call s) e = refl
+table-back g (Spawn s) e = base-frame g (Spawn s) e
+table-back g Sync e = base-frame g Sync e
+table-back g Return e = refl
+table-back g (Cost v) e = only-frame (valueOnly 0 v 0 0) (Cost v) e
+table-back g (Instructions v) e = only-frame (valueOnly 0 v 0 0) (Instructions v) e
+table-back g (Async s) e = finishes-frame g (Async s) e
+table-back g Finish e = finishes-frame g Finish e
 
 -- "The line writer takes a frame and gives 23 characters", and the line reader gives the frame
-module _ (f : Frame) (w : writable f ≡ true) where
-  pub written : writeChars f ≡ chars (fieldsOf f)
-  written = ap (λ (b : Bool). cond b (chars (fieldsOf f)) (replicate 23 0)) w
+module _ (g : Family) (f : Frame) (w : writableOf g f ≡ true) where
+  pub written-of : writeCharsOf g f ≡ chars (fieldsOf f)
+  written-of = ap (λ (b : Bool). cond b (chars (fieldsOf f)) (replicate 23 0)) w
 
-  pub write-read : (n : ℕ) → readLine (writeChars f) n ≡ Line n f
-  write-read n =
-      ap (λ (l : List ℕ). readLine l n) written
-      ∙ chars-read (fieldsOf f) n (narrow-fits (fieldsOf f) (and-left (narrow (fieldsOf f)) (isFrame (table (fieldsOf f))) w))
-      ∙ ap (λ (e : Entry). tabled e n) (table-back f (and-right (narrow (fieldsOf f)) (isFrame (table (fieldsOf f))) w))
+  pub write-read-of : (n : ℕ) → readLineOf g (writeCharsOf g f) n ≡ Line n f
+  write-read-of n =
+      ap (λ (l : List ℕ). readLineOf g l n) written-of
+      ∙ chars-read (fieldsOf f) g n (narrow-fits (fieldsOf f) (and-left (narrow (fieldsOf f)) (isFrame (tableOf g (fieldsOf f))) w))
+      ∙ ap (λ (e : Entry). tabled e n) (table-back g f (and-right (narrow (fieldsOf f)) (isFrame (tableOf g (fieldsOf f))) w))
 
 -- no two frames are written alike
-pub write-injective : (f g : Frame) → writable f ≡ true → writable g ≡ true → writeChars f ≡ writeChars g → f ≡ g
-write-injective f g hf hg e =
-    let p = write-read f hf 0 in
-    let q = write-read g hg 0 in
-    let r = ap (λ (l : List ℕ). readLine l 0) e in
+pub write-injective-of : (g : Family) (f i : Frame) → writableOf g f ≡ true → writableOf g i ≡ true → writeCharsOf g f ≡ writeCharsOf g i → f ≡ i
+write-injective-of g f i hf hi e =
+    let p = write-read-of g f hf 0 in
+    let q = write-read-of g i hi 0 in
+    let r = ap (λ (l : List ℕ). readLineOf g l 0) e in
     same (sym p ∙ r ∙ q)
   where
-    same : Line 0 f ≡ Line 0 g → f ≡ g
+    same : Line 0 f ≡ Line 0 i → f ≡ i
     same h = cc
 
 -- the fields that the table has as a frame are that frame's
 only-is : (b : Bool) (f g : Frame) → only b f ≡ frame g → (b ≡ true) × (f ≡ g)
 only-is true f g e = (refl, cc)
 only-is false f g e = absurd (let z : _≡_ {A = ℕ} 0 1 = cc in omega arith)
+
+-- the entry of a kind that one family has is its frame, where the table has one
+base-is : (g : Family) (e : Entry) (f : Frame) → inBase g e ≡ frame f → e ≡ frame f
+base-is Base e f t = t
+base-is Finishes e f t = absurd (let z : _≡_ {A = ℕ} 0 1 = cc in omega arith)
+
+finishes-is : (g : Family) (e : Entry) (f : Frame) → inFinishes g e ≡ frame f → e ≡ frame f
+finishes-is Base e f t = absurd (let z : _≡_ {A = ℕ} 0 1 = cc in omega arith)
+finishes-is Finishes e f t = t
 
 -- three fields that are zero, and four
 zeros : (a b c : ℕ) → (eqb a 0 && eqb b 0 && eqb c 0) ≡ true → (0 ≡ a) × (0 ≡ b) × (0 ≡ c)
@@ -124,13 +145,18 @@ zeros4 a b c d e =
     let z = zeros a b c (and-left (eqb a 0 && eqb b 0 && eqb c 0) (eqb d 0) e) in
     (z .0, z .1, z .2, sym (eqb-true d 0 (and-right (eqb a 0 && eqb b 0 && eqb c 0) (eqb d 0) e)))
 
-module _ (x : Fields) (f : Frame) where
-  -- the table's line, where it fits
-  line : (b : Bool) (g : Frame) → table x ≡ only b g → table x ≡ frame f → (b ≡ true → fieldsOf g ≡ x) → fieldsOf f ≡ x
-  line b g t e h = let o = only-is b g f (sym t ∙ e) in ap fieldsOf (sym (o .1)) ∙ h (o .0)
+module _ (g : Family) (x : Fields) (f : Frame) where
+  -- a kind's line of the table: its entry, or what the rest of the table has
+  kinds : (k : ℕ) (e r : Entry) → (k ≡ x .kind → e ≡ frame f → fieldsOf f ≡ x) → (r ≡ frame f → fieldsOf f ≡ x) → cond (eqb (x .kind) k) e r ≡ frame f → fieldsOf f ≡ x
+  kinds k e r here there = go (eqb (x .kind) k) refl
+    where
+      go : (b : Bool) → eqb (x .kind) k ≡ b → cond b e r ≡ frame f → fieldsOf f ≡ x
+      go true h t = here (sym (eqb-true (x .kind) k h)) t
+      go false h t = there t
 
-  is-kind : (k : ℕ) → eqb (x .kind) k ≡ true → k ≡ x .kind
-  is-kind k h = sym (eqb-true (x .kind) k h)
+  -- its entry, where the fields fit
+  entry : (b : Bool) (h : Frame) → (b ≡ true → fieldsOf h ≡ x) → only b h ≡ frame f → fieldsOf f ≡ x
+  entry b h is t = let o = only-is b h f t in ap fieldsOf (sym (o .1)) ∙ is (o .0)
 
   three : (k : ℕ) → k ≡ x .kind → (eqb (x .value) 0 && eqb (x .file) 0 && eqb (x .column) 0) ≡ true → record { kind = k; site = x .site; value = 0; file = 0; column = 0 } ≡ x
   three k h b = let z = zeros (x .value) (x .file) (x .column) b in same-fields h refl (z .0) (z .1) (z .2)
@@ -150,19 +176,18 @@ module _ (x : Fields) (f : Frame) where
       (sym (eqb-true (x .file) 0 (and-right (eqb (x .site) 0 && leb 1 (x .value) && leb (x .value) 4294967295) (eqb (x .file) 0) to-file)))
       (sym (eqb-true (x .column) 0 (and-right (eqb (x .site) 0 && leb 1 (x .value) && leb (x .value) 4294967295 && eqb (x .file) 0) (eqb (x .column) 0) b)))
 
-  pub table-fields : table x ≡ frame f → fieldsOf f ≡ x
-  table-fields = go (eqb (x .kind) 1) (eqb (x .kind) 2) (eqb (x .kind) 3) (eqb (x .kind) 4) (eqb (x .kind) 5) (eqb (x .kind) 6) (eqb (x .kind) 7) refl refl refl refl refl refl refl
-    where
-      go : (b1 b2 b3 b4 b5 b6 b7 : Bool) → eqb (x .kind) 1 ≡ b1 → eqb (x .kind) 2 ≡ b2 → eqb (x .kind) 3 ≡ b3 → eqb (x .kind) 4 ≡ b4 → eqb (x .kind) 5 ≡ b5 → eqb (x .kind) 6 ≡ b6 → eqb (x .kind) 7 ≡ b7 → table x ≡ frame f → fieldsOf f ≡ x
-      go true b2 b3 b4 b5 b6 b7 h1 h2 h3 h4 h5 h6 h7 e =
-          line (leb 1 (x .value) && leb 1 (x .file) && leb 1 (x .column)) (Site (x .site) (record { file = x .file; line = x .value; column = x .column })) (simp h1) e (λ b. same-fields (is-kind 1 h1) refl refl refl refl)
-      go false true b3 b4 b5 b6 b7 h1 h2 h3 h4 h5 h6 h7 e = line _ (Call (x .site)) (simp (h1, h2)) e (three 2 (is-kind 2 h2))
-      go false false true b4 b5 b6 b7 h1 h2 h3 h4 h5 h6 h7 e = line _ (Spawn (x .site)) (simp (h1, h2, h3)) e (three 3 (is-kind 3 h3))
-      go false false false true b5 b6 b7 h1 h2 h3 h4 h5 h6 h7 e = line _ Sync (simp (h1, h2, h3, h4)) e (four 4 (is-kind 4 h4))
-      go false false false false true b6 b7 h1 h2 h3 h4 h5 h6 h7 e = line _ Return (simp (h1, h2, h3, h4, h5)) e (four 5 (is-kind 5 h5))
-      go false false false false false true b7 h1 h2 h3 h4 h5 h6 h7 e = line _ (Cost (x .value)) (simp (h1, h2, h3, h4, h5, h6)) e (one 6 (is-kind 6 h6))
-      go false false false false false false true h1 h2 h3 h4 h5 h6 h7 e = line _ (Instructions (x .value)) (simp (h1, h2, h3, h4, h5, h6, h7)) e (one 7 (is-kind 7 h7))
-      go false false false false false false false h1 h2 h3 h4 h5 h6 h7 e = absurd (let t : table x ≡ none = simp (h1, h2, h3, h4, h5, h6, h7) in let z : _≡_ {A = ℕ} 0 1 = cc in omega arith)
+  pub table-fields-of : tableOf g x ≡ frame f → fieldsOf f ≡ x
+  table-fields-of =
+      kinds 1 _ _ (λ k. entry (leb 1 (x .value) && leb 1 (x .file) && leb 1 (x .column)) (Site (x .site) (record { file = x .file; line = x .value; column = x .column })) (λ b. same-fields k refl refl refl refl))
+      (kinds 2 _ _ (λ k. entry _ (Call (x .site)) (three 2 k))
+      (kinds 3 _ _ (λ k t. entry _ (Spawn (x .site)) (three 3 k) (base-is g _ f t))
+      (kinds 4 _ _ (λ k t. entry _ Sync (four 4 k) (base-is g _ f t))
+      (kinds 5 _ _ (λ k. entry _ Return (four 5 k))
+      (kinds 6 _ _ (λ k. entry _ (Cost (x .value)) (one 6 k))
+      (kinds 7 _ _ (λ k. entry _ (Instructions (x .value)) (one 7 k))
+      (kinds 0x12 _ _ (λ k t. entry _ (Async (x .site)) (three 0x12 k) (finishes-is g _ f t))
+      (kinds 0x13 _ _ (λ k t. entry _ Finish (four 0x13 k) (finishes-is g _ f t))
+      (λ t. absurd (let z : _≡_ {A = ℕ} 0 1 = cc in omega arith))))))))))
 
 -- 23 characters that are not wrong are the characters of their five fields
 module _ (s : List ℕ) (h : length s ≡ 23) (w : wrong s ≡ false) where
@@ -238,16 +263,36 @@ module _ (s : List ℕ) (h : length s ≡ 23) (w : wrong s ≡ false) where
       small-five : (a b c d e : List ℕ) → smallForm a ++ (smallForm b ++ (smallForm c ++ (smallForm d ++ smallForm e))) ≡ smallForm (a ++ (b ++ (c ++ (d ++ e))))
       small-five a b c d e = sym (rw (small-append a (b ++ (c ++ (d ++ e))), small-append b (c ++ (d ++ e)), small-append c (d ++ e), small-append d e))
 
--- LAW: "an accepted line is from now on rewritten as its small-letter form"
-pub read-write : (s : List ℕ) (n k : ℕ) (f : Frame) → readLine s n ≡ Line k f → (k ≡ n) × (writable f ≡ true) × (writeChars f ≡ smallForm s)
-read-write s n k f e =
-    let (same, h, w, t) = frames s n k f e in
-    let x = table-fields (fields s) f t in
-    let fits : narrow (fieldsOf f) ≡ true = ap narrow x ∙ fits-narrow (fields s) (fields-narrow s h w) in
-    let is : isFrame (table (fieldsOf f)) ≡ true = ap (λ (y : Fields). isFrame (table y)) x ∙ ap isFrame t in
-    let u : writable f ≡ true = ap (λ (b : Bool). b && isFrame (table (fieldsOf f))) fits ∙ is in
-    (same, u, written f u ∙ ap chars x ∙ chars-back s h w)
+module _ (g : Family) (s : List ℕ) (n k : ℕ) (f : Frame) (e : readLineOf g s n ≡ Line k f) where
+  -- LAW: "an accepted line is from now on rewritten as its small-letter form"
+  pub read-write-of : (k ≡ n) × (writableOf g f ≡ true) × (writeCharsOf g f ≡ smallForm s)
+  read-write-of =
+      let (same, h, w, t) = frames-of g s n k f e in
+      let x = table-fields-of g (fields s) f t in
+      let fits : narrow (fieldsOf f) ≡ true = ap narrow x ∙ fits-narrow (fields s) (fields-narrow s h w) in
+      let is : isFrame (tableOf g (fieldsOf f)) ≡ true = ap (λ (y : Fields). isFrame (tableOf g y)) x ∙ ap isFrame t in
+      let u : writableOf g f ≡ true = ap (λ (b : Bool). b && isFrame (tableOf g (fieldsOf f))) fits ∙ is in
+      (same, u, written-of g f u ∙ ap chars x ∙ chars-back s h w)
 
--- LAW: a line already in small letters is rewritten unchanged
+  -- LAW: a line already in small letters is rewritten unchanged
+  pub rewritten-same-of : smallForm s ≡ s → writeCharsOf g f ≡ s
+  rewritten-same-of h = read-write-of .2 ∙ h
+
+-- those of document 01's family
+pub table-fields : (x : Fields) (f : Frame) → table x ≡ frame f → fieldsOf f ≡ x
+table-fields = table-fields-of Base
+
+pub written : (f : Frame) → writable f ≡ true → writeChars f ≡ chars (fieldsOf f)
+written = written-of Base
+
+pub write-read : (f : Frame) → writable f ≡ true → (n : ℕ) → readLine (writeChars f) n ≡ Line n f
+write-read = write-read-of Base
+
+pub write-injective : (f g : Frame) → writable f ≡ true → writable g ≡ true → writeChars f ≡ writeChars g → f ≡ g
+write-injective = write-injective-of Base
+
+pub read-write : (s : List ℕ) (n k : ℕ) (f : Frame) → readLine s n ≡ Line k f → (k ≡ n) × (writable f ≡ true) × (writeChars f ≡ smallForm s)
+read-write = read-write-of Base
+
 pub rewritten-same : (s : List ℕ) (n k : ℕ) (f : Frame) → readLine s n ≡ Line k f → smallForm s ≡ s → writeChars f ≡ s
-rewritten-same s n k f e h = read-write s n k f e .2 ∙ h
+rewritten-same = rewritten-same-of Base

@@ -1,6 +1,6 @@
 -- A line and its small-letter form: what is asked of their characters has the same answer, and they read the same.
 -- Assumes nothing.
-use Prim.Native.Nat.{ℕ, zero, suc, _*_, _%_, _<_}
+use Prim.Native.Nat.{ℕ, zero, suc, _+_, _*_, _%_, _<_}
 use mathlib.Core.Bool.{Bool, cond, not, _&&_}
 use mathlib.Core.List.{List, [], _∷_}
 use mathlib.Core.Path.{_≡_, refl, ap, ap₂, _∙_, sym}
@@ -9,11 +9,13 @@ use lib.Dec.{eqb}
 use lib.ListN.{length, getD, take, drop}
 use Rattle.digits.specs.Digits.{small, smallForm, allDigits, number}
 use Rattle.digits.proofs.Laws.{small-eqb, small-mod, small-length, small-all, small-number}
-use Rattle.line.specs.Table.{Fields, table}
+use Rattle.line.specs.declared.Family.{Family}
+use Rattle.line.specs.declared.Family.the-variants.{Base}
+use Rattle.line.specs.Table.{Fields, tableOf}
 use Rattle.line.specs.declared.Read.{Read}
 use Rattle.line.specs.declared.Read.the-variants.{Refused}
-use Rattle.line.specs.Read.{part, width, end, fields, wrong, tabled, readLine, lineAt, readAt}
-use Rattle.line.specs.At.{kindIn}
+use Rattle.line.specs.Read.{part, width, end, fields, wrong, tabled, readLineOf, readLine, lineAt, readAtOf, readAt}
+use Rattle.line.specs.At.{bothIn}
 use Rattle.line.specs.Zeros.{allZero}
 
 -- one character of it
@@ -55,9 +57,12 @@ module _ (s : List ℕ) (from size : ℕ) where
   part-number = ap number (small-part s from size) ∙ small-number (part s from size)
 
 module _ (s : List ℕ) where
-  -- its kind, which is read off its second character
-  pub small-kind : kindIn (smallForm s) ≡ kindIn s
-  small-kind = ap (λ (c : ℕ). c % 16) (small-at s 1) ∙ small-mod (getD s 1 0)
+  -- its kind, which is read off its first two characters
+  pub small-both : bothIn (smallForm s) ≡ bothIn s
+  small-both = ap₂ (λ (a b : ℕ). 16 * a + b) (low 0) (low 1)
+    where
+      low : (i : ℕ) → getD (smallForm s) i 0 % 16 ≡ getD s i 0 % 16
+      low i = ap (λ (c : ℕ). c % 16) (small-at s i) ∙ small-mod (getD s i 0)
 
   small-wrong : wrong (smallForm s) ≡ wrong s
   small-wrong =
@@ -67,15 +72,23 @@ module _ (s : List ℕ) where
   small-fields = rw (part-number s 0 2, part-number s 2 4, part-number s 6 8, part-number s 14 4, part-number s 18 4)
 
   -- LAW: it reads the same
-  pub read-small : (n : ℕ) → readLine (smallForm s) n ≡ readLine s n
-  read-small n =
-      ap (λ (l : ℕ). cond (eqb l width) (cond (wrong (smallForm s)) (Refused 5 n) (tabled (table (fields (smallForm s))) n)) (Refused 2 0)) (small-length s)
-      ∙ ap₂ (λ (b : Bool) (x : Fields). cond {A = Read} (eqb (length s) width) (cond b (Refused 5 n) (tabled (table x) n)) (Refused 2 0)) small-wrong small-fields
+  pub read-small : (g : Family) (n : ℕ) → readLineOf g (smallForm s) n ≡ readLineOf g s n
+  read-small g n =
+      ap (λ (l : ℕ). cond (eqb l width) (cond (wrong (smallForm s)) (Refused 5 n) (tabled (tableOf g (fields (smallForm s))) n)) (Refused 2 0)) (small-length s)
+      ∙ ap₂ (λ (b : Bool) (x : Fields). cond {A = Read} (eqb (length s) width) (cond b (Refused 5 n) (tabled (tableOf g x) n)) (Refused 2 0)) small-wrong small-fields
 
--- LAW: two lines with the same small-letter form read the same
+module _ (g : Family) where
+  -- LAW: two lines with the same small-letter form read the same
+  pub same-small-of : (s z : List ℕ) (n : ℕ) → smallForm s ≡ smallForm z → readLineOf g s n ≡ readLineOf g z n
+  same-small-of s z n e = sym (read-small s g n) ∙ ap (λ (l : List ℕ). readLineOf g l n) e ∙ read-small z g n
+
+  -- LAW: so do the lines of a text and of its small-letter form
+  pub read-at-small-of : (s : List ℕ) (n : ℕ) → readAtOf g (smallForm s) n ≡ readAtOf g s n
+  read-at-small-of s n = ap (λ (l : List ℕ). readLineOf g l n) (small-part s (width * n) width) ∙ read-small (lineAt s n) g n
+
+-- those of document 01's family
 pub same-small : (s z : List ℕ) (n : ℕ) → smallForm s ≡ smallForm z → readLine s n ≡ readLine z n
-same-small s z n e = sym (read-small s n) ∙ ap (λ (l : List ℕ). readLine l n) e ∙ read-small z n
+same-small = same-small-of Base
 
--- LAW: so do the lines of a text and of its small-letter form
 pub read-at-small : (s : List ℕ) (n : ℕ) → readAt (smallForm s) n ≡ readAt s n
-read-at-small s n = ap (λ (l : List ℕ). readLine l n) (small-part s (width * n) width) ∙ read-small (lineAt s n) n
+read-at-small = read-at-small-of Base

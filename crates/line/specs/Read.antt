@@ -5,9 +5,11 @@ use mathlib.Core.List.{List}
 use lib.ListN.{length, getD, take, drop}
 use lib.Dec.{eqb}
 use Rattle.digits.specs.Digits.{allDigits, number}
+use Rattle.line.specs.declared.Family.{Family}
+use Rattle.line.specs.declared.Family.the-variants.{Base}
 use Rattle.line.specs.declared.Read.{Read}
 use Rattle.line.specs.declared.Read.the-variants.{Line, Refused}
-use Rattle.line.specs.Table.{Fields, Entry, frame, none, table}
+use Rattle.line.specs.Table.{Fields, Entry, frame, none, tableOf}
 
 -- the characters of s from one place on, as many as size says
 abbrev pub part : List ℕ → ℕ → ℕ → List ℕ
@@ -52,12 +54,19 @@ tabled none n = Refused 6 n
 
 -- "refusal 2 unless it is lent exactly 23 characters, then 5, then 6 ...; otherwise the frame"; n: the line's number,
 -- 0 where it stands alone
+abbrev pub readLineOf : Family → List ℕ → ℕ → Read
+readLineOf g s n = cond (eqb (length s) width) (cond (wrong s) (Refused 5 n) (tabled (tableOf g (fields s)) n)) (Refused 2 0)
+
+-- document 01's reader
 abbrev pub readLine : List ℕ → ℕ → Read
-readLine s n = cond (eqb (length s) width) (cond (wrong s) (Refused 5 n) (tabled (table (fields s)) n)) (Refused 2 0)
+readLine s n = readLineOf Base s n
 
 -- "Lines are numbered from 0": the characters of line n of a text, and what reading them gives
 abbrev pub lineAt : List ℕ → ℕ → List ℕ
 lineAt s n = take width (drop (width * n) s)
 
+abbrev pub readAtOf : Family → List ℕ → ℕ → Read
+readAtOf g s n = readLineOf g (lineAt s n) n
+
 abbrev pub readAt : List ℕ → ℕ → Read
-readAt s n = readLine (lineAt s n) n
+readAt s n = readAtOf Base s n

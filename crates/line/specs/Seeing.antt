@@ -6,7 +6,7 @@ use lib.Dec.{eqb}
 use lib.ListN.{getD}
 use Rattle.digits.specs.Digits.{allDigits}
 use Rattle.line.specs.declared.Frame.{Frame}
-use Rattle.line.specs.declared.Frame.the-variants.{Site, Call, Spawn, Sync, Return, Cost, Instructions}
+use Rattle.line.specs.declared.Frame.the-variants.{Site, Call, Spawn, Sync, Return, Cost, Instructions, Async, Finish}
 use Rattle.line.specs.declared.Read.{Read}
 use Rattle.line.specs.declared.Read.the-variants.{Line, Refused}
 use Rattle.line.specs.declared.Sight.{Sight}
@@ -23,6 +23,8 @@ seenOf Sync = Seen Sync
 seenOf Return = Seen Return
 seenOf (Cost v) = Seen (Cost v)
 seenOf (Instructions v) = Seen (Instructions v)
+seenOf (Async s) = Seen (Async s)
+seenOf Finish = Seen Finish
 
 -- what is seen of a line that reads so
 abbrev pub glanced : Read → Sight
@@ -33,16 +35,16 @@ glanced (Line n f) = seenOf f
 abbrev pub placePart : List ℕ → List ℕ
 placePart s = part s 14 8
 
--- what every kind but a site line has around its site and its value
-abbrev pub around : List ℕ → Bool
-around s = eqb (getD s 0 0) 48 && allZero (placePart s) && eqb (getD s end 0) 10
+-- what every kind but a site line has around its site and its value; a: the kind's first character
+abbrev pub around : ℕ → List ℕ → Bool
+around a s = eqb (getD s 0 0) a && allZero (placePart s) && eqb (getD s end 0) 10
 
--- a sync or a return, a call or a spawn, and a cost or its instructions
-abbrev pub isBare : List ℕ → Bool
-isBare s = around s && allZero (sitePart s) && allZero (valuePart s)
+-- a sync, a return or a finish; a call, a spawn or an async; and a cost or its instructions
+abbrev pub isBare : ℕ → List ℕ → Bool
+isBare a s = around a s && allZero (sitePart s) && allZero (valuePart s)
 
-abbrev pub isMade : List ℕ → Bool
-isMade s = around s && allDigits (sitePart s) && allZero (valuePart s)
+abbrev pub isMade : ℕ → List ℕ → Bool
+isMade a s = around a s && allDigits (sitePart s) && allZero (valuePart s)
 
 abbrev pub isValued : List ℕ → Bool
-isValued s = around s && allZero (sitePart s) && allDigits (valuePart s) && not (allZero (valuePart s))
+isValued s = around 48 s && allZero (sitePart s) && allDigits (valuePart s) && not (allZero (valuePart s))

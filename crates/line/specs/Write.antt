@@ -5,10 +5,12 @@ use mathlib.Core.List.{List, [], _∷_, _++_}
 use lib.ListN.{replicate}
 use lib.Dec.{ltb}
 use Rattle.digits.specs.Digits.{digits}
+use Rattle.line.specs.declared.Family.{Family}
+use Rattle.line.specs.declared.Family.the-variants.{Base}
 use Rattle.line.specs.declared.Frame.{Frame}
 use Rattle.line.specs.declared.Wrote.{Wrote}
 use Rattle.line.specs.declared.Wrote.the-variants.{Chars, Refused}
-use Rattle.line.specs.Table.{Fields, Entry, frame, none, table, fieldsOf}
+use Rattle.line.specs.Table.{Fields, Entry, frame, none, tableOf, fieldsOf}
 use Rattle.line.specs.Read.{width}
 
 -- "Fields, most significant digit first: kind (2 digits), site (4), value (8), file (4), column (4)", "then a line feed"
@@ -23,14 +25,24 @@ abbrev pub isFrame : Entry → Bool
 isFrame (frame f) = true
 isFrame none = false
 
--- no field breaks the table
-abbrev pub writable : Frame → Bool
-writable f = narrow (fieldsOf f) && isFrame (table (fieldsOf f))
+-- no field breaks the family's table
+abbrev pub writableOf : Family → Frame → Bool
+writableOf g f = narrow (fieldsOf f) && isFrame (tableOf g (fieldsOf f))
 
 -- "gives 23 characters, or refusal 6 with line 0 where a field breaks the table"
-abbrev pub writeAnswer : Frame → Wrote
-writeAnswer f = cond (writable f) (Chars width) (Refused 6 0)
+abbrev pub writeAnswerOf : Family → Frame → Wrote
+writeAnswerOf g f = cond (writableOf g f) (Chars width) (Refused 6 0)
 
 -- the characters that are given; zeros beside a refusal
+abbrev pub writeCharsOf : Family → Frame → List ℕ
+writeCharsOf g f = cond (writableOf g f) (chars (fieldsOf f)) (replicate width 0)
+
+-- document 01's writer
+abbrev pub writable : Frame → Bool
+writable f = writableOf Base f
+
+abbrev pub writeAnswer : Frame → Wrote
+writeAnswer f = writeAnswerOf Base f
+
 abbrev pub writeChars : Frame → List ℕ
-writeChars f = cond (writable f) (chars (fieldsOf f)) (replicate width 0)
+writeChars f = writeCharsOf Base f

@@ -9,25 +9,30 @@ use lib.Dec.{eqb}
 use lib.ListN.{length, getD, set, length-set}
 use lib.Seq.{getD-set-same, getD-set-other, set-getD, set-set}
 use borrow.Author.Tests.{eq-eqb, ne-eqb}
-use Rattle.line.specs.At.{kindAt, siteAt, valueAt}
+use Rattle.line.specs.declared.Family.{Family}
+use Rattle.line.specs.declared.Family.the-variants.{Base, Finishes}
+use Rattle.line.specs.At.{siteAt, valueAt}
 use Rattle.trace.specs.Column.{Column, nth, slot}
 use Rattle.trace.specs.Tree.{Leaf, spend, sync, note, leafWork, leafInstructions, Body, done, leaf, child, ahead, size}
 use Rattle.trace.proofs.Basics.{cond-same}
 use Rattle.trace.proofs.Slots.{slot-apart}
 use Rattle.weigh.specs.Weighed.{Weigh}
-use Rattle.walk.specs.Stands.{Says, kindOf}
+use Rattle.walk.specs.Stands.{Says, kindBy, kindOf}
 use Rattle.walk.specs.Weight.{instructionsAt}
 use Rattle.walk.specs.Reads.{Reads}
 use Rattle.walk.specs.Gain.{ColumnFits, one, Grown}
+use Rattle.walk.specs.Item.{More}
 use Rattle.walk.proofs.Items.{size-some}
 use Rattle.walk.proofs.Lines.{is-more, is-done, is-sync, is-note, instructions-ahead}
 use Rattle.walk.proofs.Says.{kind-says, site-says, value-says}
 use Rattle.walk.proofs.Rows.{one-same, one-other, grown-one}
 use Rattle.walk.proofs.Room.{lines-in}
-use Rattle.walk.proofs.Child.{cost-is, child-is}
+use Rattle.walk.proofs.Child.{cost-is, Child, child-is}
 use Rattle.marks.specs.declared.Present.{Present}
 use Rattle.marks.specs.Park.{Zero}
+use Rattle.marks.specs.Reach.{rowOf}
 use Rattle.marks.specs.Column.{marked, markedGain, onGain, Left, left, AllRead, linesLeft, onLeft, AllWithin, behind, onLine, stacked, Held, HeldAfter, root, entered, Returned, OnFits, OnLent, LineAsks, LineLeaves, ColumnAsks, ColumnLeaves}
+use Rattle.marks.proofs.Finish.{is-opened}
 
 -- a mark decides
 pub marked-on : (x v : ℕ) → x ≡ 1 → marked x v ≡ v
@@ -91,19 +96,19 @@ grown-off rows s x v w e i l = omega (arith, gain-none s x v w (marked-off x v e
 -- What one line does to the open invocations.
 
 -- by equal numbers of the first line
-read-same : (how : Weigh) (s : List ℕ) (k : List Left) (n e : ℕ) → n ≡ e → AllRead how s n k → AllRead how s e k
-read-same how s k n e q h = subst (λ (j : ℕ). AllRead how s j k) q h
+read-same : (y : Family) (how : Weigh) (s : List ℕ) (k : List Left) (n e : ℕ) → n ≡ e → AllRead y how s n k → AllRead y how s e k
+read-same y how s k n e q h = subst (λ (j : ℕ). AllRead y how s j k) q h
 
 on-same : (m : List ℕ) (k : List Left) (i n e : ℕ) → n ≡ e → onLeft m n k i ≡ onLeft m e k i
 on-same m k i n e q = ap (λ (j : ℕ). onLeft m j k i) q
 
 -- behind a line the rest is read
-read-behind : (how : Weigh) (s : List ℕ) (n row : ℕ) (b : Body) (k : List Left) → AllRead how s n (left row b ∷ k) → AllRead how s (n + 1) (behind row b k)
-read-behind how s n row done k h = h .1
-read-behind how s n row (leaf l r) k h = (h .0 .1, read-same how s k (n + suc (size r)) (n + 1 + size r) (omega arith) (h .1))
-read-behind how s n row (child y j g r) k h =
+read-behind : (y : Family) (how : Weigh) (s : List ℕ) (n row : ℕ) (b : Body) (k : List Left) → AllRead y how s n (left row b ∷ k) → AllRead y how s (n + 1) (behind row b k)
+read-behind y how s n row done k h = h .1
+read-behind y how s n row (leaf l r) k h = (h .0 .1, read-same y how s k (n + suc (size r)) (n + 1 + size r) (omega arith) (h .1))
+read-behind y how s n row (child w j g r) k h =
     let e : n + (1 + size g) ≡ n + 1 + size g = omega arith in
-    (h .0 .1, (subst (λ (i : ℕ). Reads how s i row r) e (h .0 .2), read-same how s k (n + suc (size g + size r)) (n + 1 + size g + size r) (omega arith) (h .1)))
+    (h .0 .1, (subst (λ (i : ℕ). Reads y how s i row r) e (h .0 .2), read-same y how s k (n + suc (size g + size r)) (n + 1 + size g + size r) (omega arith) (h .1)))
 
 -- it stays within the limits
 within-behind : (sites D row : ℕ) (b : Body) (k : List Left) → AllWithin sites D (left row b ∷ k) → AllWithin sites D (behind row b k)
@@ -178,13 +183,13 @@ held-entered z k a r t t′ row site b g h e q = (
 -- A line.
 
 -- what it asks for
-module _ {how : Weigh} {s : List ℕ} {n : ℕ} {a : Present} {t m rows : List ℕ} (q : LineAsks how s n a t m rows) where
-  abbrev l : OnLent how s n (left (q .row) (q .body) ∷ q .around) (q .z) a t m rows
+module _ {y : Family} {how : Weigh} {s : List ℕ} {n : ℕ} {a : Present} {t m rows : List ℕ} (q : LineAsks y how s n a t m rows) where
+  abbrev l : OnLent y how s n (left (q .row) (q .body) ∷ q .around) (q .z) a t m rows
   l = q .lent
 
   -- it has a mark
   mark-in : n < length m
-  mark-in = omega (arith, l .lines, lines-in how s n (q .row) (q .body) (l .reads .0), size-some (q .body))
+  mark-in = omega (arith, l .lines, lines-in y how s n (q .row) (q .body) (l .reads .0), size-some (q .body))
 
   -- there is room for the rows around
   rows-fit : length (q .around) ≤ length (q .z)
@@ -198,9 +203,9 @@ module _ {how : Weigh} {s : List ℕ} {n : ℕ} {a : Present} {t m rows : List �
   leave-asks = omega (arith, enter-asks)
 
 -- what a line leaves, by its kind
-module _ {how : Weigh} {s : List ℕ} {n : ℕ} {a : Present} {t m rows : List ℕ} (p : LineAsks how s n a t m rows) (kind : ℕ) (kind-is : kind ≡ kindAt s n) where
-  says : Says kindOf s n kind
-  says = kind-says s n n kind refl kind-is
+module _ {y : Family} {how : Weigh} {s : List ℕ} {n : ℕ} {a : Present} {t m rows : List ℕ} (p : LineAsks y how s n a t m rows) (kind : ℕ) (kind-is : kind ≡ kindBy y s n) where
+  says : Says y kindOf s n kind
+  says = kind-says y s n n kind refl kind-is
 
   -- where b is left of the innermost invocation
   abbrev Leaves : (z : List ℕ) (row : ℕ) (k : List Left) (r : Present) (t′ rows′ : List ℕ) → Body → Type 0
@@ -211,25 +216,25 @@ module _ {how : Weigh} {s : List ℕ} {n : ℕ} {a : Present} {t m rows : List �
   grown-none i l = omega arith
 
   -- a leaf that weighs nothing and has no instructions
-  weightless : (q : LineAsks how s n a t m rows) (l : Leaf) (r : Body) → leafWork l ≡ 0 → leafInstructions l r ≡ 0 → q .body ≡ leaf l r → Leaves (q .z) (q .row) (q .around) a t rows (q .body)
+  weightless : (q : LineAsks y how s n a t m rows) (l : Leaf) (r : Body) → leafWork l ≡ 0 → leafInstructions l r ≡ 0 → q .body ≡ leaf l r → Leaves (q .z) (q .row) (q .around) a t rows (q .body)
   weightless q l r z o e =
       let x = getD m n 0 in
       subst (Leaves (q .z) (q .row) (q .around) a t rows) (sym e)
       (q .lent .held, λ i h. omega (arith, gain-none (q .row) x (leafWork l) (leafInstructions l r) (marked-none x (leafWork l) z) (marked-none x (leafInstructions l r) o) i))
 
   -- a sync
-  pub sync-leaves : kind ≡ 4 → LineLeaves how s n a t m rows a t rows
-  sync-leaves k4 q = let e = is-sync how s n (q .row) kind says (q .body) (q .lent .reads .0) k4 in weightless q sync (e .0) refl refl (e .1)
+  pub sync-leaves : kind ≡ 4 → LineLeaves y how s n a t m rows a t rows
+  sync-leaves k4 q = let e = is-sync y how s n (q .row) kind says (q .body) (q .lent .reads .0) k4 in weightless q sync (e .0) refl refl (e .1)
 
   -- a line that weighs nothing and joins nothing
-  pub note-leaves : (kind ≡ 1) ⊎ (kind ≡ 7) → LineLeaves how s n a t m rows a t rows
-  note-leaves k q = let e = is-note how s n (q .row) kind says (q .body) (q .lent .reads .0) k in weightless q (note (e .0)) (e .1) refl refl (e .2)
+  pub note-leaves : (kind ≡ 1) ⊎ (kind ≡ 7) → LineLeaves y how s n a t m rows a t rows
+  note-leaves k q = let e = is-note y how s n (q .row) kind says (q .body) (q .lent .reads .0) k in weightless q (note (e .0)) (e .1) refl refl (e .2)
 
   -- a return
-  pub return-leaves : kind ≡ 5 → (r : Present) (t′ : List ℕ) → Returned t a r t′ → LineLeaves how s n a t m rows r t′ rows
+  pub return-leaves : kind ≡ 5 → (r : Present) (t′ : List ℕ) → Returned t a r t′ → LineLeaves y how s n a t m rows r t′ rows
   return-leaves k5 r t′ x q =
       let l = q .lent in
-      let e = is-done how s n (q .row) kind says (q .body) (l .reads .0) k5 in
+      let e = is-done y how s n (q .row) kind says (q .body) (l .reads .0) k5 in
       subst (Leaves (q .z) (q .row) (q .around) r t′ rows) (sym e) (held-left (q .z) (l .zero) (q .around) a r t t′ (rows-fit q) (l .held .1) (l .held .2) x, grown-none)
 
   -- a cost of v with w instructions, whose mark is x
@@ -244,26 +249,26 @@ module _ {how : Weigh} {s : List ℕ} {n : ℕ} {a : Present} {t m rows : List �
     x = getD m n 0
 
     -- what is left of the innermost invocation begins with it
-    spend-is : (q : LineAsks how s n a t m rows) → (r : Body) × (q .body ≡ leaf (spend v) r) × (w ≡ ahead r)
+    spend-is : (q : LineAsks y how s n a t m rows) → (r : Body) × (q .body ≡ leaf (spend v) r) × (w ≡ ahead r)
     spend-is q =
         let weighs = ap (λ (y : ℕ). how n y (valueAt s n)) (q .lent .held .0) in
-        let e = cost-is how s n (q .row) kind says (valueAt s n) v (value-says s n n (valueAt s n) refl refl) weighs k6 (q .body) (q .lent .reads .0) in
-        (e .0, e .1, instructions-ahead how s (q .row) n (e .0) (subst (Reads how s n (q .row)) (e .1) (q .lent .reads .0) .1))
+        let e = cost-is y how s n (q .row) kind says (valueAt s n) v (value-says y s n n (valueAt s n) refl refl) weighs k6 (q .body) (q .lent .reads .0) in
+        (e .0, e .1, instructions-ahead y how s (q .row) n (e .0) (subst (Reads y how s n (q .row)) (e .1) (q .lent .reads .0) .1))
 
     -- what it adds, of whatever is left
-    line-gain : (q : LineAsks how s n a t m rows) (i : ℕ) → onLine m n (q .row) (q .body) i ≡ markedGain (q .row) x v w i
+    line-gain : (q : LineAsks y how s n a t m rows) (i : ℕ) → onLine m n (q .row) (q .body) i ≡ markedGain (q .row) x v w i
     line-gain q i =
         let e = spend-is q in
         ap (λ (y : Body). onLine m n (q .row) y i) (e .1) ∙ ap (λ (y : ℕ). markedGain (q .row) x v y i) (sym (e .2))
 
     -- both columns have room
-    column-fits : (c : Column) (y : ℕ) → OnFits c (p .lent .sites) m n (left (p .row) (p .body) ∷ p .around) rows → markedGain (p .row) x v w (slot (p .row) c) ≡ one (slot (p .row) c) y (slot (p .row) c) → slot (p .row) c < length rows
-        → ColumnFits rows (a .row) c y
-    column-fits c y fits gain there =
+    column-fits : (c : Column) (u : ℕ) → OnFits c (p .lent .sites) m n (left (p .row) (p .body) ∷ p .around) rows → markedGain (p .row) x v w (slot (p .row) c) ≡ one (slot (p .row) c) u (slot (p .row) c) → slot (p .row) c < length rows
+        → ColumnFits rows (a .row) c u
+    column-fits c u fits gain there =
         let l = p .lent in
         let j = slot (p .row) c in
-        subst (λ (r : ℕ). ColumnFits rows r c y) (sym (l .held .0))
-        (there, omega (arith, fits (p .row) (l .within .0), on-behind m n (p .row) (p .body) (p .around) j, line-gain p j, gain, one-same j y))
+        subst (λ (r : ℕ). ColumnFits rows r c u) (sym (l .held .0))
+        (there, omega (arith, fits (p .row) (l .within .0), on-behind m n (p .row) (p .body) (p .around) j, line-gain p j, gain, one-same j u))
 
     pub add-asks : (n < length m) × ColumnFits rows (a .row) Column.onSpan (marked x v) × ColumnFits rows (a .row) Column.ionSpan (marked x w)
     add-asks =
@@ -274,7 +279,7 @@ module _ {how : Weigh} {s : List ℕ} {n : ℕ} {a : Present} {t m rows : List �
           column-fits Column.ionSpan (marked x w) (l .ifits) (gain-ion r x v w r) (omega (arith, l .within .0, l .rows-long)),
         )
 
-    pub cost-leaves : (rows′ : List ℕ) → Grown rows (markedGain (a .row) x v w) rows′ → LineLeaves how s n a t m rows a t rows′
+    pub cost-leaves : (rows′ : List ℕ) → Grown rows (markedGain (a .row) x v w) rows′ → LineLeaves y how s n a t m rows a t rows′
     cost-leaves rows′ grown q =
         let l = q .lent in
         let e = spend-is q in (
@@ -282,90 +287,110 @@ module _ {how : Weigh} {s : List ℕ} {n : ℕ} {a : Present} {t m rows : List �
           λ i h. grown i h ∙ ap (λ (r : ℕ). getD rows i 0 + markedGain r x v w i) (l .held .0) ∙ ap (λ (y : ℕ). getD rows i 0 + y) (sym (line-gain q i)),
         )
 
-  -- a call or a spawn of site
-  module _ (site : ℕ) (sited : site ≡ siteAt s n) (k6 : kind ≡ 6 → ⊥) (k5 : kind ≡ 5 → ⊥) (k4 : kind ≡ 4 → ⊥) (k7 : kind ≡ 7 → ⊥) (k1 : kind ≡ 1 → ⊥) where
-    pub child-leaves : (r : Present) (t′ : List ℕ) → r ≡ entered site a → t′ ≡ set t (a .around) (a .row) → LineLeaves how s n a t m rows r t′ rows
-    child-leaves r t′ er et q =
-        let c = child-is how s n (q .row) kind site says (site-says s n n site refl sited) k6 k4 k1 k7 (q .body) (q .lent .reads .0) (is-more how s n (q .row) kind says (q .body) (q .lent .reads .0) k5) in
-        subst (Leaves (q .z) (q .row) (q .around) r t′ rows) (sym (c .is)) (held-entered (q .z) (q .around) a r t t′ (q .row) site (c .r) (c .g) (q .lent .held) er et, grown-none)
+  -- something opens whose row is site
+  pub opens-leaves : (site : ℕ) → ((q : LineAsks y how s n a t m rows) → Child y how s n site (q .body)) → (r : Present) (t′ : List ℕ) → r ≡ entered site a → t′ ≡ set t (a .around) (a .row) → LineLeaves y how s n a t m rows r t′ rows
+  opens-leaves site item r t′ er et q =
+      let c = item q in
+      subst (Leaves (q .z) (q .row) (q .around) r t′ rows) (sym (c .is)) (held-entered (q .z) (q .around) a r t t′ (q .row) site (c .r) (c .g) (q .lent .held) er et, grown-none)
+
+  -- a line that is no return
+  more : (kind ≡ 5 → ⊥) → (q : LineAsks y how s n a t m rows) → More (q .body)
+  more k5 q = is-more y how s n (q .row) kind says (q .body) (q .lent .reads .0) k5
+
+-- a call or a spawn of site
+module _ {how : Weigh} {s : List ℕ} {n : ℕ} {a : Present} {t m rows : List ℕ} (p : LineAsks Base how s n a t m rows) (kind : ℕ) (kind-is : kind ≡ kindBy Base s n)
+    (site : ℕ) (sited : site ≡ siteAt s n) (k6 : kind ≡ 6 → ⊥) (k5 : kind ≡ 5 → ⊥) (k4 : kind ≡ 4 → ⊥) (k7 : kind ≡ 7 → ⊥) (k1 : kind ≡ 1 → ⊥) where
+  pub child-leaves : (r : Present) (t′ : List ℕ) → r ≡ entered site a → t′ ≡ set t (a .around) (a .row) → LineLeaves Base how s n a t m rows r t′ rows
+  child-leaves =
+      opens-leaves p kind kind-is site
+      (λ q. child-is how s n (q .row) kind site (says p kind kind-is) (site-says Base s n n site refl sited) k6 k4 k1 k7 (q .body) (q .lent .reads .0) (more p kind kind-is k5 q))
+
+-- a call, an async or a finish, whose row is row
+module _ {how : Weigh} {s : List ℕ} {n : ℕ} {a : Present} {t m rows : List ℕ} (p : LineAsks Finishes how s n a t m rows) (kind : ℕ) (kind-is : kind ≡ kindBy Finishes s n)
+    (row : ℕ) (row-is : row ≡ rowOf s n kind (a .row)) (k6 : kind ≡ 6 → ⊥) (k5 : kind ≡ 5 → ⊥) (k7 : kind ≡ 7 → ⊥) (k1 : kind ≡ 1 → ⊥) where
+  pub enter-leaves : (r : Present) (t′ : List ℕ) → r ≡ entered row a → t′ ≡ set t (a .around) (a .row) → LineLeaves Finishes how s n a t m rows r t′ rows
+  enter-leaves =
+      opens-leaves p kind kind-is row
+      (λ q. subst (λ (x : ℕ). Child Finishes how s n x (q .body)) (ap (rowOf s n kind) (sym (q .lent .held .0)) ∙ sym row-is)
+      (is-opened how s n (q .row) kind kind-is k6 k7 k1 (q .body) (q .lent .reads .0) (more p kind kind-is k5 q)))
 
 -- The loop.
 
 -- it has come to line n: the open invocations, and what they come to, are as from the first line on, where the root's body b is left
-pub record Turn (how : Weigh) (s : List ℕ) (lines : ℕ) (z m rows₀ : List ℕ) (n : ℕ) (a : Present) (t rows : List ℕ) (b : Body) : Type 0 where
+pub record Turn (y : Family) (how : Weigh) (s : List ℕ) (lines : ℕ) (z m rows₀ : List ℕ) (n : ℕ) (a : Present) (t rows : List ℕ) (b : Body) : Type 0 where
   pub opened : List Left
   pub ends : n + linesLeft opened ≡ lines
-  pub lent : OnLent how s n opened z a t m rows
+  pub lent : OnLent y how s n opened z a t m rows
   pub same-rows : (i : ℕ) → i < length rows₀ → getD rows i 0 + onLeft m n opened i ≡ getD rows₀ i 0 + onGain m 0 0 b i
 
 -- the same of whatever body that is
-pub record Loop (how : Weigh) (s : List ℕ) (lines : ℕ) (z m rows₀ : List ℕ) (n : ℕ) (a : Present) (t rows : List ℕ) : Type 0 where
+pub record Loop (y : Family) (how : Weigh) (s : List ℕ) (lines : ℕ) (z m rows₀ : List ℕ) (n : ℕ) (a : Present) (t rows : List ℕ) : Type 0 where
   pub rows-long : length rows ≡ length rows₀
-  pub turns : (q : ColumnAsks how s lines z m rows₀) → Turn how s lines z m rows₀ n a t rows (q .body)
+  pub turns : (q : ColumnAsks y how s lines z m rows₀) → Turn y how s lines z m rows₀ n a t rows (q .body)
 
 -- at the first line the root is open
-pub turn-start : (how : Weigh) (s : List ℕ) (lines : ℕ) (z m rows : List ℕ) → Loop how s lines z m rows 0 root z rows
-turn-start how s lines z m rows = record { rows-long = refl; turns = λ q. record { opened = left 0 (q .body) ∷ []; ends = omega (arith, q .ends); lent = q .lent; same-rows = λ i h. omega arith } }
+pub turn-start : (y : Family) (how : Weigh) (s : List ℕ) (lines : ℕ) (z m rows : List ℕ) → Loop y how s lines z m rows 0 root z rows
+turn-start y how s lines z m rows = record { rows-long = refl; turns = λ q. record { opened = left 0 (q .body) ∷ []; ends = omega (arith, q .ends); lent = q .lent; same-rows = λ i h. omega arith } }
 
-module _ {how : Weigh} {s : List ℕ} {lines : ℕ} {z m rows₀ : List ℕ} {n : ℕ} {a : Present} {t rows : List ℕ} (x : Loop how s lines z m rows₀ n a t rows) where
+module _ {y : Family} {how : Weigh} {s : List ℕ} {lines : ℕ} {z m rows₀ : List ℕ} {n : ℕ} {a : Present} {t rows : List ℕ} (x : Loop y how s lines z m rows₀ n a t rows) where
   -- at least one invocation is open before the last line
-  line-of : {b : Body} → n < lines → Turn how s lines z m rows₀ n a t rows b → LineAsks how s n a t m rows
+  line-of : {b : Body} → n < lines → Turn y how s lines z m rows₀ n a t rows b → LineAsks y how s n a t m rows
   line-of less u = go (u .opened) (u .ends) (u .lent)
     where
-      go : (k : List Left) → n + linesLeft k ≡ lines → OnLent how s n k z a t m rows → LineAsks how s n a t m rows
+      go : (k : List Left) → n + linesLeft k ≡ lines → OnLent y how s n k z a t m rows → LineAsks y how s n a t m rows
       go [] e l = absurd (omega arith)
-      go (y ∷ k) e l = record { row = y .row; body = y .body; around = k; z = z; lent = l }
+      go (v ∷ k) e l = record { row = v .row; body = v .body; around = k; z = z; lent = l }
 
   -- so it can be read
-  pub turn-asks : n < lines → ColumnAsks how s lines z m rows₀ → LineAsks how s n a t m rows
+  pub turn-asks : n < lines → ColumnAsks y how s lines z m rows₀ → LineAsks y how s n a t m rows
   turn-asks less q = line-of less (x .turns q)
 
   -- it was read
-  pub turn-again : n < lines → (r : Present) (t′ rows′ : List ℕ) → length rows′ ≡ length rows → LineLeaves how s n a t m rows r t′ rows′ → Loop how s lines z m rows₀ (n + 1) r t′ rows′
+  pub turn-again : n < lines → (r : Present) (t′ rows′ : List ℕ) → length rows′ ≡ length rows → LineLeaves y how s n a t m rows r t′ rows′ → Loop y how s lines z m rows₀ (n + 1) r t′ rows′
   turn-again less r t′ rows′ len leaves = record { rows-long = len ∙ x .rows-long; turns = λ q. let u = x .turns q in go q (u .opened) (u .ends) (u .lent) (u .same-rows) }
     where
-      go : (q : ColumnAsks how s lines z m rows₀) (k : List Left) → n + linesLeft k ≡ lines → OnLent how s n k z a t m rows → ((i : ℕ) → i < length rows₀ → getD rows i 0 + onLeft m n k i ≡ getD rows₀ i 0 + onGain m 0 0 (q .body) i) → Turn how s lines z m rows₀ (n + 1) r t′ rows′ (q .body)
+      go : (q : ColumnAsks y how s lines z m rows₀) (k : List Left) → n + linesLeft k ≡ lines → OnLent y how s n k z a t m rows → ((i : ℕ) → i < length rows₀ → getD rows i 0 + onLeft m n k i ≡ getD rows₀ i 0 + onGain m 0 0 (q .body) i) → Turn y how s lines z m rows₀ (n + 1) r t′ rows′ (q .body)
       go q [] e l w = absurd (omega arith)
-      go q (y ∷ k) e l w =
-          let d = leaves (record { row = y .row; body = y .body; around = k; z = z; lent = l }) in
-          let b = y .body in
+      go q (v ∷ k) e l w =
+          let d = leaves (record { row = v .row; body = v .body; around = k; z = z; lent = l }) in
+          let b = v .body in
           record {
-            opened = behind (y .row) b k;
-            ends = omega (arith, lines-behind (y .row) b k);
+            opened = behind (v .row) b k;
+            ends = omega (arith, lines-behind (v .row) b k);
             lent =
                 record {
                   sites = l .sites;
                   D = l .D;
-                  reads = read-behind how s n (y .row) b k (l .reads);
-                  within = within-behind (l .sites) (l .D) (y .row) b k (l .within);
+                  reads = read-behind y how s n (v .row) b k (l .reads);
+                  within = within-behind (l .sites) (l .D) (v .row) b k (l .within);
                   zero = l .zero;
                   room = l .room;
-                  held = held-next z (behind (y .row) b k) a r t′ (d .0);
+                  held = held-next z (behind (v .row) b k) a r t′ (d .0);
                   rows-long = omega (arith, l .rows-long, len);
                   lines = l .lines;
-                  fits = λ j h. omega (arith, l .fits j h, on-behind m n (y .row) b k (slot j Column.onSpan), d .1 (slot j Column.onSpan) (omega (arith, l .rows-long)));
-                  ifits = λ j h. omega (arith, l .ifits j h, on-behind m n (y .row) b k (slot j Column.ionSpan), d .1 (slot j Column.ionSpan) (omega (arith, l .rows-long)));
+                  fits = λ j h. omega (arith, l .fits j h, on-behind m n (v .row) b k (slot j Column.onSpan), d .1 (slot j Column.onSpan) (omega (arith, l .rows-long)));
+                  ifits = λ j h. omega (arith, l .ifits j h, on-behind m n (v .row) b k (slot j Column.ionSpan), d .1 (slot j Column.ionSpan) (omega (arith, l .rows-long)));
                 };
-            same-rows = λ i h. omega (arith, w i h, on-behind m n (y .row) b k i, d .1 i (omega (arith, x .rows-long)));
+            same-rows = λ i h. omega (arith, w i h, on-behind m n (v .row) b k i, d .1 i (omega (arith, x .rows-long)));
           }
 
   -- none is open behind the last line
   module _ (last : lines ≤ n) where
-    none-left : {b : Body} → (u : Turn how s lines z m rows₀ n a t rows b) → u .opened ≡ []
+    none-left : {b : Body} → (u : Turn y how s lines z m rows₀ n a t rows b) → u .opened ≡ []
     none-left u = go (u .opened) (u .ends)
       where
         go : (k : List Left) → n + linesLeft k ≡ lines → k ≡ []
         go [] e = refl
-        go (y ∷ k) e = absurd (omega (arith, size-some (y .body)))
+        go (v ∷ k) e = absurd (omega (arith, size-some (v .body)))
 
     -- so the scratch is as it was
-    pub turn-zero : ColumnAsks how s lines z m rows₀ → t ≡ z
+    pub turn-zero : ColumnAsks y how s lines z m rows₀ → t ≡ z
     turn-zero q =
         let u = x .turns q in
         subst (λ (k : List Left). Held z k a t) (none-left u) (u .lent .held)
 
     -- and nothing is left to add
-    pub turn-done : ColumnLeaves how s lines z m rows₀ rows
+    pub turn-done : ColumnLeaves y how s lines z m rows₀ rows
     turn-done q i h =
         let u = x .turns q in
         omega (arith, u .same-rows i h, ap (λ (k : List Left). onLeft m n k i) (none-left u))

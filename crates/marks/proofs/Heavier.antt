@@ -5,6 +5,7 @@ use mathlib.Core.List.{List}
 use Prim.Native.Nat.{ℕ, _*_, _-_, _≤_}
 use native.Mathlib.Omega.{arith}
 use lib.ListN.{length, getD, replicate, length-replicate}
+use Rattle.line.specs.declared.Family.the-variants.{Base}
 use Rattle.chain.specs.Over.{linesIn}
 use Rattle.trace.specs.Shape.{root, has, sites}
 use Rattle.trace.specs.Series.{Span}
@@ -26,7 +27,7 @@ use Rattle.marks.specs.Heavier.{HeavierAsks, HeavierLeaves}
 use Rattle.marks.proofs.Bodies.{shows-begun}
 
 module _ {s : List ℕ} {D : ℕ} {t m : List ℕ} (h : HeavierAsks s D t m) where
-  fine : Fine D (h .M) (h .frames)
+  fine : Fine Base D (h .M) (h .frames)
   fine = accepted-is s D (h .M) true (h .frames) (h .is) .1 .fine
 
   -- there is an invocation to open
@@ -42,7 +43,7 @@ module _ {s : List ℕ} {D : ℕ} {t m : List ℕ} (h : HeavierAsks s D t m) whe
 
   module _ (asking : List ℕ) (q : ℕ) (long : length asking ≡ askedLine) (line : getD asking 256 0 ≡ q) where
     -- the scratch and the rows were cleared
-    pub heavier-asks : {t₁ rows : List ℕ} → t₁ ≡ replicate (length t) 0 → rows ≡ replicate (columns * 256) 0 → BodyAsks (byAsking asking) s 0 0 (D - 1) t₁ m rows
+    pub heavier-asks : {t₁ rows : List ℕ} → t₁ ≡ replicate (length t) 0 → rows ≡ replicate (columns * 256) 0 → BodyAsks Base (byAsking asking) s 0 0 (D - 1) t₁ m rows
     heavier-asks {t₁} {rows} zero-t zero-rows =
         record {
           sites = sites (h .frames);
@@ -59,7 +60,7 @@ module _ {s : List ℕ} {D : ℕ} {t m : List ℕ} (h : HeavierAsks s D t m) whe
         }
 
     -- LAW: the root was read: its span and its marks are those of the raised trace
-    pub heavier-leaves : {rows : List ℕ} {r : Open} {m′ rows′ : List ℕ} → length m′ ≡ length m → BodyLeaves (byAsking asking) s 0 0 m rows r m′ rows′ → HeavierLeaves s D q m (r .prefix .0) m′
+    pub heavier-leaves : {rows : List ℕ} {r : Open} {m′ rows′ : List ℕ} → length m′ ≡ length m → BodyLeaves Base (byAsking asking) s 0 0 m rows r m′ rows′ → HeavierLeaves s D q m (r .prefix .0) m′
     heavier-leaves {rows} {r} {m′} {rows′} same leaves M u is =
         let w = some asking q long line in
         let f = accepted-is s D M true u is .1 .fine in

@@ -3,6 +3,7 @@ pub mod Steps
 pub mod Park
 pub mod Bodies
 pub mod Items
+pub mod Finish
 pub mod Columns
 pub mod OnSpan
 pub mod Whole

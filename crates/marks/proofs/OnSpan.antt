@@ -8,13 +8,14 @@ use native.Mathlib.Numerals.{add-one}
 use native.Mathlib.Omega.{arith}
 use lib.Dec.{eqb}
 use lib.ListN.{getD}
+use Rattle.line.specs.declared.Family.{Family}
 use Rattle.line.specs.declared.Frame.{Frame}
 use Rattle.chain.specs.Plan.{CostLine, costs}
 use Rattle.chain.specs.Over.{linesIn}
 use Rattle.trace.specs.Shape.{has}
 use Rattle.trace.specs.Rows.{columns}
 use Rattle.trace.specs.Column.{Column, nth, slot}
-use Rattle.trace.specs.Tree.{Leaf, leafWork, leafInstructions, Body, done, leaf, child, size, Within, Parts, workOf, instructionsOf}
+use Rattle.trace.specs.Tree.{Leaf, leafWork, leafInstructions, Body, done, leaf, child, size, Within, PartsOf, workOf, instructionsOf}
 use Rattle.trace.specs.Fold.{itsCycles, itsInstructions, plan, onRow}
 use Rattle.trace.proofs.Basics.{cond-le}
 use Rattle.trace.proofs.Slots.{slot-apart}
@@ -105,7 +106,7 @@ module _ (v : Measured) (c : Column) (its : (s x k : ℕ) (l : Leaf) (r : Body) 
       )
 
 -- LAW: where the marks of the root's lines show its chain, columns 5 and 7 of a row grow by the row's part of it
-module _ (D : ℕ) (t : List Frame) (p : Parts D t) (m : List ℕ) (k : ℕ)
+module _ {f : Family} (D : ℕ) (t : List Frame) (p : PartsOf f D t) (m : List ℕ) (k : ℕ)
     (h : (i : ℕ) → 0 ≤ i → i < 0 + size (p .body) → getD m i 0 ≡ cond (has i (linesIn (rootChain D t p))) 1 0) where
   abbrev chosen : List ℕ
   chosen = linesIn (rootChain D t p)

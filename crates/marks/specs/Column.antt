@@ -6,6 +6,7 @@ use mathlib.Core.Bool.{cond}
 use mathlib.Core.List.{List, [], _∷_}
 use lib.Dec.{eqb}
 use lib.ListN.{length, getD, set}
+use Rattle.line.specs.declared.Family.{Family}
 use Rattle.line.specs.Read.{width}
 use Rattle.trace.specs.Rows.{columns}
 use Rattle.trace.specs.Column.{Column, slot}
@@ -42,9 +43,9 @@ left s b = record { row = s; body = b }
 
 -- All open invocations are a list, the innermost first. What is left of each is read behind what is left of those
 -- inside it, from line n on.
-abbrev pub AllRead : Weigh → List ℕ → ℕ → List Left → Type 0
-AllRead how s n [] = Unit {0}
-AllRead how s n (x ∷ k) = Reads how s n (x .row) (x .body) × AllRead how s (n + size (x .body)) k
+abbrev pub AllRead : Family → Weigh → List ℕ → ℕ → List Left → Type 0
+AllRead y how s n [] = Unit {0}
+AllRead y how s n (x ∷ k) = Reads y how s n (x .row) (x .body) × AllRead y how s (n + size (x .body)) k
 
 -- how many lines are left
 abbrev pub linesLeft : List Left → ℕ
@@ -108,10 +109,10 @@ OnFits c sites m n k rows = (j : ℕ) → j ≤ sites → getD rows (slot j c) 0
 
 -- What is left of the open invocations k is read from line n on, and each line of the text has a mark. z is the
 -- scratch where none is open: it is zero, and has room for all rows. The on-span numbers fit.
-pub record OnLent (how : Weigh) (s : List ℕ) (n : ℕ) (k : List Left) (z : List ℕ) (a : Present) (t m rows : List ℕ) : Type 0 where
+pub record OnLent (y : Family) (how : Weigh) (s : List ℕ) (n : ℕ) (k : List Left) (z : List ℕ) (a : Present) (t m rows : List ℕ) : Type 0 where
   pub sites : ℕ
   pub D : ℕ
-  pub reads : AllRead how s n k
+  pub reads : AllRead y how s n k
   pub within : AllWithin sites D k
   pub zero : Zero z
   pub room : D ≤ length z
@@ -122,23 +123,23 @@ pub record OnLent (how : Weigh) (s : List ℕ) (n : ℕ) (k : List Left) (z : Li
   pub ifits : OnFits Column.ionSpan sites m n k rows
 
 -- a line: at least one invocation is open
-pub record LineAsks (how : Weigh) (s : List ℕ) (n : ℕ) (a : Present) (t m rows : List ℕ) : Type 0 where
+pub record LineAsks (y : Family) (how : Weigh) (s : List ℕ) (n : ℕ) (a : Present) (t m rows : List ℕ) : Type 0 where
   pub row : ℕ
   pub body : Body
   pub around : List Left
   pub z : List ℕ
-  pub lent : OnLent how s n (left row body ∷ around) z a t m rows
+  pub lent : OnLent y how s n (left row body ∷ around) z a t m rows
 
 -- whatever invocations are open
-abbrev pub LineLeaves : (how : Weigh) (s : List ℕ) (n : ℕ) (a : Present) (t m rows : List ℕ) (r : Present) (t′ rows′ : List ℕ) → Type 0
-LineLeaves how s n a t m rows r t′ rows′ = (q : LineAsks how s n a t m rows) → HeldAfter (q .z) (behind (q .row) (q .body) (q .around)) a r t′ × Grown rows (onLine m n (q .row) (q .body)) rows′
+abbrev pub LineLeaves : (y : Family) (how : Weigh) (s : List ℕ) (n : ℕ) (a : Present) (t m rows : List ℕ) (r : Present) (t′ rows′ : List ℕ) → Type 0
+LineLeaves y how s n a t m rows r t′ rows′ = (q : LineAsks y how s n a t m rows) → HeldAfter (q .z) (behind (q .row) (q .body) (q .around)) a r t′ × Grown rows (onLine m n (q .row) (q .body)) rows′
 
 -- the lines before line e are those of the root's body
-pub record ColumnAsks (how : Weigh) (s : List ℕ) (e : ℕ) (t m rows : List ℕ) : Type 0 where
+pub record ColumnAsks (y : Family) (how : Weigh) (s : List ℕ) (e : ℕ) (t m rows : List ℕ) : Type 0 where
   pub body : Body
   pub ends : size body ≡ e
-  pub lent : OnLent how s 0 (left 0 body ∷ []) t root t m rows
+  pub lent : OnLent y how s 0 (left 0 body ∷ []) t root t m rows
 
 -- whatever body that is
-abbrev pub ColumnLeaves : (how : Weigh) (s : List ℕ) (e : ℕ) (t m rows rows′ : List ℕ) → Type 0
-ColumnLeaves how s e t m rows rows′ = (q : ColumnAsks how s e t m rows) → Grown rows (onGain m 0 0 (q .body)) rows′
+abbrev pub ColumnLeaves : (y : Family) (how : Weigh) (s : List ℕ) (e : ℕ) (t m rows rows′ : List ℕ) → Type 0
+ColumnLeaves y how s e t m rows rows′ = (q : ColumnAsks y how s e t m rows) → Grown rows (onGain m 0 0 (q .body)) rows′

@@ -4,13 +4,14 @@ use Prim.Native.Nat.{ℕ, _+_, _*_, _≤_}
 use mathlib.Core.Path.{_≡_}
 use mathlib.Core.List.{List}
 use lib.ListN.{length}
+use Rattle.line.specs.declared.Family.{Family}
 use Rattle.line.specs.Read.{width}
-use Rattle.line.specs.At.{kindAt}
 use Rattle.trace.specs.Tree.{Body}
 use Rattle.trace.specs.Fold.{Chains, nothing, chainOf, run}
 use Rattle.weigh.specs.Weighed.{Weigh}
 use Rattle.walk.specs.declared.Open.{Open}
 use Rattle.walk.specs.Reads.{Reads}
+use Rattle.walk.specs.Stands.{kindBy}
 use Rattle.walk.specs.Numbers.{numbers}
 use Rattle.walk.specs.Item.{More, itemChains}
 use Rattle.walk.specs.Reader.{Ready, ItemDone, ItemsDone, BodyDone}
@@ -20,9 +21,9 @@ use Rattle.marks.specs.Park.{Zero}
 
 -- The marks show the chains that the invocation's numbers weigh, and each line of the text has one; the scratch is
 -- zero, and has room for deep invocations more.
-pub record Lent (how : Weigh) (s : List ℕ) (deep : ℕ) (z : Zones) (t m rows : List ℕ) : Type 0 where
+pub record Lent (y : Family) (how : Weigh) (s : List ℕ) (deep : ℕ) (z : Zones) (t m rows : List ℕ) : Type 0 where
   pub sites : ℕ
-  pub ready : Ready how s (z .row) sites deep (z .own) rows
+  pub ready : Ready y how s (z .row) sites deep (z .own) rows
   pub lines : length s ≤ width * length m
   pub zero : Zero t
   pub room : 8 + deep * 8 ≤ length t
@@ -32,9 +33,9 @@ pub record Lent (how : Weigh) (s : List ℕ) (deep : ℕ) (z : Zones) (t m rows 
   pub shows : Shows n m z k
 
 -- the item reader: there is an item, whose first line is of this kind
-pub record ItemAsks (how : Weigh) (s : List ℕ) (kind deep : ℕ) (z : Zones) (t m rows : List ℕ) : Type 0 where
-  pub lent : Lent how s deep z t m rows
-  pub kind-is : kind ≡ kindAt s (z .own .at)
+pub record ItemAsks (y : Family) (how : Weigh) (s : List ℕ) (kind deep : ℕ) (z : Zones) (t m rows : List ℕ) : Type 0 where
+  pub lent : Lent y how s deep z t m rows
+  pub kind-is : kind ≡ kindBy y s (z .own .at)
   pub more : More (lent .ready .body)
 
 -- behind the first item of b, of an invocation that began at line n and has come to the chains k
@@ -45,8 +46,8 @@ pub record ItemLeft (n : ℕ) (b : Body) (k : Chains) (z : Zones) (m rows : List
   pub kept : Kept n (r .own .at) m m′
 
 -- whatever body stands here, wherever its invocation began and whatever chains it has come to
-abbrev pub ItemLeaves : (how : Weigh) (s : List ℕ) (z : Zones) (m rows : List ℕ) (r : Zones) (m′ rows′ : List ℕ) → Type 0
-ItemLeaves how s z m rows r m′ rows′ = (b : Body) (n : ℕ) (k : Chains) → More b → Reads how s (z .own .at) (z .row) b → z .own ≡ numbers (z .own .at) (z .own .work .0) k → Shows n m z k
+abbrev pub ItemLeaves : (y : Family) (how : Weigh) (s : List ℕ) (z : Zones) (m rows : List ℕ) (r : Zones) (m′ rows′ : List ℕ) → Type 0
+ItemLeaves y how s z m rows r m′ rows′ = (b : Body) (n : ℕ) (k : Chains) → More b → Reads y how s (z .own .at) (z .row) b → z .own ≡ numbers (z .own .at) (z .own .work .0) k → Shows n m z k
     → ItemLeft n b k z m rows r m′ rows′
 
 -- at the return of b, of an invocation that began at line n and had come to the chains k
@@ -57,18 +58,18 @@ pub record ItemsLeft (n : ℕ) (b : Body) (k : Chains) (z : Zones) (m rows : Lis
 
 -- The reader of an invocation's items up to its return: whatever body stands here, wherever its invocation began and
 -- whatever chains it has come to. At the return a join may follow.
-pub record ItemsLeave (how : Weigh) (s : List ℕ) (deep : ℕ) (z : Zones) (t m rows : List ℕ) (r : Zones) (m′ rows′ : List ℕ) : Type 0 where
-  pub lent : Lent how s deep r t m′ rows′
+pub record ItemsLeave (y : Family) (how : Weigh) (s : List ℕ) (deep : ℕ) (z : Zones) (t m rows : List ℕ) (r : Zones) (m′ rows′ : List ℕ) : Type 0 where
+  pub lent : Lent y how s deep r t m′ rows′
   pub same-row : r .row ≡ z .row
-  pub leaves : (b : Body) (n : ℕ) (k : Chains) → Reads how s (z .own .at) (z .row) b → z .own ≡ numbers (z .own .at) (z .own .work .0) k → Shows n m z k → ItemsLeft n b k z m rows r m′ rows′
+  pub leaves : (b : Body) (n : ℕ) (k : Chains) → Reads y how s (z .own .at) (z .row) b → z .own ≡ numbers (z .own .at) (z .own .work .0) k → Shows n m z k → ItemsLeft n b k z m rows r m′ rows′
 
 -- an invocation of a row whose body begins at a line
 abbrev pub begun : ℕ → ℕ → Zones
 begun from row = allPrefix (numbers from 0 nothing) row
 
 -- the body reader
-abbrev pub BodyAsks : (how : Weigh) (s : List ℕ) (from row deep : ℕ) (t m rows : List ℕ) → Type 0
-BodyAsks how s from row deep t m rows = Lent how s deep (begun from row) t m rows
+abbrev pub BodyAsks : (y : Family) (how : Weigh) (s : List ℕ) (from row deep : ℕ) (t m rows : List ℕ) → Type 0
+BodyAsks y how s from row deep t m rows = Lent y how s deep (begun from row) t m rows
 
 -- behind the whole body b: its zone shows its chain
 pub record BodyLeft (from row : ℕ) (b : Body) (m rows : List ℕ) (r : Open) (m′ rows′ : List ℕ) : Type 0 where
@@ -76,5 +77,5 @@ pub record BodyLeft (from row : ℕ) (b : Body) (m rows : List ℕ) (r : Open) (
   pub zone : Zone m′ from (r .at) (chainOf from row b)
   pub kept : Kept from (r .at) m m′
 
-abbrev pub BodyLeaves : (how : Weigh) (s : List ℕ) (from row : ℕ) (m rows : List ℕ) (r : Open) (m′ rows′ : List ℕ) → Type 0
-BodyLeaves how s from row m rows r m′ rows′ = (b : Body) → Reads how s from row b → BodyLeft from row b m rows r m′ rows′
+abbrev pub BodyLeaves : (y : Family) (how : Weigh) (s : List ℕ) (from row : ℕ) (m rows : List ℕ) (r : Open) (m′ rows′ : List ℕ) → Type 0
+BodyLeaves y how s from row m rows r m′ rows′ = (b : Body) → Reads y how s from row b → BodyLeft from row b m rows r m′ rows′

@@ -1,12 +1,15 @@
 // The marks engine. A mark is a byte a line. The lines of an open invocation are three zones: the prefix's, the
 // longest child's and the continuation's. The marks of each zone show its chain, and where a zone loses, its marks
-// are cleared. A second reading takes columns 5 and 7 from the marks.
+// are cleared. A second reading takes columns 5 and 7 from the marks. The finish family has its own readers over the
+// same steps.
 ghost use mathlib.Core.Path.{_≡_};
+ghost use mathlib.Core.List.{[]};
 ghost use Prim.Native.Nat.{_+_, _*_, _^_, _≤_, _<_};
 ghost use lib.ListN.{length, getD, set, replicate};
+ghost use Rattle.line.specs.declared.Family.the-variants.{Base, Finishes};
 ghost use Rattle.trace.specs.Rows.{columns};
 ghost use Rattle.trace.specs.Column.{Column};
-ghost use Rattle.trace.specs.Promise.{Engine, Promise};
+ghost use Rattle.trace.specs.Promise.{Engine, PromiseOf, Promise};
 ghost use Rattle.forecast.specs.OfList.{ForecastOf};
 ghost use Rattle.walk.specs.Weight.{byAsking, Factors, weightAt, instructionsAt};
 ghost use Rattle.walk.specs.Profiled.{Profiled};
@@ -15,6 +18,7 @@ ghost use Rattle.marks.specs.Shown.{allPrefix, Wiped};
 ghost use Rattle.marks.specs.Steps.{Fits, Spent, Passed, Joined, Called, Spawned};
 ghost use Rattle.marks.specs.Park.{park, parked, blank};
 ghost use Rattle.marks.specs.Reader.{Lent, ItemAsks, ItemLeaves, ItemsLeave, BodyAsks, BodyLeaves};
+ghost use Rattle.marks.specs.Reach.{rowOf, ofRow, ItemReach, ItemsReach};
 ghost use Rattle.marks.specs.Column.{marked, markedGain, entered, Returned, LineAsks, LineLeaves, ColumnAsks, ColumnLeaves};
 ghost use Rattle.marks.specs.Root.{lent, Admitted};
 ghost use Rattle.marks.specs.Heavier.{HeavierAsks, HeavierLeaves};
@@ -38,6 +42,19 @@ impl Zones {
             row,
             child: own.at,
             after: own.at,
+        }
+    }
+
+    // The same zones, for an invocation of a row that goes on in them.
+    fn of_row(self, row: usize) -> Zones
+        ensures { λ r. ⌜ r ≡ ofRow row self ⌝ }
+    {
+        let own = self.own;
+        Zones {
+            own,
+            row,
+            child: self.child,
+            after: self.after,
         }
     }
 }
@@ -221,8 +238,8 @@ fn read_items(
     rows: &mut [u64],
     asking: &[u64],
 ) -> Zones
-    requires { ⌜ Lent (byAsking (now asking)) (now trace) deep z (now t) (now marks) (now rows) ⌝ }
-    ensures { λ r. ⌜ ItemsLeave (byAsking (now (asking .entry))) (now (trace .entry)) deep z (now (t .entry))
+    requires { ⌜ Lent Base (byAsking (now asking)) (now trace) deep z (now t) (now marks) (now rows) ⌝ }
+    ensures { λ r. ⌜ ItemsLeave Base (byAsking (now (asking .entry))) (now (trace .entry)) deep z (now (t .entry))
         (now (marks .entry)) (now (rows .entry)) r (now (marks .exit)) (now (rows .exit)) ⌝ }
     ensures { λ _. ⌜ now (t .exit) ≡ now (t .entry) ⌝ }
 {
@@ -246,8 +263,8 @@ fn body(
     rows: &mut [u64],
     asking: &[u64],
 ) -> walk::Open
-    requires { ⌜ BodyAsks (byAsking (now asking)) (now trace) from row deep (now t) (now marks) (now rows) ⌝ }
-    ensures { λ r. ⌜ BodyLeaves (byAsking (now (asking .entry))) (now (trace .entry)) from row (now (marks .entry))
+    requires { ⌜ BodyAsks Base (byAsking (now asking)) (now trace) from row deep (now t) (now marks) (now rows) ⌝ }
+    ensures { λ r. ⌜ BodyLeaves Base (byAsking (now (asking .entry))) (now (trace .entry)) from row (now (marks .entry))
         (now (rows .entry)) r (now (marks .exit)) (now (rows .exit)) ⌝ }
     ensures { λ _. ⌜ now (t .exit) ≡ now (t .entry) ⌝ }
 {
@@ -275,8 +292,8 @@ fn item(
     rows: &mut [u64],
     asking: &[u64],
 ) -> Zones
-    requires { ⌜ ItemAsks (byAsking (now asking)) (now trace) kind deep z (now t) (now marks) (now rows) ⌝ }
-    ensures { λ r. ⌜ ItemLeaves (byAsking (now (asking .entry))) (now (trace .entry)) z (now (marks .entry))
+    requires { ⌜ ItemAsks Base (byAsking (now asking)) (now trace) kind deep z (now t) (now marks) (now rows) ⌝ }
+    ensures { λ r. ⌜ ItemLeaves Base (byAsking (now (asking .entry))) (now (trace .entry)) z (now (marks .entry))
         (now (rows .entry)) r (now (marks .exit)) (now (rows .exit)) ⌝ }
     ensures { λ _. ⌜ now (t .exit) ≡ now (t .entry) ⌝ }
 {
@@ -314,6 +331,187 @@ fn item(
         return called(marks, back, c);
     }
     spawned(marks, back, c)
+}
+
+// The row of what a line of this kind opens in the finish family: a finish's is that around it, another's its site's.
+fn row_of(trace: &[u8], at: usize, kind: u8, row: usize) -> usize
+    ensures { λ r. ⌜ r ≡ rowOf (now (trace .entry)) at kind row ⌝ }
+{
+    if kind == 0x13 {
+        return row;
+    }
+    line::site_at(trace, at) as usize
+}
+
+// An open thing of the finish family: its zones, and how far an async reaches that begins in the call that is being
+// read, from the beginning of the finish or async around it on.
+struct Reach {
+    zones: Zones,
+    far: walk::Cycles,
+}
+
+// Reads the items of an invocation or a finish, which has come to from, up to its return, and leaves the join to its
+// caller. At most deep more things open inside one another.
+fn finish_items(
+    trace: &[u8],
+    from: Reach,
+    deep: usize,
+    t: &mut [u64],
+    marks: &mut [u8],
+    rows: &mut [u64],
+) -> Reach
+    requires { ⌜ Lent Finishes (byAsking []) (now trace) deep (from .zones) (now t) (now marks) (now rows) ⌝ }
+    ensures { λ r. ⌜ ItemsLeave Finishes (byAsking []) (now (trace .entry)) deep (from .zones) (now (t .entry))
+        (now (marks .entry)) (now (rows .entry)) (r .zones) (now (marks .exit)) (now (rows .exit)) ⌝ }
+    ensures { λ r. ⌜ ItemsReach (byAsking []) (now (trace .entry)) from r ⌝ }
+    ensures { λ _. ⌜ now (t .exit) ≡ now (t .entry) ⌝ }
+{
+    let mut a = from;
+    let mut kind = line::finish_kind_at(trace, from.zones.own.at);
+    while kind != 5 {
+        a = finish_item(trace, kind, a, deep, t, marks, rows);
+        kind = line::finish_kind_at(trace, a.zones.own.at);
+    }
+    a
+}
+
+// Reads an async or a finish of a row from its first line up to and with its return.
+fn finish_body(
+    trace: &[u8],
+    from: usize,
+    row: usize,
+    deep: usize,
+    t: &mut [u64],
+    marks: &mut [u8],
+    rows: &mut [u64],
+) -> walk::Open
+    requires { ⌜ BodyAsks Finishes (byAsking []) (now trace) from row deep (now t) (now marks) (now rows) ⌝ }
+    ensures { λ r. ⌜ BodyLeaves Finishes (byAsking []) (now (trace .entry)) from row (now (marks .entry))
+        (now (rows .entry)) r (now (marks .exit)) (now (rows .exit)) ⌝ }
+    ensures { λ _. ⌜ now (t .exit) ≡ now (t .entry) ⌝ }
+{
+    let a = finish_items(
+        trace,
+        Reach {
+            zones: Zones::prefix(walk::Open::new(from), row),
+            far: walk::Cycles(0),
+        },
+        deep,
+        t,
+        marks,
+        rows,
+    );
+    let end = join(marks, a.zones);
+    end.own
+}
+
+// Reads a call with its items and its return. They go on from its caller's numbers and zones, and nothing is joined.
+// Its work is by how much the work grows, and its span how far its items and its asyncs reach from where it begins.
+fn finish_call(
+    trace: &[u8],
+    a: Reach,
+    deep: usize,
+    t: &mut [u64],
+    marks: &mut [u8],
+    rows: &mut [u64],
+) -> Reach
+    requires { ⌜ ItemAsks Finishes (byAsking []) (now trace) 2 deep (a .zones) (now t) (now marks) (now rows) ⌝ }
+    ensures { λ r. ⌜ ItemLeaves Finishes (byAsking []) (now (trace .entry)) (a .zones) (now (marks .entry))
+        (now (rows .entry)) (r .zones) (now (marks .exit)) (now (rows .exit)) ⌝ }
+    ensures { λ r. ⌜ ItemReach (byAsking []) (now (trace .entry)) a r ⌝ }
+    ensures { λ _. ⌜ now (t .exit) ≡ now (t .entry) ⌝ }
+{
+    let z = a.zones;
+    let start = z.own.series();
+    let site = line::site_at(trace, z.own.at) as usize;
+    let credit = walk::credit_of(rows, site);
+    let first = pass(marks, z);
+    let r = finish_items(
+        trace,
+        Reach {
+            zones: first.of_row(site),
+            far: start,
+        },
+        deep - 1,
+        t,
+        marks,
+        rows,
+    );
+    let own = r.zones.own;
+    let reach = r.far.larger(own.series());
+    walk::returned(
+        rows,
+        site,
+        own.work.minus(z.own.work),
+        reach.minus(start),
+        credit,
+    );
+    let end = pass(marks, r.zones);
+    Reach {
+        zones: end.of_row(z.row),
+        far: a.far.larger(r.far),
+    }
+}
+
+// Reads one item, whose first line is of this kind, with all that it opens.
+fn finish_item(
+    trace: &[u8],
+    kind: u8,
+    a: Reach,
+    deep: usize,
+    t: &mut [u64],
+    marks: &mut [u8],
+    rows: &mut [u64],
+) -> Reach
+    requires { ⌜ ItemAsks Finishes (byAsking []) (now trace) kind deep (a .zones) (now t) (now marks) (now rows) ⌝ }
+    ensures { λ r. ⌜ ItemLeaves Finishes (byAsking []) (now (trace .entry)) (a .zones) (now (marks .entry))
+        (now (rows .entry)) (r .zones) (now (marks .exit)) (now (rows .exit)) ⌝ }
+    ensures { λ r. ⌜ ItemReach (byAsking []) (now (trace .entry)) a r ⌝ }
+    ensures { λ _. ⌜ now (t .exit) ≡ now (t .entry) ⌝ }
+{
+    let z = a.zones;
+    let far = a.far;
+    let at = z.own.at;
+    if kind == 6 {
+        let v = walk::weight_at(trace, at, z.row, &[]);
+        walk::spend(rows, z.row, v, walk::instructions_at(trace, at));
+        return Reach {
+            zones: spend(marks, z, v),
+            far,
+        };
+    }
+    if kind == 7 {
+        return Reach {
+            zones: pass(marks, z),
+            far,
+        };
+    }
+    if kind == 1 {
+        return Reach {
+            zones: pass(marks, z),
+            far,
+        };
+    }
+    if kind == 2 {
+        return finish_call(trace, a, deep, t, marks, rows);
+    }
+    let series = z.own.series();
+    let row = row_of(trace, at, kind, z.row);
+    let credit = walk::credit_of(rows, row);
+    store(t, z);
+    let c = finish_body(trace, at + 1, row, deep - 1, &mut t[8..], marks, rows);
+    let back = load(t);
+    if kind == 0x12 {
+        walk::returned(rows, row, c.work, c.prefix, credit);
+        return Reach {
+            zones: spawned(marks, back, c),
+            far: far.larger(series.plus(c.prefix)),
+        };
+    }
+    Reach {
+        zones: called(marks, back, c),
+        far,
+    }
 }
 
 // Columns 5 and 7 of a row: what a cost line of it weighs, and its instructions, where the line is marked.
@@ -386,8 +584,8 @@ fn on_line(
     rows: &mut [u64],
     asking: &[u64],
 ) -> Present
-    requires { ⌜ LineAsks (byAsking (now asking)) (now trace) at a (now t) (now marks) (now rows) ⌝ }
-    ensures { λ r. ⌜ LineLeaves (byAsking (now (asking .entry))) (now (trace .entry)) at a (now (t .entry))
+    requires { ⌜ LineAsks Base (byAsking (now asking)) (now trace) at a (now t) (now marks) (now rows) ⌝ }
+    ensures { λ r. ⌜ LineLeaves Base (byAsking (now (asking .entry))) (now (trace .entry)) at a (now (t .entry))
         (now (marks .entry)) (now (rows .entry)) r (now (t .exit)) (now (rows .exit)) ⌝ }
 {
     let kind = line::kind_at(trace, at);
@@ -412,8 +610,8 @@ fn on_line(
 
 // Reads the root's lines once more: each marked cost is added to columns 5 and 7 of the row that it stands in.
 fn column(trace: &[u8], lines: usize, t: &mut [u64], marks: &[u8], rows: &mut [u64], asking: &[u64])
-    requires { ⌜ ColumnAsks (byAsking (now asking)) (now trace) lines (now t) (now marks) (now rows) ⌝ }
-    ensures { λ _. ⌜ ColumnLeaves (byAsking (now (asking .entry))) (now (trace .entry)) lines (now (t .entry))
+    requires { ⌜ ColumnAsks Base (byAsking (now asking)) (now trace) lines (now t) (now marks) (now rows) ⌝ }
+    ensures { λ _. ⌜ ColumnLeaves Base (byAsking (now (asking .entry))) (now (trace .entry)) lines (now (t .entry))
         (now (marks .entry)) (now (rows .entry)) (now (rows .exit)) ⌝ }
     ensures { λ _. ⌜ now (t .exit) ≡ now (t .entry) ⌝ }
 {
@@ -421,6 +619,51 @@ fn column(trace: &[u8], lines: usize, t: &mut [u64], marks: &[u8], rows: &mut [u
     let mut at = 0;
     while at < lines {
         a = on_line(trace, at, a, t, marks, rows, asking);
+        at += 1;
+    }
+}
+
+// Reads a line of the finish family once more.
+fn finish_on_line(
+    trace: &[u8],
+    at: usize,
+    a: Present,
+    t: &mut [u64],
+    marks: &[u8],
+    rows: &mut [u64],
+) -> Present
+    requires { ⌜ LineAsks Finishes (byAsking []) (now trace) at a (now t) (now marks) (now rows) ⌝ }
+    ensures { λ r. ⌜ LineLeaves Finishes (byAsking []) (now (trace .entry)) at a (now (t .entry))
+        (now (marks .entry)) (now (rows .entry)) r (now (t .exit)) (now (rows .exit)) ⌝ }
+{
+    let kind = line::finish_kind_at(trace, at);
+    if kind == 6 {
+        add_marked(trace, at, a.row, marks, rows, &[]);
+        return a;
+    }
+    if kind == 5 {
+        return leave(t, a);
+    }
+    if kind == 7 {
+        return a;
+    }
+    if kind == 1 {
+        return a;
+    }
+    enter(t, a, row_of(trace, at, kind, a.row))
+}
+
+// Reads the root's lines once more.
+fn finish_column(trace: &[u8], lines: usize, t: &mut [u64], marks: &[u8], rows: &mut [u64])
+    requires { ⌜ ColumnAsks Finishes (byAsking []) (now trace) lines (now t) (now marks) (now rows) ⌝ }
+    ensures { λ _. ⌜ ColumnLeaves Finishes (byAsking []) (now (trace .entry)) lines (now (t .entry))
+        (now (marks .entry)) (now (rows .entry)) (now (rows .exit)) ⌝ }
+    ensures { λ _. ⌜ now (t .exit) ≡ now (t .entry) ⌝ }
+{
+    let mut a = Present { row: 0, around: 0 };
+    let mut at = 0;
+    while at < lines {
+        a = finish_on_line(trace, at, a, t, marks, rows);
         at += 1;
     }
 }
@@ -438,9 +681,9 @@ fn accepted(
     rows: &mut [u64],
     asking: &[u64],
 ) -> trace::Answer
-    requires { ⌜ Admitted (now text) depth sites (lent (now scratch) (now marks) (now rows)) count lines ⌝ }
+    requires { ⌜ Admitted Base (now text) depth sites (lent (now scratch) (now marks) (now rows)) count lines ⌝ }
     requires { ⌜ Factors (now asking) ⌝ }
-    ensures { λ r. ⌜ Profiled Engine.marks (byAsking (now (asking .entry))) (now (text .entry)) depth sites
+    ensures { λ r. ⌜ Profiled Base Engine.marks (byAsking (now (asking .entry))) (now (text .entry)) depth sites
         (lent (now (scratch .entry)) (now (marks .entry)) (now (rows .entry))) r
         (lent (now (scratch .exit)) (now (marks .exit)) (now (rows .exit))) ⌝ }
 {
@@ -509,6 +752,59 @@ pub fn profile(
     }
 }
 
+// An accepted trace of the finish family, of count sites and lines lines.
+fn finish_accepted(
+    text: &[u8],
+    depth: usize,
+    sites: usize,
+    count: usize,
+    lines: usize,
+    scratch: &mut [u64],
+    marks: &mut [u8],
+    rows: &mut [u64],
+) -> trace::Answer
+    requires { ⌜ Admitted Finishes (now text) depth sites (lent (now scratch) (now marks) (now rows)) count lines ⌝ }
+    ensures { λ r. ⌜ Profiled Finishes Engine.marks (byAsking []) (now (text .entry)) depth sites
+        (lent (now (scratch .entry)) (now (marks .entry)) (now (rows .entry))) r
+        (lent (now (scratch .exit)) (now (marks .exit)) (now (rows .exit))) ⌝ }
+{
+    walk::zero(scratch, scratch.len());
+    walk::zero(rows, trace::COLUMNS * (count + 1));
+    let credit = walk::credit_of(rows, 0);
+    let f = finish_body(text, 0, 0, depth - 1, scratch, marks, rows);
+    walk::returned(rows, 0, f.work, f.prefix, credit);
+    finish_column(text, lines, scratch, marks, rows);
+    trace::Answer::Accepted(f.work.0, f.prefix.0, count, lines)
+}
+
+// The marks engine for traces of the finish family: any text, any limits and any room.
+pub fn finish_profile(
+    text: &[u8],
+    depth: usize,
+    sites: usize,
+    scratch: &mut [u64],
+    marks: &mut [u8],
+    rows: &mut [u64],
+) -> trace::Answer
+    ensures { λ r. ⌜ PromiseOf Finishes Engine.marks (now (text .entry)) depth sites
+        (lent (now (scratch .entry)) (now (marks .entry)) (now (rows .entry))) r
+        (lent (now (scratch .exit)) (now (marks .exit)) (now (rows .exit))) ⌝ }
+{
+    match admit::finish_for_marks(text, depth, sites, scratch.len(), rows.len(), marks.len()) {
+        admit::Verdict::Accepted(count, lines) => finish_accepted(
+            text,
+            depth,
+            sites,
+            count,
+            lines,
+            scratch,
+            marks,
+            rows,
+        ),
+        admit::Verdict::Refused(number, line) => trace::Answer::Refused(number, line),
+    }
+}
+
 // An accepted trace of count sites and lines lines, asked by a list of forecast entries: refusal 19 or 20 of the list,
 // else the trace with each cost weighed by its row's factor.
 fn asked(
@@ -522,7 +818,7 @@ fn asked(
     marks: &mut [u8],
     rows: &mut [u64],
 ) -> trace::Answer
-    requires { ⌜ Admitted (now text) depth sites (lent (now scratch) (now marks) (now rows)) count lines ⌝ }
+    requires { ⌜ Admitted Base (now text) depth sites (lent (now scratch) (now marks) (now rows)) count lines ⌝ }
     ensures { λ r. ⌜ ForecastOf Engine.marks list (now (text .entry)) depth sites
         (lent (now (scratch .entry)) (now (marks .entry)) (now (rows .entry))) r
         (lent (now (scratch .exit)) (now (marks .exit)) (now (rows .exit))) ⌝ }

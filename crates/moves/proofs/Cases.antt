@@ -1,10 +1,11 @@
 -- Case G with one cost raised: what both engines answer, and which lines stand on some heaviest chain, by computing.
 use mathlib.Core.Path.{_≡_, refl, sym, _∙_, ap, subst}
-use mathlib.Core.Bool.{true}
+use mathlib.Core.Bool.{Bool, true}
 use mathlib.Core.List.{List, [], _∷_, map}
 use Prim.Native.Nat.{ℕ, _+_, _≤_}
 use native.Mathlib.Omega.{arith}
 use lib.ListN.{getD}
+use Rattle.line.specs.declared.Family.the-variants.{Base}
 use Rattle.line.specs.declared.Frame.{Frame}
 use Rattle.line.specs.declared.Frame.the-variants.{Cost}
 use Rattle.trace.specs.declared.Answer.{Answer}
@@ -14,9 +15,11 @@ use Rattle.trace.specs.Series.{Span}
 use Rattle.trace.specs.Refusals.{Verdict, accepted, verdict}
 use Rattle.trace.specs.Tree.{Body, done, linesOf, spanOf}
 use Rattle.trace.specs.Promise.{Engine, acceptance}
+use Rattle.trace.proofs.Tree.{isOf}
 use Rattle.trace.proofs.Scan.{accepted-same}
 use Rattle.trace.proofs.Unique.{span-unique}
-use Rattle.trace.proofs.Twelve.{trees, sited, span-here}
+use Rattle.trace.proofs.Computed.{span-here}
+use Rattle.trace.proofs.Twelve.{trees, sited}
 use Rattle.weigh.specs.Raised.{raised}
 use Rattle.weigh.specs.Weighed.{weighed}
 use Rattle.weigh.proofs.OneLine.{onLine}
@@ -41,12 +44,13 @@ record Tested : Type 0 where
   trace : List Frame
   ruling : Verdict
   answer : Answer
+  base : Bool
 
 abbrev computed : Case → Tested
-computed c = record { trace = raised (linesOf plain) (c .line) (c .by); ruling = verdict (text c) 4 2 true; answer = acceptance (linesOf (body c)) (spanOf (body c)) }
+computed c = record { trace = raised (linesOf plain) (c .line) (c .by); ruling = verdict (text c) 4 2 true; answer = acceptance (linesOf (body c)) (spanOf (body c)); base = isOf Base 0 (body c) }
 
 abbrev wanted : Case → Tested
-wanted c = record { trace = linesOf (body c); ruling = accepted (linesOf (body c)); answer = Accepted (22 + c .by) (c .span) 2 12 }
+wanted c = record { trace = linesOf (body c); ruling = accepted (linesOf (body c)); answer = Accepted (22 + c .by) (c .span) 2 12; base = true }
 
 -- the one computed test
 test : map computed cases ≡ map wanted cases
@@ -57,7 +61,7 @@ answered : (c : Case) → computed c ≡ wanted c → (e : Engine) (y : Run) →
 answered c h e y r q =
     let a = ap (λ (x : Tested). x .ruling) h in
     let p = accepts e (text c) 4 2 y r q (linesOf (body c)) a in
-    p .answer ∙ ap (acceptance (linesOf (body c))) (span-unique (linesOf (body c)) root (p .span) (spanOf (body c)) (p .is-span) (span-here (text c) (body c) a)) ∙ ap (λ (x : Tested). x .answer) h
+    p .answer ∙ ap (acceptance (linesOf (body c))) (span-unique (linesOf (body c)) root (p .span) (spanOf (body c)) (p .is-span) (span-here Base (text c) 4 2 (body c) (ap (λ (x : Tested). x .base) h) a)) ∙ ap (λ (x : Tested). x .answer) h
 
 all-answered : (l : List Case) → map computed l ≡ map wanted l → AllAnswered l
 all-answered [] h = tt
@@ -69,8 +73,8 @@ all-answered (c ∷ l) h =
 -- how the span moves there
 moved : (c : Case) → computed c ≡ wanted c → Is (linesOf plain) (c .line) (Cost (c .cost)) → 1 ≤ c .by → Moves (linesOf plain) root (c .line) (c .by) 11 (spanOf (body c))
 moved c h i one =
-    span-moves (linesOf plain) (c .line) (c .cost) (c .by) i root 11 (spanOf (body c)) (span-here G plain refl)
-    (subst (λ (t : List Frame). Span t root (spanOf (body c))) (sym (ap (λ (x : Tested). x .trace) h)) (span-here (text c) (body c) (ap (λ (x : Tested). x .ruling) h))) one
+    span-moves (linesOf plain) (c .line) (c .cost) (c .by) i root 11 (spanOf (body c)) (span-here Base G 4 2 plain refl refl)
+    (subst (λ (t : List Frame). Span t root (spanOf (body c))) (sym (ap (λ (x : Tested). x .trace) h)) (span-here Base (text c) 4 2 (body c) (ap (λ (x : Tested). x .base) h) (ap (λ (x : Tested). x .ruling) h))) one
 
 heaviest : Heaviest (linesOf plain)
 heaviest =

@@ -6,6 +6,7 @@ use Prim.Native.Nat.{ℕ, _+_, _-_, _/_, _≤_, _<_}
 use native.Mathlib.Omega.{arith}
 use lib.Dec.{T}
 use lib.ListN.{getD}
+use Rattle.line.specs.declared.Family.the-variants.{Base}
 use Rattle.line.specs.declared.Frame.{Frame}
 use Rattle.line.specs.declared.Frame.the-variants.{Cost}
 use Rattle.line.specs.Read.{lineAt}
@@ -32,7 +33,7 @@ use Rattle.moves.proofs.Text.{cost-length, cost-accepted}
 
 -- a cost of an accepted trace is in the table
 in-table : (s : List ℕ) (D M : ℕ) (room : Bool) (t : List Frame) (k v : ℕ) → verdict s D M room ≡ accepted t → Is t k (Cost v) → (1 ≤ v) × (v ≤ 4294967295)
-in-table s D M room t k v a i = read-line (lineAt s k) k k (Cost v) (accepted-reads s D M room t a k (Cost v) i) .1
+in-table s D M room t k v a i = read-line Base (lineAt s k) k k (Cost v) (accepted-reads s D M room t a k (Cost v) i) .1
 
 -- LAW: request i
 pub how-far : HowFar

@@ -9,6 +9,7 @@ use native.Mathlib.Omega.{arith}
 use borrow.Author.Tests.{lt-leb, le-leb}
 use lib.Dec.{ltb, leb}
 use lib.ListN.{length}
+use Rattle.line.specs.declared.Family.the-variants.{Base}
 use Rattle.line.specs.declared.Frame.{Frame}
 use Rattle.trace.specs.Refusals.{Verdict, accepted, refused, verdict}
 use Rattle.trace.proofs.Basics.{clash}
@@ -50,7 +51,7 @@ module _ (s : List ℕ) (D M q : ℕ) (scratch marks : List ℕ) where
   module _ (answer : List ℕ) where
     -- the verdict without room for the answer, and with it
     without : leb 2 (length answer) ≡ false → askedOf s D M q scratch marks answer ≡ refused (unroomy (length s) D M) 0
-    without h = ap (asking q) (ap (verdict s D M) (ap (λ (b : Bool). enough && b) h ∙ and-false enough) ∙ roomless s D M)
+    without h = ap (asking q) (ap (verdict s D M) (ap (λ (b : Bool). enough && b) h ∙ and-false enough) ∙ roomless Base s D M)
 
     having : leb 2 (length answer) ≡ true → askedOf s D M q scratch marks answer ≡ asking q (verdict s D M enough)
     having h = ap (λ (b : Bool). asking q (verdict s D M b)) (ap (λ (b : Bool). enough && b) h ∙ and-true enough)

@@ -8,21 +8,22 @@ use native.Mathlib.Omega.{arith}
 use borrow.Author.Tests.{eq-eqb, ne-eqb, lt-ltb, le-ltb}
 use lib.Dec.{ltb}
 use lib.ListN.{length, drop}
+use Rattle.line.specs.declared.Family.{Family}
 use Rattle.line.specs.declared.Frame.{Frame}
 use Rattle.line.specs.declared.Read.{Read}
 use Rattle.line.specs.declared.Read.the-variants.{Line, Refused}
 use Rattle.line.specs.declared.Wrote.{Wrote}
-use Rattle.line.specs.Table.{Fields, Entry, frame, none, table}
-use Rattle.line.specs.Read.{tabled, readLine}
-use Rattle.line.specs.Write.{chars, narrow, isFrame, writable, writeChars}
-use Rattle.line.proofs.Cases.{Case, long, wrongs, unlisted, listed, line-case}
-use Rattle.line.proofs.RoundTrip.{written as written-as, table-fields}
+use Rattle.line.specs.Table.{Fields, Entry, frame, none, tableOf}
+use Rattle.line.specs.Read.{tabled, readLineOf}
+use Rattle.line.specs.Write.{chars, narrow, isFrame, writableOf, writeCharsOf}
+use Rattle.line.proofs.Cases.{CaseOf, long, wrongs, unlisted, listed, line-case-of}
+use Rattle.line.proofs.RoundTrip.{written-of, table-fields-of}
 use Rattle.report.specs.Room.{Decision, write, refuse, fitting, answer, leave, Writes}
 use Rattle.trace.specs.Rows.{columns}
 use Rattle.report.specs.Report.{reporting}
 use Rattle.report.specs.Refusal.{refusalText, printRefusal}
 use Rattle.nyolifuwe.specs.Code.{coded, code, Gives}
-use Rattle.nyolifuwe.specs.Lines.{fieldsIn, framed, readFrame, writeFrame}
+use Rattle.nyolifuwe.specs.Lines.{fieldsIn, framed, readFrameOf, writeFrameOf}
 use Rattle.nyolifuwe.specs.Texts.{counted, count, Tells}
 use Rattle.nyolifuwe.specs.Inside.{framedBy, told, lineOf, noted}
 
@@ -42,87 +43,87 @@ pub given : {d : Decision} (s before after : List ℕ) → d ≡ write s → aft
 given s before after e f = record { answered = sym (ap code e); left = f ∙ sym (ap (λ (d : Decision). leave d before) e) }
 
 -- the line reader
-module _ (s : List ℕ) (room : ℕ) where
-  pub read-2 : (length s ≡ 23 → ⊥) → readFrame s room ≡ refuse 2 0
+module _ (i : Family) (s : List ℕ) (room : ℕ) where
+  pub read-2 : (length s ≡ 23 → ⊥) → readFrameOf i s room ≡ refuse 2 0
   read-2 h = simp (ne-eqb _ _ h)
 
-  pub read-4 : length s ≡ 23 → room < 5 → readFrame s room ≡ refuse 4 0
+  pub read-4 : length s ≡ 23 → room < 5 → readFrameOf i s room ≡ refuse 4 0
   read-4 h few = simp (eq-eqb _ _ h, lt-ltb _ _ few)
 
-  pub read-as : {r : Read} → length s ≡ 23 → 5 ≤ room → readLine s 0 ≡ r → readFrame s room ≡ framed r
+  pub read-as : {r : Read} → length s ≡ 23 → 5 ≤ room → readLineOf i s 0 ≡ r → readFrameOf i s room ≡ framed r
   read-as h enough e =
-      ap (λ (b : Bool). cond b (cond (ltb room 5) (refuse 4 0) (framed (readLine s 0))) (refuse 2 0)) (eq-eqb _ _ h)
-      ∙ ap (λ (b : Bool). cond b (refuse 4 0) (framed (readLine s 0))) (le-ltb _ _ enough)
+      ap (λ (b : Bool). cond b (cond (ltb room 5) (refuse 4 0) (framed (readLineOf i s 0))) (refuse 2 0)) (eq-eqb _ _ h)
+      ∙ ap (λ (b : Bool). cond b (refuse 4 0) (framed (readLineOf i s 0))) (le-ltb _ _ enough)
       ∙ ap framed e
 
-pub read-at-0 : (s : List ℕ) (number line : ℕ) → readLine s 0 ≡ Refused number line → line ≤ 4294967295
-read-at-0 s number line e = go (line-case s 0)
+pub read-at-0 : (i : Family) (s : List ℕ) (number line : ℕ) → readLineOf i s 0 ≡ Refused number line → line ≤ 4294967295
+read-at-0 i s number line e = go (line-case-of i s 0)
   where
-    go : Case s 0 (readLine s 0) → line ≤ 4294967295
+    go : CaseOf i s 0 (readLineOf i s 0) → line ≤ 4294967295
     go (long h r) = let z : line ≡ 0 = cc in omega arith
     go (wrongs h w r) = let z : line ≡ 0 = cc in omega arith
     go (unlisted h w t r) = let z : line ≡ 0 = cc in omega arith
     go (listed h w f t r) = absurd (let z : _≡_ {A = ℕ} 0 1 = cc in omega arith)
 
 -- five fields that are a frame, and that are not
-pub data Framed (x : Fields) (r : Read) : Type 0 where
-  as-frame : (f : Frame) → narrow x ≡ true → table x ≡ frame f → r ≡ Line 0 f → Framed x r
-  as-none : (narrow x && isFrame (table x)) ≡ false → r ≡ Refused 6 0 → Framed x r
+pub data Framed (i : Family) (x : Fields) (r : Read) : Type 0 where
+  as-frame : (f : Frame) → narrow x ≡ true → tableOf i x ≡ frame f → r ≡ Line 0 f → Framed i x r
+  as-none : (narrow x && isFrame (tableOf i x)) ≡ false → r ≡ Refused 6 0 → Framed i x r
 
-framed-case : (x : Fields) → Framed x (framedBy x)
-framed-case x = go (narrow x) (table x) refl refl
+framed-case : (i : Family) (x : Fields) → Framed i x (framedBy i x)
+framed-case i x = go (narrow x) (tableOf i x) refl refl
   where
-    go : (b : Bool) (e : Entry) → narrow x ≡ b → table x ≡ e → Framed x (framedBy x)
+    go : (b : Bool) (e : Entry) → narrow x ≡ b → tableOf i x ≡ e → Framed i x (framedBy i x)
     go false e hb he = as-none (simp hb) (simp hb)
     go true none hb he = as-none (simp (hb, he)) (simp hb (ap (λ (y : Entry). tabled y 0) he))
     go true (frame f) hb he = as-frame f hb he (simp hb (ap (λ (y : Entry). tabled y 0) he))
 
-pub framed-narrow : (x : Fields) → narrow x ≡ true → tabled (table x) 0 ≡ framedBy x
-framed-narrow x e = sym (ap (λ (b : Bool). cond b (tabled (table x) 0) (Refused 6 0)) e)
+pub framed-narrow : (i : Family) (x : Fields) → narrow x ≡ true → tabled (tableOf i x) 0 ≡ framedBy i x
+framed-narrow i x e = sym (ap (λ (b : Bool). cond b (tabled (tableOf i x) 0) (Refused 6 0)) e)
 
-pub framed-wide : (x : Fields) → narrow x ≡ false → Refused 6 0 ≡ framedBy x
-framed-wide x e = sym (ap (λ (b : Bool). cond b (tabled (table x) 0) (Refused 6 0)) e)
+pub framed-wide : (i : Family) (x : Fields) → narrow x ≡ false → Refused 6 0 ≡ framedBy i x
+framed-wide i x e = sym (ap (λ (b : Bool). cond b (tabled (tableOf i x) 0) (Refused 6 0)) e)
 
 -- the line writer
-module _ (n : List ℕ) (room written : ℕ) where
-  pub write-4-frame : length n < 5 → writeFrame n room written ≡ refuse 4 0
+module _ (i : Family) (n : List ℕ) (room written : ℕ) where
+  pub write-4-frame : length n < 5 → writeFrameOf i n room written ≡ refuse 4 0
   write-4-frame h = simp (lt-ltb _ _ h)
 
   module _ (five : 5 ≤ length n) where
-    pub write-4-out : room < 23 → writeFrame n room written ≡ refuse 4 0
+    pub write-4-out : room < 23 → writeFrameOf i n room written ≡ refuse 4 0
     write-4-out h = simp (le-ltb _ _ five, lt-ltb _ _ h)
 
     module _ (enough : 23 ≤ room) where
-      pub write-4-count : written < 1 → writeFrame n room written ≡ refuse 4 0
+      pub write-4-count : written < 1 → writeFrameOf i n room written ≡ refuse 4 0
       write-4-count h = simp (le-ltb _ _ five, le-ltb _ _ enough, lt-ltb _ _ h)
 
       module _ (counts : 1 ≤ written) where
-        on : {b : Bool} → (narrow (fieldsIn n) && isFrame (table (fieldsIn n))) ≡ b → writeFrame n room written ≡ cond b (write (chars (fieldsIn n))) (refuse 6 0)
+        on : {b : Bool} → (narrow (fieldsIn n) && isFrame (tableOf i (fieldsIn n))) ≡ b → writeFrameOf i n room written ≡ cond b (write (chars (fieldsIn n))) (refuse 6 0)
         on e = simp (le-ltb _ _ five, le-ltb _ _ enough, le-ltb _ _ counts) (ap (λ (b : Bool). cond b (write (chars (fieldsIn n))) (refuse 6 0)) e)
 
-        pub write-refused : (number line : ℕ) → framedBy (fieldsIn n) ≡ Refused number line → writeFrame n room written ≡ refuse number line
-        write-refused number line e = go (framed-case (fieldsIn n))
+        pub write-refused : (number line : ℕ) → framedBy i (fieldsIn n) ≡ Refused number line → writeFrameOf i n room written ≡ refuse number line
+        write-refused number line e = go (framed-case i (fieldsIn n))
           where
-            go : Framed (fieldsIn n) (framedBy (fieldsIn n)) → writeFrame n room written ≡ refuse number line
+            go : Framed i (fieldsIn n) (framedBy i (fieldsIn n)) → writeFrameOf i n room written ≡ refuse number line
             go (as-none h r) = let d = on h in cc
             go (as-frame f h t r) = absurd (let z : _≡_ {A = ℕ} 0 1 = cc in omega arith)
 
-        pub write-framed : (k : ℕ) (f : Frame) → framedBy (fieldsIn n) ≡ Line k f → writeFrame n room written ≡ write (writeChars f)
-        write-framed k f e = go (framed-case (fieldsIn n))
+        pub write-framed : (k : ℕ) (f : Frame) → framedBy i (fieldsIn n) ≡ Line k f → writeFrameOf i n room written ≡ write (writeCharsOf i f)
+        write-framed k f e = go (framed-case i (fieldsIn n))
           where
-            go : Framed (fieldsIn n) (framedBy (fieldsIn n)) → writeFrame n room written ≡ write (writeChars f)
+            go : Framed i (fieldsIn n) (framedBy i (fieldsIn n)) → writeFrameOf i n room written ≡ write (writeCharsOf i f)
             go (as-none h r) = absurd (let z : _≡_ {A = ℕ} 0 1 = cc in omega arith)
             go (as-frame g h t r) =
                 let same : g ≡ f = cc in
-                let x = table-fields (fieldsIn n) f (t ∙ ap frame same) in
-                let is : (narrow (fieldsIn n) && isFrame (table (fieldsIn n))) ≡ true = simp (h, t) in
-                let w : writable f ≡ true = ap (λ (y : Fields). narrow y && isFrame (table y)) x ∙ is in
-                on is ∙ ap write (ap chars (sym x) ∙ sym (written-as f w))
+                let x = table-fields-of i (fieldsIn n) f (t ∙ ap frame same) in
+                let is : (narrow (fieldsIn n) && isFrame (tableOf i (fieldsIn n))) ≡ true = simp (h, t) in
+                let w : writableOf i f ≡ true = ap (λ (y : Fields). narrow y && isFrame (tableOf i y)) x ∙ is in
+                on is ∙ ap write (ap chars (sym x) ∙ sym (written-of i f w))
 
-pub framed-at-0 : (x : Fields) (number line : ℕ) → framedBy x ≡ Refused number line → line ≤ 4294967295
-framed-at-0 x number line e = go (framed-case x)
+pub framed-at-0 : (i : Family) (x : Fields) (number line : ℕ) → framedBy i x ≡ Refused number line → line ≤ 4294967295
+framed-at-0 i x number line e = go (framed-case i x)
   where
-    go : Framed x (framedBy x) → line ≤ 4294967295
+    go : Framed i x (framedBy i x) → line ≤ 4294967295
     go (as-none h r) = let z : line ≡ 0 = cc in omega arith
     go (as-frame f h t r) = absurd (let z : _≡_ {A = ℕ} 0 1 = cc in omega arith)
 

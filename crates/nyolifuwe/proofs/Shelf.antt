@@ -8,6 +8,7 @@ use native.Mathlib.Omega.{arith}
 use borrow.Author.Tests.{le-leb, lt-leb}
 use lib.Dec.{leb, ltb}
 use lib.ListN.{length}
+use Rattle.line.specs.declared.Family.the-variants.{Base}
 use Rattle.line.specs.declared.Frame.{Frame}
 use Rattle.line.specs.declared.Wrote.{Wrote}
 use Rattle.trace.specs.Refusals.{Verdict, accepted, refused, verdict}
@@ -43,7 +44,7 @@ module _ (s : List ℕ) (D M : ℕ) (out written : List ℕ) where
   -- without room for the count, and with it
   pub shelf-unroomy : length written < 1 → Shelves s D M (unroomy (length s) D M) out out written written
   shelf-unroomy few =
-      let is = ap (verdict s D M) (lt-leb _ _ few) ∙ roomless s D M in
+      let is = ap (verdict s D M) (lt-leb _ _ few) ∙ roomless Base s D M in
       let z : unroomy (length s) D M ≡ coded (unroomy (length s) D M) 0 = omega arith in
       record {
         when-accepted = λ t h. clash (let x = sym is ∙ h in cc);

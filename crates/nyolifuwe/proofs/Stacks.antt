@@ -8,6 +8,7 @@ use native.Mathlib.Omega.{arith}
 use borrow.Author.Tests.{le-leb, lt-leb, ltb-true}
 use lib.Dec.{leb, ltb}
 use lib.ListN.{length}
+use Rattle.line.specs.declared.Family.the-variants.{Base}
 use Rattle.line.specs.declared.Frame.{Frame}
 use Rattle.line.specs.declared.Wrote.{Wrote}
 use Rattle.trace.specs.Shape.{sites}
@@ -58,7 +59,7 @@ module _ (s : List ℕ) (D M : ℕ) (p q out written scratch : List ℕ) where
   pub stacks-unroomy : length written < 1 → Folded decision (unroomy (length s) D M) out out written written scratch scratch
   stacks-unroomy few =
       let none : (leb D (length scratch) && leb 1 (length written)) ≡ false = ap (λ (b : Bool). leb D (length scratch) && b) (lt-leb _ _ few) ∙ and-false (leb D (length scratch)) in
-      let e : decision ≡ refuse (unroomy (length s) D M) 0 = ap (λ (b : Bool). decide p q (length out) (verdict s D M b)) none ∙ ap (decide p q (length out)) (roomless s D M) in
+      let e : decision ≡ refuse (unroomy (length s) D M) 0 = ap (λ (b : Bool). decide p q (length out) (verdict s D M b)) none ∙ ap (decide p q (length out)) (roomless Base s D M) in
       let z : unroomy (length s) D M ≡ coded (unroomy (length s) D M) 0 = omega arith in
       record { tells = rw z (untold (unroomy (length s) D M) 0 out written e); scratch-left = sym (ap (λ (d : Decision). cleared d scratch) e) }
 

@@ -5,11 +5,13 @@ use mathlib.Core.List.{List, [], _∷_}
 use mathlib.Core.Path.{_≡_}
 use lib.Dec.{leb}
 use lib.ListN.{length}
+use Rattle.line.specs.declared.Family.{Family}
+use Rattle.line.specs.declared.Family.the-variants.{Base}
 use Rattle.line.specs.declared.Frame.{Frame}
 use Rattle.trace.specs.declared.Answer.{Answer}
 use Rattle.trace.specs.declared.Answer.the-variants.{Accepted, Refused}
-use Rattle.trace.specs.Refusals.{Verdict, accepted, refused, verdict}
-use Rattle.trace.specs.Promise.{Engine, Lent, enough, Profile}
+use Rattle.trace.specs.Refusals.{Verdict, accepted, refused, verdictOf, verdict}
+use Rattle.trace.specs.Promise.{Engine, Lent, enough, ProfileOf}
 use Rattle.forecast.specs.declared.Entry.{Entry}
 use Rattle.forecast.specs.Asked.{asking}
 use Rattle.report.specs.Room.{Decision, write, refuse}
@@ -26,13 +28,20 @@ numbered (Refused number line) = refuse number line
 
 -- The engine e, lent the room before and the room for the answer, gives this code and leaves after and answer′, where
 -- this is the verdict.
-pub record Answers (e : Engine) (v : Verdict) (before : Lent) (answer : List ℕ) (given : ℕ) (after : Lent) (answer′ : List ℕ) : Type 0 where
-  pub when-accepted : (t : List Frame) → v ≡ accepted t → (r : Answer) × Profile e t before r after × Gives (numbered r) given answer answer′
+pub record AnswersOf (g : Family) (e : Engine) (v : Verdict) (before : Lent) (answer : List ℕ) (given : ℕ) (after : Lent) (answer′ : List ℕ) : Type 0 where
+  pub when-accepted : (t : List Frame) → v ≡ accepted t → (r : Answer) × ProfileOf g e t before r after × Gives (numbered r) given answer answer′
   pub when-refused : (number line : ℕ) → v ≡ refused number line → (given ≡ coded number line) × (after ≡ before) × (answer′ ≡ answer)
 
 -- the same of the text s with limits D and M
+abbrev pub ProfilesOf : Family → Engine → List ℕ → ℕ → ℕ → Lent → List ℕ → ℕ → Lent → List ℕ → Type 0
+ProfilesOf g e s D M before answer given after answer′ = AnswersOf g e (verdictOf g s D M (roomy e s D M before answer)) before answer given after answer′
+
+-- those of document 01's traces
+abbrev pub Answers : Engine → Verdict → Lent → List ℕ → ℕ → Lent → List ℕ → Type 0
+Answers e v before answer given after answer′ = AnswersOf Base e v before answer given after answer′
+
 abbrev pub Profiles : Engine → List ℕ → ℕ → ℕ → Lent → List ℕ → ℕ → Lent → List ℕ → Type 0
-Profiles e s D M before answer given after answer′ = Answers e (verdict s D M (roomy e s D M before answer)) before answer given after answer′
+Profiles e s D M before answer given after answer′ = ProfilesOf Base e s D M before answer given after answer′
 
 -- and of a forecast by these entries
 abbrev pub Forecasts : Engine → List Entry → List ℕ → ℕ → ℕ → Lent → List ℕ → ℕ → Lent → List ℕ → Type 0

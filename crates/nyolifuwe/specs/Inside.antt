@@ -3,11 +3,12 @@ use Prim.Native.Nat.{ℕ}
 use mathlib.Core.Bool.{cond, false}
 use mathlib.Core.List.{List, _∷_}
 use lib.ListN.{drop}
+use Rattle.line.specs.declared.Family.{Family}
 use Rattle.line.specs.declared.Read.{Read}
 use Rattle.line.specs.declared.Read.the-variants.{Refused as Unread}
 use Rattle.line.specs.declared.Wrote.{Wrote}
 use Rattle.line.specs.declared.Wrote.the-variants.{Chars, Refused}
-use Rattle.line.specs.Table.{Fields, table}
+use Rattle.line.specs.Table.{Fields, tableOf}
 use Rattle.line.specs.Read.{tabled}
 use Rattle.line.specs.Write.{narrow}
 use Rattle.trace.specs.declared.Answer.{Answer}
@@ -19,9 +20,10 @@ use Rattle.why.specs.declared.Answer.the-variants.{Given}
 use Rattle.why.specs.declared.Answer.the-variants.{Refused as NotGiven}
 use Rattle.nyolifuwe.specs.Code.{coded}
 
--- the frame that five fields are, refusal 6 where one has no room in its digits or they are not as the table has them
-abbrev pub framedBy : Fields → Read
-framedBy x = cond (narrow x) (tabled (table x) 0) (Unread 6 0)
+-- the frame that five fields are, refusal 6 where one has no room in its digits or they are not as the family's table has
+-- them
+abbrev pub framedBy : Family → Fields → Read
+framedBy g x = cond (narrow x) (tabled (tableOf g x) 0) (Unread 6 0)
 
 -- a writer's answer: its code, the line in it, and what the room for the count then holds
 abbrev pub told : Wrote → ℕ

@@ -3,8 +3,10 @@
 
 use forecast::Entry;
 use forecast::Listed;
+use line::Family;
 use line::Frame;
 use line::Read;
+use line::Written;
 use line::Wrote;
 use sheet::Counted;
 use trace::Answer;
@@ -13,14 +15,17 @@ ghost use mathlib.Core.Path.{_≡_};
 ghost use Prim.Native.Nat.{_≤_};
 ghost use mathlib.Core.List.{[], _++_};
 ghost use lib.ListN.{length, drop};
+ghost use Rattle.line.specs.declared.Family.the-variants.{Finishes};
 ghost use Rattle.line.specs.Table.{fieldsOf};
+ghost use Rattle.line.specs.Read.{readLineOf};
+ghost use Rattle.line.specs.Write.{writeAnswerOf, writeCharsOf};
 ghost use Rattle.report.specs.Report.{report, fullReport};
 ghost use Rattle.report.specs.Refusal.{printRefusal};
 ghost use Rattle.nyolifuwe.specs.Code.{coded, Gives};
-ghost use Rattle.nyolifuwe.specs.Lines.{numbers, readFrame, writeFrame};
+ghost use Rattle.nyolifuwe.specs.Lines.{numbers, readFrameOf, readFrame, writeFrameOf, writeFrame};
 ghost use Rattle.nyolifuwe.specs.Texts.{counted, Tells};
-ghost use Rattle.trace.specs.Promise.{Engine};
-ghost use Rattle.nyolifuwe.specs.Engines.{numbered, Profiles, Forecasts};
+ghost use Rattle.trace.specs.Promise.{Engine, PromiseOf};
+ghost use Rattle.nyolifuwe.specs.Engines.{numbered, ProfilesOf, Profiles, Forecasts};
 ghost use Rattle.nyolifuwe.specs.InsideForecasts.{ForecastsOf};
 ghost use Rattle.nyolifuwe.specs.Sheets.{csvWrite, csvRead, Takes};
 ghost use Rattle.nyolifuwe.specs.Stacks.{foldedStacks, Folded};
@@ -70,13 +75,24 @@ fn fields_of(f: Frame) -> [u64; FIELDS]
         Frame::Return => [5, 0, 0, 0, 0],
         Frame::Cost(value) => [6, 0, value as u64, 0, 0],
         Frame::Instructions(value) => [7, 0, value as u64, 0, 0],
+        Frame::Async(site) => [0x12, site as u64, 0, 0, 0],
+        Frame::Finish => [0x13, 0, 0, 0, 0],
     }
 }
 
-// Reads one line: its frame goes to `frame`, or refusal 2, 4, 5 or 6.
-#[no_mangle]
-pub extern "C" fn nyo_read_line(line: &[u8], frame: &mut [u64]) -> u64
-    ensures { λ r. ⌜ Gives (readFrame (now (line .entry)) (length (now (frame .entry)))) r (now (frame .entry))
+// What the characters lent are as a line of a family's trace.
+fn line_as(line: &[u8], family: Family) -> Read
+    ensures { λ r. ⌜ r ≡ readLineOf family (now (line .entry)) 0 ⌝ }
+{
+    match family {
+        Family::Base => line::read_line(line),
+        Family::Finishes => line::finish_read_line(line),
+    }
+}
+
+// Reads one line of a family's trace: its frame goes to `frame`, or refusal 2, 4, 5 or 6.
+fn read_as(line: &[u8], frame: &mut [u64], family: Family) -> u64
+    ensures { λ r. ⌜ Gives (readFrameOf family (now (line .entry)) (length (now (frame .entry)))) r (now (frame .entry))
         (now (frame .exit)) ⌝ }
 {
     if line.len() != line::LINE {
@@ -85,7 +101,7 @@ pub extern "C" fn nyo_read_line(line: &[u8], frame: &mut [u64]) -> u64
     if frame.len() < FIELDS {
         return 4;
     }
-    match line::read_line(line) {
+    match line_as(line, family) {
         Read::Line(_, f) => {
             let fields = fields_of(f);
             put(&fields, frame);
@@ -95,9 +111,28 @@ pub extern "C" fn nyo_read_line(line: &[u8], frame: &mut [u64]) -> u64
     }
 }
 
-// The frame that five numbers are by the table of kinds, else refusal 6.
-fn frame_of(kind: u64, site: u64, value: u64, file: u64, column: u64) -> Read
-    ensures { λ r. ⌜ r ≡ framedBy (record { kind = kind; site = site; value = value; file = file; column = column }) ⌝ }
+// Reads one line: its frame goes to `frame`, or refusal 2, 4, 5 or 6.
+#[no_mangle]
+pub extern "C" fn nyo_read_line(line: &[u8], frame: &mut [u64]) -> u64
+    ensures { λ r. ⌜ Gives (readFrame (now (line .entry)) (length (now (frame .entry)))) r (now (frame .entry))
+        (now (frame .exit)) ⌝ }
+{
+    read_as(line, frame, Family::Base)
+}
+
+// The same of a trace of asyncs and finishes.
+#[no_mangle]
+pub extern "C" fn nyo_finish_read_line(line: &[u8], frame: &mut [u64]) -> u64
+    ensures { λ r. ⌜ Gives (readFrameOf Finishes (now (line .entry)) (length (now (frame .entry)))) r
+        (now (frame .entry)) (now (frame .exit)) ⌝ }
+{
+    read_as(line, frame, Family::Finishes)
+}
+
+// The frame that five numbers are by a family's table of kinds, else refusal 6.
+fn frame_of(kind: u64, site: u64, value: u64, file: u64, column: u64, family: Family) -> Read
+    ensures { λ r. ⌜ r ≡ framedBy family
+        (record { kind = kind; site = site; value = value; file = file; column = column }) ⌝ }
 {
     let narrow = (kind < 256)
         & (site < 65536)
@@ -107,14 +142,15 @@ fn frame_of(kind: u64, site: u64, value: u64, file: u64, column: u64) -> Read
     if !narrow {
         return Read::Refused(6, 0);
     }
-    line::framed(
-        kind as u32,
-        site as u16,
-        value as u32,
-        file as u16,
-        column as u16,
-        0,
-    )
+    let kind = kind as u32;
+    let site = site as u16;
+    let value = value as u32;
+    let file = file as u16;
+    let column = column as u16;
+    match family {
+        Family::Base => line::framed(kind, site, value, file, column, 0),
+        Family::Finishes => line::finish_framed(kind, site, value, file, column, 0),
+    }
 }
 
 // What a writer of text answered, in one number; how many characters it wrote goes to `written`.
@@ -131,10 +167,20 @@ fn tell(wrote: Wrote, written: &mut [u64]) -> u64
     }
 }
 
-// Writes one line from the five numbers of its frame: 23 characters go to `out`, or refusal 4 or 6.
-#[no_mangle]
-pub extern "C" fn nyo_write_line(frame: &[u64], out: &mut [u8], written: &mut [u64]) -> u64
-    ensures { λ r. ⌜ Tells (writeFrame (now (frame .entry)) (length (now (out .entry))) (length (now (written .entry)))) r
+// What a frame is as a line of a family's trace.
+fn written_as(f: Frame, family: Family) -> Written
+    ensures { λ r. ⌜ (r .answer ≡ writeAnswerOf family f) × (r .chars ≡ writeCharsOf family f) ⌝ }
+{
+    match family {
+        Family::Base => line::write_line(f),
+        Family::Finishes => line::finish_write_line(f),
+    }
+}
+
+// Writes one line of a family's trace from the five numbers of its frame: 23 characters go to `out`, or refusal 4 or 6.
+fn write_as(frame: &[u64], out: &mut [u8], written: &mut [u64], family: Family) -> u64
+    ensures { λ r. ⌜ Tells
+        (writeFrameOf family (now (frame .entry)) (length (now (out .entry))) (length (now (written .entry)))) r
         (now (out .entry)) (now (out .exit)) (now (written .entry)) (now (written .exit)) ⌝ }
 {
     if frame.len() < FIELDS {
@@ -146,14 +192,33 @@ pub extern "C" fn nyo_write_line(frame: &[u64], out: &mut [u8], written: &mut [u
     if written.len() < 1 {
         return 4;
     }
-    match frame_of(frame[0], frame[1], frame[2], frame[3], frame[4]) {
+    match frame_of(frame[0], frame[1], frame[2], frame[3], frame[4], family) {
         Read::Line(_, f) => {
-            let line = line::write_line(f);
+            let line = written_as(f, family);
             let chars = line.chars;
             tell(report::put_text(&chars, out), written)
         }
         Read::Refused(number, at) => code(number, at),
     }
+}
+
+// Writes one line from the five numbers of its frame: 23 characters go to `out`, or refusal 4 or 6.
+#[no_mangle]
+pub extern "C" fn nyo_write_line(frame: &[u64], out: &mut [u8], written: &mut [u64]) -> u64
+    ensures { λ r. ⌜ Tells (writeFrame (now (frame .entry)) (length (now (out .entry))) (length (now (written .entry)))) r
+        (now (out .entry)) (now (out .exit)) (now (written .entry)) (now (written .exit)) ⌝ }
+{
+    write_as(frame, out, written, Family::Base)
+}
+
+// The same of a trace of asyncs and finishes.
+#[no_mangle]
+pub extern "C" fn nyo_finish_write_line(frame: &[u64], out: &mut [u8], written: &mut [u64]) -> u64
+    ensures { λ r. ⌜ Tells
+        (writeFrameOf Finishes (now (frame .entry)) (length (now (out .entry))) (length (now (written .entry)))) r
+        (now (out .entry)) (now (out .exit)) (now (written .entry)) (now (written .exit)) ⌝ }
+{
+    write_as(frame, out, written, Family::Finishes)
 }
 
 // Writes the report of `count` sites from their rows, row 0 and those with calls above zero: its text goes to `out`, or
@@ -241,6 +306,46 @@ fn refuse_room(bytes: usize, depth: usize, sites: usize) -> u64
     4
 }
 
+// A family's table engine.
+fn by_tables(
+    trace: &[u8],
+    depth: usize,
+    sites: usize,
+    scratch: &mut [u64],
+    rows: &mut [u64],
+    family: Family,
+) -> Answer
+    ensures { λ r. ⌜ PromiseOf family Engine.tables (now (trace .entry)) depth sites
+        (record { scratch = now (scratch .entry); rows = now (rows .entry); marks = [] }) r
+        (record { scratch = now (scratch .exit); rows = now (rows .exit); marks = [] }) ⌝ }
+{
+    match family {
+        Family::Base => tables::profile(trace, depth, sites, scratch, rows),
+        Family::Finishes => tables::finish_profile(trace, depth, sites, scratch, rows),
+    }
+}
+
+// Profiles a family's trace with the table engine: the rows go to `rows`, work, span, sites and lines to `answer`.
+fn tables_as(
+    trace: &[u8],
+    depth: u64,
+    sites: u64,
+    scratch: &mut [u64],
+    rows: &mut [u64],
+    answer: &mut [u64],
+    family: Family,
+) -> u64
+    ensures { λ r. ⌜ ProfilesOf family Engine.tables (now (trace .entry)) depth sites
+        (record { scratch = now (scratch .entry); rows = now (rows .entry); marks = [] }) (now (answer .entry)) r
+        (record { scratch = now (scratch .exit); rows = now (rows .exit); marks = [] }) (now (answer .exit)) ⌝ }
+{
+    if answer.len() < 4 {
+        return refuse_room(trace.len(), depth as usize, sites as usize);
+    }
+    let found = by_tables(trace, depth as usize, sites as usize, scratch, rows, family);
+    hand_over(found, answer)
+}
+
 // Profiles a trace with the table engine: the rows go to `rows`, work, span, sites and lines to `answer`.
 #[no_mangle]
 pub extern "C" fn nyo_tables(
@@ -255,10 +360,75 @@ pub extern "C" fn nyo_tables(
         (record { scratch = now (scratch .entry); rows = now (rows .entry); marks = [] }) (now (answer .entry)) r
         (record { scratch = now (scratch .exit); rows = now (rows .exit); marks = [] }) (now (answer .exit)) ⌝ }
 {
+    tables_as(trace, depth, sites, scratch, rows, answer, Family::Base)
+}
+
+// The same of a trace of asyncs and finishes.
+#[no_mangle]
+pub extern "C" fn nyo_finish_tables(
+    trace: &[u8],
+    depth: u64,
+    sites: u64,
+    scratch: &mut [u64],
+    rows: &mut [u64],
+    answer: &mut [u64],
+) -> u64
+    ensures { λ r. ⌜ ProfilesOf Finishes Engine.tables (now (trace .entry)) depth sites
+        (record { scratch = now (scratch .entry); rows = now (rows .entry); marks = [] }) (now (answer .entry)) r
+        (record { scratch = now (scratch .exit); rows = now (rows .exit); marks = [] }) (now (answer .exit)) ⌝ }
+{
+    tables_as(trace, depth, sites, scratch, rows, answer, Family::Finishes)
+}
+
+// A family's marks engine.
+fn by_marks(
+    trace: &[u8],
+    depth: usize,
+    sites: usize,
+    scratch: &mut [u64],
+    marks: &mut [u8],
+    rows: &mut [u64],
+    family: Family,
+) -> Answer
+    ensures { λ r. ⌜ PromiseOf family Engine.marks (now (trace .entry)) depth sites
+        (record { scratch = now (scratch .entry); rows = now (rows .entry); marks = now (marks .entry) }) r
+        (record { scratch = now (scratch .exit); rows = now (rows .exit); marks = now (marks .exit) }) ⌝ }
+{
+    match family {
+        Family::Base => marks::profile(trace, depth, sites, scratch, marks, rows),
+        Family::Finishes => marks::finish_profile(trace, depth, sites, scratch, marks, rows),
+    }
+}
+
+// Profiles a family's trace with the marks engine: besides, the marks of the chosen chain go to `marks`.
+fn marks_as(
+    trace: &[u8],
+    depth: u64,
+    sites: u64,
+    scratch: &mut [u64],
+    marks: &mut [u8],
+    rows: &mut [u64],
+    answer: &mut [u64],
+    family: Family,
+) -> u64
+    ensures { λ r. ⌜ ProfilesOf family Engine.marks (now (trace .entry)) depth sites
+        (record { scratch = now (scratch .entry); rows = now (rows .entry); marks = now (marks .entry) })
+        (now (answer .entry)) r
+        (record { scratch = now (scratch .exit); rows = now (rows .exit); marks = now (marks .exit) })
+        (now (answer .exit)) ⌝ }
+{
     if answer.len() < 4 {
         return refuse_room(trace.len(), depth as usize, sites as usize);
     }
-    let found = tables::profile(trace, depth as usize, sites as usize, scratch, rows);
+    let found = by_marks(
+        trace,
+        depth as usize,
+        sites as usize,
+        scratch,
+        marks,
+        rows,
+        family,
+    );
     hand_over(found, answer)
 }
 
@@ -279,11 +449,45 @@ pub extern "C" fn nyo_marks(
         (record { scratch = now (scratch .exit); rows = now (rows .exit); marks = now (marks .exit) })
         (now (answer .exit)) ⌝ }
 {
-    if answer.len() < 4 {
-        return refuse_room(trace.len(), depth as usize, sites as usize);
-    }
-    let found = marks::profile(trace, depth as usize, sites as usize, scratch, marks, rows);
-    hand_over(found, answer)
+    marks_as(
+        trace,
+        depth,
+        sites,
+        scratch,
+        marks,
+        rows,
+        answer,
+        Family::Base,
+    )
+}
+
+// The same of a trace of asyncs and finishes.
+#[no_mangle]
+pub extern "C" fn nyo_finish_marks(
+    trace: &[u8],
+    depth: u64,
+    sites: u64,
+    scratch: &mut [u64],
+    marks: &mut [u8],
+    rows: &mut [u64],
+    answer: &mut [u64],
+) -> u64
+    ensures { λ r. ⌜ ProfilesOf Finishes Engine.marks (now (trace .entry)) depth sites
+        (record { scratch = now (scratch .entry); rows = now (rows .entry); marks = now (marks .entry) })
+        (now (answer .entry)) r
+        (record { scratch = now (scratch .exit); rows = now (rows .exit); marks = now (marks .exit) })
+        (now (answer .exit)) ⌝ }
+{
+    marks_as(
+        trace,
+        depth,
+        sites,
+        scratch,
+        marks,
+        rows,
+        answer,
+        Family::Finishes,
+    )
 }
 
 // The table engine's forecast by a list of entries: the rows go to `rows`, work, span, sites and lines to `answer`.

@@ -2,8 +2,9 @@
 use Prim.Native.Nat.{ℕ, zero, suc, _≤_}
 use mathlib.Core.Bool.{true}
 use mathlib.Core.List.{List, [], _∷_, flatMap}
-use mathlib.Core.Path.{_≡_, refl, sym, subst}
+use mathlib.Core.Path.{_≡_, refl}
 use native.Mathlib.Omega.{arith}
+use Rattle.line.specs.declared.Family.the-variants.{Base}
 use Rattle.line.specs.declared.Frame.{Frame}
 use Rattle.chain.specs.Plan.{choose}
 use Rattle.chain.specs.Over.{linesIn}
@@ -11,13 +12,10 @@ use Rattle.trace.specs.Series.{Chosen}
 use Rattle.trace.specs.Rows.{Spans}
 use Rattle.trace.specs.Refusals.{accepted, verdict}
 use Rattle.trace.specs.Promise.{Row}
-use Rattle.trace.specs.Tree.{call, spawn, spend, Body, done, leaf, child, linesOf, Parts, spansIn}
+use Rattle.trace.specs.Tree.{call, spawn, spend, Body, done, leaf, child, linesOf, spansIn}
 use Rattle.trace.specs.Fold.{chainOf}
-use Rattle.trace.proofs.Tree.{body-one}
-use Rattle.trace.proofs.Parse.{accepted-parts}
-use Rattle.trace.proofs.Root.{root-chosen}
-use Rattle.trace.proofs.Outermost.{spans-tree}
 use Rattle.trace.proofs.Twelve.{sited}
+use Rattle.trace.proofs.Computed.{chosen-here, spans-here}
 use Rattle.report.specs.Rows.{lineOf}
 use Rattle.program.specs.Print.{ruling, Prints}
 use Rattle.program.specs.CaseI.{input, output, Claim}
@@ -36,17 +34,11 @@ rows = 1 ∷ 10 ∷ 9 ∷ 2 ∷ 2 ∷ 0 ∷ 0 ∷ 1 ∷ 8 ∷ 7 ∷ 1 ∷ 0 ∷ 
 is-accepted : verdict input 32 31 true ≡ accepted t
 is-accepted = refl
 
-p : Parts 32 t
-p = accepted-parts input 32 31 true t is-accepted
-
-same : p .body ≡ body
-same = body-one (p .body) body (sym (p .lines))
-
 spans : (s : ℕ) → Spans t s (spansIn s body)
-spans s = subst (λ (b : Body). Spans t s (spansIn s b)) same (spans-tree 32 t p s)
+spans = spans-here Base input 32 31 body refl is-accepted
 
 chosen : Chosen t (linesIn (chainOf 0 0 body))
-chosen = subst (λ (b : Body). Chosen t (linesIn (chainOf 0 0 b))) same (root-chosen 32 t p)
+chosen = chosen-here Base input 32 31 body refl is-accepted
 
 rows-are : (s : ℕ) → s ≤ 2 → Row t (linesIn (chainOf 0 0 body)) rows s
 unfolding choose

@@ -9,5 +9,6 @@ pub mod Steps
 pub mod Parts
 pub mod Bodies
 pub mod Items
+pub mod Finish
 pub mod OnSpan
 pub mod Whole

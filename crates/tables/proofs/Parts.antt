@@ -1,6 +1,7 @@
 -- A part of the scratch from a place on, as it is lent and as it comes back; and what its tables then are.
 use mathlib.Core.Path.{_≡_, refl, ap, _∙_, sym, subst}
 use mathlib.Core.Bool.{Bool, true, false, cond}
+use mathlib.Core.Logic.{_⊎_, inl, inr}
 use mathlib.Core.List.{List, [], _++_, append-nil, append-assoc}
 use Prim.Native.Nat.{ℕ, suc, _+_, _*_, _-_, _≤_, _<_}
 use native.Mathlib.Nat.{suc-mul}
@@ -15,7 +16,7 @@ use Rattle.chain.specs.Plan.{CostLine, weight}
 use Rattle.trace.specs.Fold.{Chains, nothing, called}
 use Rattle.walk.specs.Numbers.{loadBy}
 use Rattle.walk.specs.Reader.{alone}
-use Rattle.tables.specs.Blocks.{Shows, sinceAt, partAt, childAt, Holds}
+use Rattle.tables.specs.Blocks.{Shows, sinceAt, partAt, Holds}
 use Rattle.tables.specs.Walks.{Table}
 use Rattle.tables.proofs.Held.{since-first, since-later, part-first, part-later}
 
@@ -221,15 +222,15 @@ module _ (n w : ℕ) (wn : n ≡ w + 1) (t : List ℕ) where
               rw m (since-back-later (rw m at h) k g y (s .later q) (subst (λ (x : List CostLine). Shows n w y (alone (x ++ g)) []) (standing-later k q) d));
         }
 
+-- what is one of two numbers is at most what both are
+cond-most : (b : Bool) (x z m : ℕ) → x ≤ m → z ≤ m → cond b x z ≤ m
+cond-most true x z m h i = h
+cond-most false x z m h i = i
+
 -- a child's part begins at most three blocks behind its caller's
-pub part-in : (kind n v : ℕ) → childAt kind n v ≤ 3 * n
-part-in kind n v = go (eqb kind 2) (eqb v 0)
-  where
-    go : (a b : Bool) → cond a (cond b 0 (2 * n)) (cond b n (3 * n)) ≤ 3 * n
-    go true true = omega arith
-    go true false = omega arith
-    go false true = omega arith
-    go false false = omega arith
+pub part-in : (n v o : ℕ) → (o ≡ sinceAt n v) ⊎ (o ≡ partAt n v) → o ≤ 3 * n
+part-in n v o (inl e) = omega (arith, e, cond-most (eqb v 0) 0 (2 * n) (3 * n) (omega arith) (omega arith))
+part-in n v o (inr e) = omega (arith, e, cond-most (eqb v 0) n (3 * n) (3 * n) (omega arith) (omega arith))
 
 -- a part goes up to the end of the scratch
 pub part-length : (o : ℕ) (t : List ℕ) → o ≤ length t → length (take (length t - o) (drop o t)) ≡ length t - o

@@ -4,10 +4,11 @@ use Prim.Native.Nat.{ℕ, _+_, _*_, _≤_, _<_}
 use mathlib.Core.Path.{_≡_}
 use mathlib.Core.List.{List, []}
 use lib.ListN.{length, getD, set}
+use Rattle.line.specs.declared.Family.{Family}
 use Rattle.line.specs.declared.Frame.{Frame}
 use Rattle.trace.specs.Shape.{sites}
 use Rattle.trace.specs.Column.{Column, slot}
-use Rattle.trace.specs.Refusals.{verdict, accepted}
+use Rattle.trace.specs.Refusals.{verdictOf, accepted}
 use Rattle.trace.specs.Promise.{tables, Lent, enough}
 
 -- what the table engine is lent
@@ -15,9 +16,9 @@ abbrev pub lent : List ℕ → List ℕ → Lent
 lent scratch rows = record { scratch = scratch; rows = rows; marks = [] }
 
 -- the trace is accepted, with count sites and lines lines
-pub record Admitted (s : List ℕ) (D M : ℕ) (scratch rows : List ℕ) (count lines : ℕ) : Type 0 where
+pub record Admitted (y : Family) (s : List ℕ) (D M : ℕ) (scratch rows : List ℕ) (count lines : ℕ) : Type 0 where
   pub t : List Frame
-  pub is : verdict s D M (enough tables s D M (lent scratch rows)) ≡ accepted t
+  pub is : verdictOf y s D M (enough tables s D M (lent scratch rows)) ≡ accepted t
   pub count-is : sites t ≡ count
   pub lines-is : length t ≡ lines
 

@@ -10,12 +10,16 @@
 // its part is then in the next block, that of the longest child. Once a child is the longest, three blocks are in use:
 // the prefix's, the longest child's and the continuation's. The front of the child's part, which is behind them, is zero
 // as long as no child is open: it is the table of no chain, which takes the place of one that goes.
+// In the finish family an async is lent what a spawned child is, and a finish what a called child is. A call is lent
+// nothing: its items go on in the blocks of the finish or async around it.
 ghost use mathlib.Core.Path.{_≡_};
+ghost use mathlib.Core.List.{[]};
 ghost use Prim.Native.Nat.{_+_, _*_, _/_, _%_, _^_, _≤_, _<_};
 ghost use lib.Bits.{bitOr};
 ghost use lib.ListN.{length, getD, set};
+ghost use Rattle.line.specs.declared.Family.the-variants.{Base, Finishes};
 ghost use Rattle.trace.specs.Rows.{columns};
-ghost use Rattle.trace.specs.Promise.{tables, Promise};
+ghost use Rattle.trace.specs.Promise.{tables, Promise, PromiseOf};
 ghost use Rattle.forecast.specs.OfList.{ForecastOf};
 ghost use Rattle.walk.specs.Weight.{byAsking, Factors};
 ghost use Rattle.walk.specs.Profiled.{Profiled};
@@ -23,6 +27,7 @@ ghost use Rattle.tables.specs.Blocks.{sinceAt, partAt, childAt, Asks, Sp
 ghost use Rattle.tables.specs.Walks.{IsTable, Idles, Apart, PairFits, FourFits, SumsFit, Taken, noPair, pairAt, pairSum, paired, added, noFour, fourAt, fourSum, laid, inUse, worded, TakesIn, TookIn, Cleared};
 ghost use Rattle.tables.specs.Root.{lent, Admitted, Settled};
 ghost use Rattle.tables.specs.Reader.{Lent, ItemAsks, ItemLeaves, ItemsLeave, BodyAsks, BodyLeaves};
+ghost use Rattle.tables.specs.Reach.{OfARow, OfEachRow, ItemReaches, ItemsReach};
 
 // A row of a table: what of the chain stands in the row, by its measures. In the scratch these are two numbers side by
 // side.
@@ -418,8 +423,8 @@ fn read_items(
     w: usize,
     asking: &[u64],
 ) -> walk::Open
-    requires { ⌜ Lent (byAsking (now asking)) (now trace) row deep f (now t) (now rows) (w + 1) w ⌝ }
-    ensures { λ r. ⌜ ItemsLeave (byAsking (now (asking .entry))) (now (trace .entry)) row deep f (now (t .entry))
+    requires { ⌜ Lent Base (byAsking (now asking)) (now trace) row deep f (now t) (now rows) (w + 1) w ⌝ }
+    ensures { λ r. ⌜ ItemsLeave Base (byAsking (now (asking .entry))) (now (trace .entry)) row deep f (now (t .entry))
         (now (rows .entry)) (w + 1) w r (now (t .exit)) (now (rows .exit)) ⌝ }
 {
     let mut g = f;
@@ -442,8 +447,8 @@ fn body(
     w: usize,
     asking: &[u64],
 ) -> walk::Open
-    requires { ⌜ BodyAsks (byAsking (now asking)) (now trace) from row deep (now t) (now rows) (w + 1) w ⌝ }
-    ensures { λ r. ⌜ BodyLeaves (byAsking (now (asking .entry))) (now (trace .entry)) from row (now (t .entry))
+    requires { ⌜ BodyAsks Base (byAsking (now asking)) (now trace) from row deep (now t) (now rows) (w + 1) w ⌝ }
+    ensures { λ r. ⌜ BodyLeaves Base (byAsking (now (asking .entry))) (now (trace .entry)) from row (now (t .entry))
         (now (rows .entry)) (w + 1) w r (now (t .exit)) (now (rows .exit)) ⌝ }
 {
     let f = read_items(trace, walk::Open::new(from), row, deep, t, rows, w, asking);
@@ -462,8 +467,8 @@ fn item(
     w: usize,
     asking: &[u64],
 ) -> walk::Open
-    requires { ⌜ ItemAsks (byAsking (now asking)) (now trace) kind row deep f (now t) (now rows) (w + 1) w ⌝ }
-    ensures { λ r. ⌜ ItemLeaves (byAsking (now (asking .entry))) (now (trace .entry)) row f (now (t .entry))
+    requires { ⌜ ItemAsks Base (byAsking (now asking)) (now trace) kind row deep f (now t) (now rows) (w + 1) w ⌝ }
+    ensures { λ r. ⌜ ItemLeaves Base (byAsking (now (asking .entry))) (now (trace .entry)) row f (now (t .entry))
         (now (rows .entry)) (w + 1) w r (now (t .exit)) (now (rows .exit)) ⌝ }
 {
     let at = f.at;
@@ -494,6 +499,212 @@ fn item(
     spawned(t, n, w, f, c)
 }
 
+// Inside a call, an async or a finish: the numbers of the finish or async around, in whose chains a call's items go on,
+// and how far an async reaches that begins in the call, from the beginning of that finish or async on.
+struct Reach {
+    around: walk::Open,
+    far: walk::Cycles,
+}
+
+// The finish family: reads the items of a call, an async or a finish, directly in an invocation of a row, up to its
+// return, and leaves a join to its caller. At most deep more open inside one another.
+fn finish_items(
+    trace: &[u8],
+    f: Reach,
+    row: usize,
+    deep: usize,
+    t: &mut [u64],
+    rows: &mut [u64],
+    w: usize,
+) -> Reach
+    requires { ⌜ Lent Finishes (byAsking []) (now trace) row deep (f .around) (now t) (now rows) (w + 1) w ⌝ }
+    ensures { λ r. ⌜ ItemsLeave Finishes (byAsking []) (now (trace .entry)) row deep (f .around) (now (t .entry))
+        (now (rows .entry)) (w + 1) w (r .around) (now (t .exit)) (now (rows .exit)) ⌝ }
+    ensures { λ r. ⌜ ItemsReach (byAsking []) (now (trace .entry)) row f (now (t .entry)) (w + 1) w r ⌝ }
+{
+    let mut g = f;
+    let mut next = line::finish_kind_at(trace, f.around.at);
+    while next != 5 {
+        g = finish_item(trace, next, g, row, deep, t, rows, w);
+        next = line::finish_kind_at(trace, g.around.at);
+    }
+    g
+}
+
+// The finish family: reads an async or a finish from its first line up to and with its return, which joins all that it
+// holds.
+fn finish_body(
+    trace: &[u8],
+    from: usize,
+    row: usize,
+    deep: usize,
+    t: &mut [u64],
+    rows: &mut [u64],
+    w: usize,
+) -> walk::Open
+    requires { ⌜ BodyAsks Finishes (byAsking []) (now trace) from row deep (now t) (now rows) (w + 1) w ⌝ }
+    ensures { λ r. ⌜ BodyLeaves Finishes (byAsking []) (now (trace .entry)) from row (now (t .entry))
+        (now (rows .entry)) (w + 1) w r (now (t .exit)) (now (rows .exit)) ⌝ }
+{
+    let start = Reach {
+        around: walk::Open::new(from),
+        far: walk::Cycles(0),
+    };
+    let f = finish_items(trace, start, row, deep, t, rows, w);
+    join(t, w + 1, w, f.around)
+}
+
+// The finish family: reads one item, whose first line is of this kind, with all that it holds.
+fn finish_item(
+    trace: &[u8],
+    next: u8,
+    f: Reach,
+    row: usize,
+    deep: usize,
+    t: &mut [u64],
+    rows: &mut [u64],
+    w: usize,
+) -> Reach
+    requires { ⌜ ItemAsks Finishes (byAsking []) (now trace) next row deep (f .around) (now t) (now rows) (w + 1) w ⌝ }
+    ensures { λ r. ⌜ ItemLeaves Finishes (byAsking []) (now (trace .entry)) row (f .around) (now (t .entry))
+        (now (rows .entry)) (w + 1) w (r .around) (now (t .exit)) (now (rows .exit)) ⌝ }
+    ensures { λ r. ⌜ ItemReaches (byAsking []) (now (trace .entry)) row f (now (t .entry)) (w + 1) w r ⌝ }
+{
+    let around = f.around;
+    let far = f.far;
+    let at = around.at;
+    if next == 6 {
+        let v = walk::weight_at(trace, at, row, &[]);
+        let i = walk::instructions_at(trace, at);
+        walk::spend(rows, row, v, i);
+        let spent = spend(t, w + 1, w, around, row, v, i);
+        return Reach { around: spent, far };
+    }
+    if next == 7 {
+        let passed = around.passed();
+        return Reach {
+            around: passed,
+            far,
+        };
+    }
+    if next == 1 {
+        let passed = around.passed();
+        return Reach {
+            around: passed,
+            far,
+        };
+    }
+    if next == 2 {
+        return finish_call(trace, f, deep, t, rows, w);
+    }
+    if next == 0x12 {
+        return finish_async(trace, f, deep, t, rows, w);
+    }
+    let within = finish_finish(trace, around, row, deep, t, rows, w);
+    Reach {
+        around: within,
+        far,
+    }
+}
+
+// The finish family: reads a call. Its items go on in the chains around it, and its return joins nothing. Its span is
+// how far they come from where it begins.
+fn finish_call(
+    trace: &[u8],
+    f: Reach,
+    deep: usize,
+    t: &mut [u64],
+    rows: &mut [u64],
+    w: usize,
+) -> Reach
+    requires { ⌜ OfARow (λ row. ItemAsks Finishes (byAsking []) (now trace) 2 row deep (f .around) (now t) (now rows)
+        (w + 1) w) ⌝ }
+    ensures { λ r. ⌜ OfEachRow (λ row. ItemLeaves Finishes (byAsking []) (now (trace .entry)) row (f .around)
+        (now (t .entry)) (now (rows .entry)) (w + 1) w (r .around) (now (t .exit)) (now (rows .exit))) ⌝ }
+    ensures { λ r. ⌜ OfEachRow (λ row. ItemReaches (byAsking []) (now (trace .entry)) row f (now (t .entry)) (w + 1) w
+        r) ⌝ }
+{
+    let around = f.around;
+    let far = f.far;
+    let site = line::site_at(trace, around.at) as usize;
+    let credit = walk::credit_of(rows, site);
+    let begins = around.series();
+    let callee = Reach {
+        around: around.passed(),
+        far: begins,
+    };
+    let r = finish_items(trace, callee, site, deep - 1, t, rows, w);
+    let left = r.around;
+    let work = left.work;
+    let reached = r.far;
+    let most = reached.larger(left.series());
+    walk::returned(
+        rows,
+        site,
+        work.minus(around.work),
+        most.minus(begins),
+        credit,
+    );
+    Reach {
+        around: left.passed(),
+        far: far.larger(reached),
+    }
+}
+
+// The finish family: reads an async. It works behind the blocks in use, as a spawned child does, and reaches as far as
+// its span from where it begins.
+fn finish_async(
+    trace: &[u8],
+    f: Reach,
+    deep: usize,
+    t: &mut [u64],
+    rows: &mut [u64],
+    w: usize,
+) -> Reach
+    requires { ⌜ OfARow (λ row. ItemAsks Finishes (byAsking []) (now trace) 0x12 row deep (f .around) (now t) (now rows)
+        (w + 1) w) ⌝ }
+    ensures { λ r. ⌜ OfEachRow (λ row. ItemLeaves Finishes (byAsking []) (now (trace .entry)) row (f .around)
+        (now (t .entry)) (now (rows .entry)) (w + 1) w (r .around) (now (t .exit)) (now (rows .exit))) ⌝ }
+    ensures { λ r. ⌜ OfEachRow (λ row. ItemReaches (byAsking []) (now (trace .entry)) row f (now (t .entry)) (w + 1) w
+        r) ⌝ }
+{
+    let around = f.around;
+    let far = f.far;
+    let at = around.at;
+    let site = line::site_at(trace, at) as usize;
+    let o = part(w + 1, around);
+    let credit = walk::credit_of(rows, site);
+    let c = finish_body(trace, at + 1, site, deep - 1, &mut t[o..], rows, w);
+    walk::returned(rows, site, c.work, c.prefix, credit);
+    let begins = around.series();
+    let reached = begins.plus(c.prefix);
+    let behind = spawned(t, w + 1, w, around, c);
+    Reach {
+        around: behind,
+        far: far.larger(reached),
+    }
+}
+
+// The finish family: reads a finish directly in an invocation of a row. It goes on in the continuation's table, as a
+// called child does, and nothing is counted at its end.
+fn finish_finish(
+    trace: &[u8],
+    f: walk::Open,
+    row: usize,
+    deep: usize,
+    t: &mut [u64],
+    rows: &mut [u64],
+    w: usize,
+) -> walk::Open
+    requires { ⌜ ItemAsks Finishes (byAsking []) (now trace) 0x13 row deep f (now t) (now rows) (w + 1) w ⌝ }
+    ensures { λ r. ⌜ ItemLeaves Finishes (byAsking []) (now (trace .entry)) row f (now (t .entry))
+        (now (rows .entry)) (w + 1) w r (now (t .exit)) (now (rows .exit)) ⌝ }
+{
+    let o = since(w + 1, f);
+    let c = finish_body(trace, f.at + 1, row, deep - 1, &mut t[o..], rows, w);
+    f.called(c)
+}
+
 // Columns 5 and 7: each row of m is moved out of the root's table, and its word is cleared.
 fn settle(t: &mut [u64], rows: &mut [u64], m: usize)
     requires { ⌜ (2 * m < length (now t)) × (columns * m ≤ length (now rows)) ⌝ }
@@ -522,9 +733,9 @@ fn accepted(
     rows: &mut [u64],
     asking: &[u64],
 ) -> trace::Answer
-    requires { ⌜ Admitted (now text) depth sites (now scratch) (now rows) count lines ⌝ }
+    requires { ⌜ Admitted Base (now text) depth sites (now scratch) (now rows) count lines ⌝ }
     requires { ⌜ Factors (now asking) ⌝ }
-    ensures { λ r. ⌜ Profiled tables (byAsking (now (asking .entry))) (now (text .entry)) depth sites
+    ensures { λ r. ⌜ Profiled Base tables (byAsking (now (asking .entry))) (now (text .entry)) depth sites
         (lent (now (scratch .entry)) (now (rows .entry))) r (lent (now (scratch .exit)) (now (rows .exit))) ⌝ }
 {
     walk::zero(scratch, scratch.len());
@@ -571,6 +782,55 @@ pub fn profile(
     }
 }
 
+// An accepted trace of the finish family, of count sites and lines lines: the room is cleared, the root is read, and
+// its table is moved out.
+fn finish_accepted(
+    text: &[u8],
+    depth: usize,
+    sites: usize,
+    count: usize,
+    lines: usize,
+    scratch: &mut [u64],
+    rows: &mut [u64],
+) -> trace::Answer
+    requires { ⌜ Admitted Finishes (now text) depth sites (now scratch) (now rows) count lines ⌝ }
+    ensures { λ r. ⌜ Profiled Finishes tables (byAsking []) (now (text .entry)) depth sites
+        (lent (now (scratch .entry)) (now (rows .entry))) r (lent (now (scratch .exit)) (now (rows .exit))) ⌝ }
+{
+    walk::zero(scratch, scratch.len());
+    walk::zero(rows, trace::COLUMNS * (count + 1));
+    let before = walk::credit_of(rows, 0);
+    let f = finish_body(text, 0, 0, depth - 1, scratch, rows, 2 * (count + 1));
+    walk::returned(rows, 0, f.work, f.prefix, before);
+    settle(scratch, rows, count + 1);
+    trace::Answer::Accepted(f.work.0, f.prefix.0, count, lines)
+}
+
+// The table engine for a trace of the finish family: any text, any limits and any room.
+pub fn finish_profile(
+    text: &[u8],
+    depth: usize,
+    sites: usize,
+    scratch: &mut [u64],
+    rows: &mut [u64],
+) -> trace::Answer
+    ensures { λ r. ⌜ PromiseOf Finishes tables (now (text .entry)) depth sites
+        (lent (now (scratch .entry)) (now (rows .entry))) r (lent (now (scratch .exit)) (now (rows .exit))) ⌝ }
+{
+    match admit::finish_for_tables(text, depth, sites, scratch.len(), rows.len()) {
+        admit::Verdict::Accepted(count, lines) => finish_accepted(
+            text,
+            depth,
+            sites,
+            count,
+            lines,
+            scratch,
+            rows,
+        ),
+        admit::Verdict::Refused(number, line) => trace::Answer::Refused(number, line),
+    }
+}
+
 // An accepted trace of count sites and lines lines, asked by a list of forecast entries: refusal 19 or 20 of the list,
 // else the trace with each cost weighed by its row's factor.
 fn asked(
@@ -583,7 +843,7 @@ fn asked(
     scratch: &mut [u64],
     rows: &mut [u64],
 ) -> trace::Answer
-    requires { ⌜ Admitted (now text) depth sites (now scratch) (now rows) count lines ⌝ }
+    requires { ⌜ Admitted Base (now text) depth sites (now scratch) (now rows) count lines ⌝ }
     ensures { λ r. ⌜ ForecastOf tables list (now (text .entry)) depth sites
         (lent (now (scratch .entry)) (now (rows .entry))) r (lent (now (scratch .exit)) (now (rows .exit))) ⌝ }
 {

@@ -8,11 +8,14 @@ use native.Mathlib.Omega.{arith}
 use native.Mathlib.Nat.{le-dest}
 use lib.Dec.{T}
 use borrow.Author.Tests.{eq-eqb, ne-eqb}
+use Rattle.line.specs.declared.Family.{Family}
+use Rattle.line.specs.declared.Family.the-variants.{Base}
 use Rattle.line.specs.declared.Frame.{Frame}
 use Rattle.chain.specs.Over.{Each, EachTwo}
-use Rattle.trace.specs.Shape.{step, walk, openAt, has, firstIs}
-use Rattle.trace.specs.Series.{Series, value, valueAt, CostIn, Chain, weight, Span}
-use Rattle.trace.specs.Rows.{ofRow, counted, Measure, cycles, instructions, sumOf, costsWhere, inside, direct, directOn, sum, Sum, work, Spans, local, onSpan, ilocal, ionSpan}
+use Rattle.trace.specs.Shape.{step, walk, openAt, has}
+use Rattle.trace.specs.Async.{ownerIs}
+use Rattle.trace.specs.Series.{SeriesOf, value, valueAt, CostIn, ChainOf, Chain, weight, SpanOf}
+use Rattle.trace.specs.Rows.{ofRow, counted, Measure, cycles, instructions, sumOf, costsWhere, inside, direct, directOn, sum, Sum, work, SpansOf, local, onSpan, ilocal, ionSpan}
 use Rattle.trace.proofs.Open.{has-cases}
 use Rattle.trace.proofs.Sums.{same-or-not, sum-le}
 
@@ -71,21 +74,25 @@ chain-sum t n o (e ∷ u) c h v = go c h (λ d g. chain-sum t (suc n) (step n e 
         less n k l q = omega (arith, q)
 
 -- a chain is ascending
-ascending : (t : List Frame) (n : ℕ) (c : List ℕ) → Each (λ k. n ≤ k) c → EachTwo (Series t) c → Asc n c
-ascending t n [] h s = tt
-ascending t n (k ∷ c) h s = (h .0, ascending t (suc k) c (later k c (s .0)) (s .1))
+ascending : (f : Family) (t : List Frame) (n : ℕ) (c : List ℕ) → Each (λ k. n ≤ k) c → EachTwo (SeriesOf f t) c → Asc n c
+ascending f t n [] h s = tt
+ascending f t n (k ∷ c) h s = (h .0, ascending f t (suc k) c (later k c (s .0)) (s .1))
   where
-    later : (k : ℕ) (c : List ℕ) → Each (Series t k) c → Each (λ j. suc k ≤ j) c
+    later : (k : ℕ) (c : List ℕ) → Each (SeriesOf f t k) c → Each (λ j. suc k ≤ j) c
     later k [] s = tt
     later k (j ∷ c) s = (s .0 .0, later k c (s .1))
 
 -- LAW: the costs at the lines of a chain add up to its weight
-pub on-chain : (t : List Frame) (F : ℕ) (c : List ℕ) → Chain t F c → costsWhere cycles t (λ k o. has k c) ≡ weight t c
-on-chain t F c h = chain-sum t 0 (0 ∷ []) t c (ascending t 0 c (any c) (h .series)) (λ j. (let q : 0 + j ≡ j = omega arith in ap (valueAt t) q))
+pub on-chain-of : (f : Family) (t : List Frame) (F : ℕ) (c : List ℕ) → ChainOf f t F c → costsWhere cycles t (λ k o. has k c) ≡ weight t c
+on-chain-of f t F c h = chain-sum t 0 (0 ∷ []) t c (ascending f t 0 c (any c) (h .series)) (λ j. (let q : 0 + j ≡ j = omega arith in ap (valueAt t) q))
   where
     any : (c : List ℕ) → Each (λ k. 0 ≤ k) c
     any [] = tt
     any (k ∷ c) = (omega arith, any c)
+
+-- the same of document 01's traces
+pub on-chain : (t : List Frame) (F : ℕ) (c : List ℕ) → Chain t F c → costsWhere cycles t (λ k o. has k c) ≡ weight t c
+on-chain = on-chain-of Base
 
 -- lines that p picks, q picks too
 more : (m : Measure) (p q : ℕ → List ℕ → Bool) (n : ℕ) (o : List ℕ) (u : List Frame) → ((j : ℕ) → T (p (n + j) (walk n o u j)) → T (q (n + j) (walk n o u j))) → sumOf m p n o u ≤ sumOf m q n o u
@@ -112,23 +119,23 @@ each-has p [] k h m = absurd m
 each-has p (x ∷ c) k h m = elim (has-cases k x c m) [ inl e ↦ subst p (sym e) (h .0) | inr r ↦ each-has p c k (h .1) r ]
 
 -- an invocation's span is at most the costs inside it
-pub span-le : (t : List Frame) (F n : ℕ) → Span t F n → n ≤ inside t F
-span-le t F n s =
-    omega (arith, s .weighs, on-chain t F (s .chain) (s .is-chain), more cycles (λ k o. has k (s .chain)) (λ k o. has F o) 0 (0 ∷ []) t (λ j m. go j m))
+pub span-le : (f : Family) (t : List Frame) (F n : ℕ) → SpanOf f t F n → n ≤ inside t F
+span-le f t F n s =
+    omega (arith, s .weighs, on-chain-of f t F (s .chain) (s .is-chain), more cycles (λ k o. has k (s .chain)) (λ k o. has F o) 0 (0 ∷ []) t (λ j m. go j m))
   where
     go : (j : ℕ) → T (has (0 + j) (s .chain)) → T (has F (openAt t j))
     go j m = let e : 0 + j ≡ j = omega arith in each-has (CostIn t F) (s .chain) j (s .is-chain .costs) (subst (λ (i : ℕ). T (has i (s .chain))) e m) .inside
 
-sums-le : (t : List Frame) (l : List ℕ) (n : ℕ) → Sum (Span t) l n → n ≤ sum (inside t) l
-sums-le t [] n h = omega arith
-sums-le t (F ∷ l) n h = omega (arith, h .4, span-le t F (h .0) (h .2), sums-le t l (h .1) (h .3))
+sums-le : (f : Family) (t : List Frame) (l : List ℕ) (n : ℕ) → Sum (SpanOf f t) l n → n ≤ sum (inside t) l
+sums-le f t [] n h = omega arith
+sums-le f t (F ∷ l) n h = omega (arith, h .4, span-le f t F (h .0) (h .2), sums-le f t l (h .1) (h .3))
 
-pub spans-le : (t : List Frame) (s n : ℕ) → Spans t s n → n ≤ work t s
-spans-le t s n h = sums-le t (counted t s) n h
+pub spans-le : (f : Family) (t : List Frame) (s n : ℕ) → SpansOf f t s n → n ≤ work t s
+spans-le f t s n h = sums-le f t (counted t s) n h
 
 -- in any measure
 on-le : (m : Measure) (t : List Frame) (c : List ℕ) (s : ℕ) → sum (directOn m t c) (ofRow t s) ≤ sum (direct m t) (ofRow t s)
-on-le m t c s = sum-le (directOn m t c) (direct m t) (λ F. more m (λ k o. firstIs F o && has k c) (λ k o. firstIs F o) 0 (0 ∷ []) t (λ j h. left (firstIs F (openAt t j)) (has (0 + j) c) h)) (ofRow t s)
+on-le m t c s = sum-le (directOn m t c) (direct m t) (λ F. more m (λ k o. ownerIs t F o && has k c) (λ k o. ownerIs t F o) 0 (0 ∷ []) t (λ j h. left (ownerIs t F (openAt t j)) (has (0 + j) c) h)) (ofRow t s)
   where
     left : (a b : Bool) → T (a && b) → T a
     left true b h = tt

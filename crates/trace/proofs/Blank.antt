@@ -1,11 +1,13 @@
 -- The tree of a trace without its places has the same numbers, chains and rows; and traces that differ only in places
 -- have one such tree.
 use mathlib.Core.Path.{_≡_, refl, sym, _∙_, ap, ap₂, subst}
-use mathlib.Core.Bool.{cond}
+use mathlib.Core.Bool.{cond, _&&_}
 use mathlib.Core.List.{List}
 use Prim.Native.Nat.{ℕ, zero, suc, _+_}
 use native.Mathlib.Omega.{arith}
 use lib.Dec.{eqb}
+use Rattle.line.specs.declared.Family.{Family}
+use Rattle.line.specs.declared.Family.the-variants.{Base, Finishes}
 use Rattle.line.specs.declared.Frame.{Frame}
 use Rattle.chain.specs.Plan.{CostLine, weight}
 use Rattle.chain.specs.Over.{linesIn}
@@ -13,7 +15,7 @@ use Rattle.trace.specs.declared.Answer.{Answer}
 use Rattle.trace.specs.declared.Answer.the-variants.{Accepted}
 use Rattle.trace.specs.Column.{Column}
 use Rattle.trace.specs.Promise.{Engine, marks, Lent, Marked}
-use Rattle.trace.specs.Tree.{Way, call, spawn, opening, Note, site, carry, Leaf, spend, sync, note, lineOf, leafWork, Body, done, leaf, child, linesOf, ahead, leafCycles, leafInstructions, size, Parts, allOf, directOf, workOf, localOf, ilocalOf, spanOf, madeSum, rowSum, outerSum, outerRow}
+use Rattle.trace.specs.Tree.{Way, call, spawn, async, pass, finish, invokes, opening, Note, site, carry, Leaf, spend, sync, note, lineOf, leafWork, Body, done, leaf, child, LeafOf, Of, linesOf, ahead, leafCycles, leafInstructions, size, PartsOf, allOf, directOf, workOf, localOf, ilocalOf, spanOf, madeSum, rowSum, outerSum, outerRow}
 use Rattle.trace.specs.Fold.{itsCycles, itsInstructions, Chains, nothing, joined, called, spawned, leafChains, ended, childChains, run, chainOf, onRow}
 use Rattle.trace.specs.ByTree.{cell, ProfileBy}
 use Rattle.trace.proofs.Tree.{body-one}
@@ -43,6 +45,9 @@ blank-leaf (note (carry v)) = refl
 blank-opening : (w : Way) (s : ℕ) → blank (opening w s) ≡ opening w s
 blank-opening call s = refl
 blank-opening spawn s = refl
+blank-opening async s = refl
+blank-opening pass s = refl
+blank-opening finish s = refl
 
 blanks-lines : (b : Body) → blanks (linesOf b) ≡ linesOf (blankBody b)
 blanks-lines done = refl
@@ -92,14 +97,17 @@ module _ (m : Leaf → Body → ℕ) (same : (l : Leaf) (r : Body) → m (blankL
   direct-blank : (b : Body) → directOf m (blankBody b) ≡ directOf m b
   direct-blank done = refl
   direct-blank (leaf l r) = omega (arith, same l r, direct-blank r)
-  direct-blank (child w s g r) = direct-blank r
+  direct-blank (child w s g r) = ap₂ (λ (x y : ℕ). cond (invokes w) y (x + y)) (direct-blank g) (direct-blank r)
 
 work-blank : (b : Body) → workOf (blankBody b) ≡ workOf b
 work-blank = all-blank leafCycles cycles-leaf
 
-child-chains : (w : Way) (f h : Chains → Chains) (k : Chains) → ended f ≡ ended h → childChains w f k ≡ childChains w h k
-child-chains call f h k e = ap (λ (c : List CostLine). called c k) e
-child-chains spawn f h k e = ap (λ (c : List CostLine). spawned c k) e
+child-chains : (w : Way) (f h : Chains → Chains) (k : Chains) → ((c : Chains) → f c ≡ h c) → childChains w f k ≡ childChains w h k
+child-chains call f h k e = ap (λ (c : Chains). called (joined c .p) k) (e nothing)
+child-chains spawn f h k e = ap (λ (c : Chains). spawned (joined c .p) k) (e nothing)
+child-chains async f h k e = ap (λ (c : Chains). spawned (joined c .p) k) (e nothing)
+child-chains pass f h k e = e k
+child-chains finish f h k e = ap (λ (c : Chains). called (joined c .p) k) (e nothing)
 
 run-blank : (b : Body) (n s : ℕ) (k : Chains) → run n s (blankBody b) k ≡ run n s b k
 run-blank done n s k = refl
@@ -109,7 +117,7 @@ run-blank (leaf l r) n s k =
 run-blank (child w i g r) n s k =
     ap (λ (m : ℕ). run (suc n + m) s (blankBody r) (childChains w (run (suc n) i (blankBody g)) k)) (size-blank g)
     ∙ run-blank r (suc n + size g) s (childChains w (run (suc n) i (blankBody g)) k)
-    ∙ ap (run (suc n + size g) s r) (child-chains w (run (suc n) i (blankBody g)) (run (suc n) i g) k (ap (λ (c : Chains). joined c .p) (run-blank g (suc n) i nothing)))
+    ∙ ap (run (suc n + size g) s r) (child-chains w (run (suc n) i (blankBody g)) (run (suc n) i g) k (run-blank g (suc n) i))
 
 chain-blank : (b : Body) → chainOf 0 0 (blankBody b) ≡ chainOf 0 0 b
 chain-blank b = ap (λ (c : Chains). joined c .p) (run-blank b 0 0 nothing)
@@ -122,12 +130,12 @@ module _ (h : Body → ℕ) (same : (b : Body) → h (blankBody b) ≡ h b) wher
   made-blank : (s : ℕ) (b : Body) → madeSum h s (blankBody b) ≡ madeSum h s b
   made-blank s done = refl
   made-blank s (leaf l r) = made-blank s r
-  made-blank s (child w i g r) = omega (arith, ap (λ (x : ℕ). cond (eqb i s) x 0) (same g), made-blank s g, made-blank s r)
+  made-blank s (child w i g r) = omega (arith, ap (λ (x : ℕ). cond (invokes w && eqb i s) x 0) (same g), made-blank s g, made-blank s r)
 
   outer-blank : (s : ℕ) (b : Body) → outerSum h s (blankBody b) ≡ outerSum h s b
   outer-blank s done = refl
   outer-blank s (leaf l r) = outer-blank s r
-  outer-blank s (child w i g r) = omega (arith, ap₂ (λ (x y : ℕ). cond (eqb i s) x y) (same g) (outer-blank s g), outer-blank s r)
+  outer-blank s (child w i g r) = omega (arith, ap₂ (λ (x y : ℕ). cond (invokes w && eqb i s) x y) (same g) (outer-blank s g), outer-blank s r)
 
   row-blank : (s : ℕ) (b : Body) → rowSum h s (blankBody b) ≡ rowSum h s b
   row-blank zero b = same b
@@ -172,8 +180,20 @@ module _ (e : Engine) (m : ℕ) (b : Body) (c : Lent) (q : Answer) (y : Lent) wh
         marked = subst (λ (A : Type 0). A) marked-blank (h .marked);
       }
 
+-- it is a body of the same family
+of-blank : (f : Family) (r : ℕ) (b : Body) → Of f r b → Of f r (blankBody b)
+of-blank f r done h = tt
+of-blank f r (leaf l b) h = (leaf-of f l (h .0), of-blank f r b (h .1))
+  where
+    leaf-of : (f : Family) (l : Leaf) → LeafOf f l → LeafOf f (blankLeaf l)
+    leaf-of Base l h = tt
+    leaf-of Finishes (spend v) h = tt
+    leaf-of Finishes sync h = h
+    leaf-of Finishes (note x) h = tt
+of-blank f r (child w s g b) h = (h .0, of-blank f s g (h .1), of-blank f r b (h .2))
+
 -- LAW: they have one tree but for places
-pub same-parts : (D E : ℕ) (t u : List Frame) (p : Parts D t) (q : Parts E u) → ButPlaces t u → blankBody (p .body) ≡ blankBody (q .body)
-same-parts D E t u p q e =
-    body-one (blankBody (p .body)) (blankBody (q .body))
+pub same-parts : {f : Family} (D E : ℕ) (t u : List Frame) (p : PartsOf f D t) (q : PartsOf f E u) → ButPlaces t u → blankBody (p .body) ≡ blankBody (q .body)
+same-parts {f = f} D E t u p q e =
+    body-one f 0 (blankBody (p .body)) (blankBody (q .body)) (of-blank f 0 (p .body) (p .of)) (of-blank f 0 (q .body) (q .of))
     (sym (ap blanks (p .lines) ∙ blanks-lines (p .body)) ∙ e ∙ ap blanks (q .lines) ∙ blanks-lines (q .body))

@@ -7,6 +7,8 @@ use native.Mathlib.Omega.{arith}
 use native.Mathlib.Nat.{le-dest}
 use lib.ListN.{length, length-append}
 use lib.Dec.{T}
+use Rattle.line.specs.declared.Family.{Family}
+use Rattle.line.specs.declared.Family.the-variants.{Base}
 use Rattle.line.specs.declared.Frame.{Frame}
 use Rattle.line.specs.declared.Frame.the-variants.{Sync, Cost}
 use Rattle.chain.specs.Plan.{CostLine, costs, On, Apart}
@@ -15,14 +17,15 @@ use Rattle.chain.specs.Over as Over
 use Rattle.chain.proofs.Over.{Found, Fits, chosen-by, span-by}
 use Rattle.chain.specs.Over.{linesIn}
 use Rattle.trace.specs.Shape.{Is, root, walk, openAt, has, Parallel}
-use Rattle.trace.specs.Series.{value, valueAt, CostIn, rule, Span, Chosen}
-use Rattle.trace.specs.Tree.{Way, opening, lineOf, spend, sync, note, Body, done, leaf, child, linesOf, ahead, size}
+use Rattle.trace.specs.Series.{value, valueAt, CostIn, ParallelOf, ruleOf, SpanOf, ChosenOf}
+use Rattle.trace.specs.Tree.{Way, opening, lineOf, spend, sync, note, Body, done, leaf, child, Of, linesOf, ahead, size}
 use Rattle.trace.specs.Fold.{costAt, plan, chainOf}
 use Rattle.trace.proofs.Basics.{below, clash}
 use Rattle.trace.proofs.Tree.{size-is, leaf-not-opening, spend-not-note}
 use Rattle.trace.proofs.Levels.{in-of, in-lt}
-use Rattle.trace.proofs.Apart.{costs-two, on-two, apart-beside, beside-apart}
-use Rattle.trace.proofs.Recurrence.{Paid, chain-chosen}
+use Rattle.trace.proofs.Plans.{costs-two, on-two, Paid}
+use Rattle.trace.proofs.Apart.{apart-beside, beside-apart}
+use Rattle.trace.proofs.Recurrence.{chain-chosen}
 use Rattle.trace.proofs.Open.{in-to, in-from}
 use Rattle.trace.proofs.Context.{Ctx, is-append, has-le, at-open, at-is, local-to, local-from}
 
@@ -159,7 +162,16 @@ module _ (t : List Frame) (s F : ℕ) (o : List ℕ) (g : Body) (post : List Fra
           (subst (λ (l : List ℕ). T (has F l)) (sym (at-open t F (F ∷ o) (linesOf g ++ post) x i)) (inside i (omega (arith, size-is g, is-length (linesOf g) i (Cost (y .value)) (w .2))))) in
           (record { is = subst (λ (v : ℕ). Is t (y .line) (Cost v)) (sym e) h; inside = q }, e)
 
-  module _ (y z : CostLine) (my : On (plan F s g) y) (mz : On (plan F s g) z) (lt : y .line < z .line) where
+  -- LAW: the body's plan fits the rule of the invocation's cost lines, where two of its costs are apart exactly where
+  -- their lines are parallel in the family
+  pub fits : (f : Family)
+      → ((y z : CostLine) → On (plan F s g) y → On (plan F s g) z → y .line < z .line → Apart (plan F s g) y z → ParallelOf f t (y .line) (z .line))
+      → ((y z : CostLine) → On (plan F s g) y → On (plan F s g) z → y .line < z .line → ParallelOf f t (y .line) (z .line) → Apart (plan F s g) y z)
+      → Fits (ruleOf f t F) (plan F s g)
+  fits f to from = record { found = cost-on; on = on-cost; apart = to; parallel = from }
+
+  -- in document 01's family
+  module _ (h : Of Base s g) (y z : CostLine) (my : On (plan F s g) y) (mz : On (plan F s g) z) (lt : y .line < z .line) where
     -- LAW: parallel by the definition exactly where apart in the plan
     pub apart-is-parallel : Apart (plan F s g) y z → Parallel t (y .line) (z .line)
     apart-is-parallel a = go (on-where g F s y my) (on-where g F s z mz)
@@ -171,7 +183,7 @@ module _ (t : List Frame) (s F : ℕ) (o : List ℕ) (g : Body) (post : List Fra
             subst₂ (λ (i j : ℕ). Parallel t i j) (sym (u .1)) (sym (w .1))
             (local-from t F F o (linesOf g ++ post) x (u .0) (w .0) (inside (u .0) (omega (arith, size-is g))) (inside (w .0) (omega (arith, size-is g)))
             (omega (arith, u .1, w .1)) (omega (arith, length-append (linesOf g) post))
-            (apart-beside g F s post y z (u .0) (w .0) (u .1) (w .1) a))
+            (apart-beside g F s h post y z (u .0) (w .0) (u .1) (w .1) a))
 
     pub parallel-is-apart : Parallel t (y .line) (z .line) → Apart (plan F s g) y z
     parallel-is-apart p = go (on-where g F s y my) (on-where g F s z mz)
@@ -180,19 +192,17 @@ module _ (t : List Frame) (s F : ℕ) (o : List ℕ) (g : Body) (post : List Fra
         go u w =
             let li = is-length (linesOf g) (u .0) (Cost (y .value)) (u .2) in
             let lj = is-length (linesOf g) (w .0) (Cost (z .value)) (w .2) in
-            beside-apart g F s post y z (u .0) (w .0) (u .1) (w .1) my mz lt
+            beside-apart g F s h post y z (u .0) (w .0) (u .1) (w .1) my mz lt
             (local-to t F F o (linesOf g ++ post) x (u .0) (w .0) (inside (u .0) (omega (arith, size-is g))) (inside (w .0) (omega (arith, size-is g)))
             (omega (arith, u .1, w .1)) (omega (arith, length-append (linesOf g) post))
             (subst₂ (λ (i j : ℕ). Parallel t i j) (u .1) (w .1) p))
 
-  -- LAW: the body's plan fits the rule of the invocation's cost lines
-  fits : Fits (rule t F) (plan F s g)
-  fits = record { found = cost-on; on = on-cost; apart = apart-is-parallel; parallel = parallel-is-apart }
-
+-- the same invocation, whose plan fits the family's rule
+module _ (f : Family) (t : List Frame) (s F : ℕ) (g : Body) (k : Fits (ruleOf f t F) (plan F s g)) where
   -- LAW: the span is the weight of the recurrence's chain
-  pub span-of : Paid g → Span t F (P.weight (chainOf F s g))
-  span-of h = span-by (rule t F) (plan F s g) fits (chainOf F s g) (chain-chosen g F s h)
+  pub span-of : Paid g → SpanOf f t F (P.weight (chainOf F s g))
+  span-of h = span-by (ruleOf f t F) (plan F s g) k (chainOf F s g) (chain-chosen g F s h)
 
   -- LAW: the chosen chain of the root is the recurrence's chain
-  pub chosen-of : Paid g → F ≡ root → Chosen t (linesIn (chainOf F s g))
-  chosen-of h r = subst (λ (G : ℕ). Over.Chosen (rule t G) (linesIn (chainOf F s g))) r (chosen-by (rule t F) (plan F s g) fits (chainOf F s g) (chain-chosen g F s h))
+  pub chosen-of : Paid g → F ≡ root → ChosenOf f t (linesIn (chainOf F s g))
+  chosen-of h r = subst (λ (G : ℕ). Over.Chosen (ruleOf f t G) (linesIn (chainOf F s g))) r (chosen-by (ruleOf f t F) (plan F s g) k (chainOf F s g) (chain-chosen g F s h))

@@ -9,7 +9,8 @@ use native.Mathlib.Omega.{arith}
 use lib.ListN.{length}
 use lib.Dec.{eqb}
 use borrow.Author.Tests.{eqb-true, eqb-false}
-use Rattle.trace.specs.Refusals.{outOfRange, broken, lineCount, tooMany, checks, refused, scan, reads, verdict}
+use Rattle.line.specs.declared.Family.{Family}
+use Rattle.trace.specs.Refusals.{outOfRange, broken, lineCount, tooMany, checks, refused, scan, readsOf, verdictOf}
 use Rattle.trace.specs.Promise.{Engine, tables, marks, Lent, enough}
 
 -- a, b, c: checks 1, 2 and 3 fail; room: check 4 does not
@@ -50,13 +51,13 @@ same-room tables s u D M lent h = refl
 same-room marks s u D M lent h = rw h
 
 -- LAW: where the checks pass the lines decide, and where one fails its number is the verdict, with line 0
-pub by-checks : (s : List ℕ) (D M : ℕ) (room : Bool)
-    → ((checks (length s) D M room ≡ 0) × (verdict s D M room ≡ scan D M [] (reads s)))
-    ⊎ ((checks (length s) D M room ≡ 0 → ⊥) × (verdict s D M room ≡ refused (checks (length s) D M room) 0))
-by-checks s D M room = go (eqb (checks (length s) D M room) 0) refl
+pub by-checks : (g : Family) (s : List ℕ) (D M : ℕ) (room : Bool)
+    → ((checks (length s) D M room ≡ 0) × (verdictOf g s D M room ≡ scan D M [] (readsOf g s)))
+    ⊎ ((checks (length s) D M room ≡ 0 → ⊥) × (verdictOf g s D M room ≡ refused (checks (length s) D M room) 0))
+by-checks g s D M room = go (eqb (checks (length s) D M room) 0) refl
   where
     go : (b : Bool) → eqb (checks (length s) D M room) 0 ≡ b
-        → ((checks (length s) D M room ≡ 0) × (verdict s D M room ≡ scan D M [] (reads s)))
-        ⊎ ((checks (length s) D M room ≡ 0 → ⊥) × (verdict s D M room ≡ refused (checks (length s) D M room) 0))
-    go true e = inl (eqb-true (checks (length s) D M room) 0 e, ap (λ (x : Bool). cond x (scan D M [] (reads s)) (refused (checks (length s) D M room) 0)) e)
-    go false e = inr (eqb-false (checks (length s) D M room) 0 e, ap (λ (x : Bool). cond x (scan D M [] (reads s)) (refused (checks (length s) D M room) 0)) e)
+        → ((checks (length s) D M room ≡ 0) × (verdictOf g s D M room ≡ scan D M [] (readsOf g s)))
+        ⊎ ((checks (length s) D M room ≡ 0 → ⊥) × (verdictOf g s D M room ≡ refused (checks (length s) D M room) 0))
+    go true e = inl (eqb-true (checks (length s) D M room) 0 e, ap (λ (x : Bool). cond x (scan D M [] (readsOf g s)) (refused (checks (length s) D M room) 0)) e)
+    go false e = inr (eqb-false (checks (length s) D M room) 0 e, ap (λ (x : Bool). cond x (scan D M [] (readsOf g s)) (refused (checks (length s) D M room) 0)) e)

@@ -9,8 +9,8 @@ use native.Mathlib.Nat.{suc-add, le-dest}
 use lib.ListN.{length}
 use lib.Dec.{T}
 use Rattle.line.specs.declared.Frame.{Frame}
-use Rattle.line.specs.declared.Frame.the-variants.{Site, Call, Spawn, Sync, Return, Cost, Instructions}
-use Rattle.trace.specs.Shape.{Is, step, walk, openAt, has, firstIs, Parallel}
+use Rattle.line.specs.declared.Frame.the-variants.{Site, Call, Spawn, Sync, Return, Cost, Instructions, Async, Finish}
+use Rattle.trace.specs.Shape.{Is, root, step, walk, openAt, has, firstIs, Parallel}
 use Rattle.trace.proofs.Basics.{below}
 use Rattle.trace.proofs.Levels.{climb, never, Beside}
 use Rattle.trace.proofs.Open.{has-cases, has-later, first-has, Below, Low, Nth, gone, in-from}
@@ -25,9 +25,35 @@ walk-append n o (e ∷ p) v j =
     let q : suc n + length p ≡ n + suc (length p) = omega arith in
     ap (walk n o (e ∷ (p ++ v))) (suc-add (length p) j) ∙ walk-append (suc n) (step n e o) p v j ∙ ap (λ (k : ℕ). walk k (walk (suc n) (step n e o) p (length p)) v j) q
 
+pub walk-start : (n : ℕ) (o : List ℕ) (u : List Frame) → walk n o u 0 ≡ o
+walk-start n o [] = refl
+walk-start n o (e ∷ u) = refl
+
 pub is-append : (p v : List Frame) (j : ℕ) (f : Frame) → Is (p ++ v) (length p + j) f ≡ Is v j f
 is-append [] v j f = let e : 0 + j ≡ j = omega arith in ap (λ (k : ℕ). Is v k f) e
 is-append (e ∷ p) v j f = ap (λ (k : ℕ). Is (e ∷ (p ++ v)) k f) (suc-add (length p) j) ∙ is-append p v j f
+
+-- the outermost of these is the root, where there are any
+abbrev pub Rooted : List ℕ → Type 0
+Rooted [] = Unit {0}
+Rooted (c ∷ []) = c ≡ root
+Rooted (c ∷ d ∷ o) = Rooted (d ∷ o)
+
+rooted-closed : (c : ℕ) (o : List ℕ) → Rooted (c ∷ o) → Rooted o
+rooted-closed c [] h = tt
+rooted-closed c (d ∷ o) h = h
+
+-- a line leaves it so
+pub rooted-step : (n : ℕ) (e : Frame) (c : ℕ) (o : List ℕ) → Rooted (c ∷ o) → Rooted (step n e (c ∷ o))
+rooted-step n (Site s p) c o h = h
+rooted-step n (Call s) c o h = h
+rooted-step n (Spawn s) c o h = h
+rooted-step n Sync c o h = h
+rooted-step n Return c o h = rooted-closed c o h
+rooted-step n (Cost v) c o h = h
+rooted-step n (Instructions v) c o h = h
+rooted-step n (Async s) c o h = h
+rooted-step n Finish c o h = h
 
 -- at line n of t the invocations o are open, and v are the lines from there on
 pub record Ctx (t : List Frame) (n : ℕ) (o : List ℕ) (v : List Frame) : Type 0 where
@@ -36,6 +62,7 @@ pub record Ctx (t : List Frame) (n : ℕ) (o : List ℕ) (v : List Frame) : Type
   pub count : length pre ≡ n
   pub opened : walk 0 (0 ∷ []) pre (length pre) ≡ o
   pub low : Low n o
+  pub rooted : Rooted o
   pub alive : Alive n o v
 
 low-more : (n d : ℕ) (o : List ℕ) → Low n o → Low (n + d) o
@@ -68,6 +95,10 @@ module _ (t : List Frame) (n : ℕ) (o : List ℕ) (v : List Frame) (x : Ctx t n
       ap (λ (k : ℕ). Is t (k + j) f) (sym (x .count))
       ∙ ap (λ (s : List Frame). Is s (length (x .pre) + j) f) (x .whole)
       ∙ is-append (x .pre) v j f
+
+  -- what is open at the context's line
+  pub open-here : openAt t n ≡ o
+  open-here = let e : n ≡ n + 0 = omega arith in ap (openAt t) e ∙ at-open 0 ∙ walk-start n o v
 
   -- a place of the trace from the context's line on
   from-here : (k : ℕ) → n ≤ k → (j : ℕ) × (n + j ≡ k)
@@ -129,8 +160,12 @@ module _ (t : List Frame) (n : ℕ) (o : List ℕ) (v : List Frame) (x : Ctx t n
             };
           }
 
+-- line n of the trace is the first of the context's lines
+pub first-is : (t : List Frame) (n : ℕ) (o : List ℕ) (e : Frame) (v : List Frame) → Ctx t n o (e ∷ v) → Is t n e
+first-is t n o e v x = let f : n + 0 ≡ n = omega arith in subst (λ (k : ℕ). Is t k e) f (subst (λ (A : Type 0). A) (sym (at-is t n o (e ∷ v) x 0 e)) refl)
+
 -- what was open around F stays open as long as F is
-keep : (b F k n : ℕ) (o : List ℕ) (u : List Frame) (i : ℕ) → F ≤ n → b < F → Nth F k o → climb (Unit {0}) true never k u i → T (has b o) → T (has b (walk n o u i))
+pub keep : (b F k n : ℕ) (o : List ℕ) (u : List Frame) (i : ℕ) → F ≤ n → b < F → Nth F k o → climb (Unit {0}) true never k u i → T (has b o) → T (has b (walk n o u i))
 keep b F k n o [] i l m h w q = absurd w
 keep b F k n o (e ∷ u) zero l m h w q = q
 keep b F k n o (Site x p ∷ u) (suc i) l m h w q = keep b F k (suc n) o u i (omega arith) m h w q
@@ -144,8 +179,10 @@ keep b F (suc k) n (c ∷ o) (Return ∷ u) (suc i) l m h w q =
     keep b F k (suc n) o u i (omega arith) m (h .1) w (elim (has-cases b c o q) [ inl e ↦ absurd (omega (arith, h .0)) | inr r ↦ r ])
 keep b F k n o (Cost v ∷ u) (suc i) l m h w q = keep b F k (suc n) o u i (omega arith) m h w q
 keep b F k n o (Instructions v ∷ u) (suc i) l m h w q = keep b F k (suc n) o u i (omega arith) m h w q
+keep b F k n o (Async x ∷ u) (suc i) l m h w q = keep b F (suc k) (suc n) (suc n ∷ o) u i (omega arith) m (omega arith, h) w (has-later b (suc n) o q)
+keep b F k n o (Finish ∷ u) (suc i) l m h w q = keep b F (suc k) (suc n) (suc n ∷ o) u i (omega arith) m (omega arith, h) w (has-later b (suc n) o q)
 
-below-lt : (b c : ℕ) (o : List ℕ) → Below b o → T (has c o) → c < b
+pub below-lt : (b c : ℕ) (o : List ℕ) → Below b o → T (has c o) → c < b
 below-lt b c [] h k = absurd k
 below-lt b c (x ∷ o) h k = elim (has-cases c x o k) [ inl e ↦ omega (arith, h .0) | inr m ↦ below-lt b c o (h .1) m ]
 

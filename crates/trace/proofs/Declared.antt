@@ -10,6 +10,7 @@ use lib.Seq.{append-snoc}
 use lib.Dec.{eqb}
 use borrow.Author.Tests.{eqb-true, eq-eqb}
 use Rattle.line.specs.declared.Place.{Place}
+use Rattle.line.specs.declared.Family.{Family}
 use Rattle.line.specs.declared.Frame.{Frame}
 use Rattle.line.specs.declared.Frame.the-variants.{Site}
 use Rattle.trace.specs.Shape.{Is, sites}
@@ -32,13 +33,13 @@ record InOrder (before : List Frame) (f : Frame) : Type 0 where
   numbered : Numbered before
   not8 : misplaced before f ≡ false
 
-in-order : (D M : ℕ) (before u : List Frame) → Clean D M before u → Numbered before → (k : ℕ) (f : Frame) → Is u k f → InOrder (before ++ take k u) f
-in-order D M before [] c n k f i = absurd i
-in-order D M before (e ∷ u) c n zero f i =
+in-order : (x : Family) (D M : ℕ) (before u : List Frame) → Clean x D M before u → Numbered before → (k : ℕ) (f : Frame) → Is u k f → InOrder (before ++ take k u) f
+in-order x D M before [] c n k f i = absurd i
+in-order x D M before (e ∷ u) c n zero f i =
     subst (λ (b : List Frame). InOrder b f) (sym (append-nil before)) (record { numbered = n; not8 = subst (λ (g : Frame). misplaced before g ≡ false) i (faultless D M before e (c .0) .not8) })
-in-order D M before (e ∷ u) c n (suc k) f i =
+in-order x D M before (e ∷ u) c n (suc k) f i =
     subst (λ (b : List Frame). InOrder b f) (append-snoc before e (take k u))
-    (in-order D M (before ++ e ∷ []) u (c .2) (numbered-snoc before e (faultless D M before e (c .0) .not8) n) k f i)
+    (in-order x D M (before ++ e ∷ []) u (c .2) (numbered-snoc before e (faultless D M before e (c .0) .not8) n) k f i)
 
 -- a site line counts from the next line on
 counts : (t : List Frame) (i j s : ℕ) (p : Place) → Is t i (Site s p) → i < j → sites (take i t) < sites (take j t)
@@ -95,21 +96,21 @@ placed-last p s (f ∷ b) =
     either-way (λ (x : Bool). x ≡ true) f (λ i q. ap (λ (x : Bool). samePlace p q || x) (placed-last p s b) ∙ or-true (samePlace p q)) (placed-last p s b)
 
 -- a place that was declared is not declared again
-not-again : (D M : ℕ) (before u : List Frame) → Clean D M before u → (p : Place) → placed p before ≡ true → (k s : ℕ) → Is u k (Site s p) → ⊥
-not-again D M before [] c p d k s i = i
-not-again D M before (f ∷ u) c p d zero s i = no-way (sym (subst (λ (g : Frame). placeAgain before g ≡ false) i (faultless D M before f (c .0) .not10)) ∙ d)
-not-again D M before (f ∷ u) c p d (suc k) s i = not-again D M (before ++ f ∷ []) u (c .2) p (placed-more p before (f ∷ []) d) k s i
+not-again : (x : Family) (D M : ℕ) (before u : List Frame) → Clean x D M before u → (p : Place) → placed p before ≡ true → (k s : ℕ) → Is u k (Site s p) → ⊥
+not-again x D M before [] c p d k s i = i
+not-again x D M before (f ∷ u) c p d zero s i = no-way (sym (subst (λ (g : Frame). placeAgain before g ≡ false) i (faultless D M before f (c .0) .not10)) ∙ d)
+not-again x D M before (f ∷ u) c p d (suc k) s i = not-again x D M (before ++ f ∷ []) u (c .2) p (placed-more p before (f ∷ []) d) k s i
 
-once : (D M : ℕ) (before t : List Frame) → Clean D M before t → (i j s u : ℕ) (p : Place) → Is t i (Site s p) → Is t j (Site u p) → i < j → ⊥
-once D M before [] c i j s u p a b l = a
-once D M before (f ∷ t) c i zero s u p a b l = omega arith
-once D M before (f ∷ t) c zero (suc j) s u p a b l =
-    not-again D M (before ++ f ∷ []) t (c .2) p (subst (λ (g : Frame). placed p (before ++ g ∷ []) ≡ true) (sym a) (placed-last p s before)) j u b
-once D M before (f ∷ t) c (suc i) (suc j) s u p a b l = once D M (before ++ f ∷ []) t (c .2) i j s u p a b (omega arith)
+once : (x : Family) (D M : ℕ) (before t : List Frame) → Clean x D M before t → (i j s u : ℕ) (p : Place) → Is t i (Site s p) → Is t j (Site u p) → i < j → ⊥
+once x D M before [] c i j s u p a b l = a
+once x D M before (f ∷ t) c i zero s u p a b l = omega arith
+once x D M before (f ∷ t) c zero (suc j) s u p a b l =
+    not-again x D M (before ++ f ∷ []) t (c .2) p (subst (λ (g : Frame). placed p (before ++ g ∷ []) ≡ true) (sym a) (placed-last p s before)) j u b
+once x D M before (f ∷ t) c (suc i) (suc j) s u p a b l = once x D M (before ++ f ∷ []) t (c .2) i j s u p a b (omega arith)
 
-module _ (D M : ℕ) (t : List Frame) (f : Fine D M t) where
+module _ (x : Family) (D M : ℕ) (t : List Frame) (f : Fine x D M t) where
   passed : (i s : ℕ) (p : Place) → Is t i (Site s p) → InOrder (take i t) (Site s p)
-  passed i s p a = in-order D M [] t (f .clean) numbered-start i (Site s p) a
+  passed i s p a = in-order x D M [] t (f .clean) numbered-start i (Site s p) a
 
   -- LAW: site lines are numbered 1, 2, 3 and on: a site line's number is one above the number of sites before it
   pub site-number : (i s : ℕ) (p : Place) → Is t i (Site s p) → s ≡ suc (sites (take i t))
@@ -125,4 +126,4 @@ module _ (D M : ℕ) (t : List Frame) (f : Fine D M t) where
 
   -- LAW: "No two have the same place."
   pub place-once : (i j s u : ℕ) (p : Place) → Is t i (Site s p) → Is t j (Site u p) → i ≡ j
-  place-once i j s u p a b = one-line i j (once D M [] t (f .clean) i j s u p a b) (once D M [] t (f .clean) j i u s p b a)
+  place-once i j s u p a b = one-line i j (once x D M [] t (f .clean) i j s u p a b) (once x D M [] t (f .clean) j i u s p b a)

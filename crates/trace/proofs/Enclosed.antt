@@ -7,18 +7,19 @@ use Prim.Native.Nat.{ℕ, zero, suc, _+_}
 use native.Mathlib.Omega.{arith}
 use lib.Dec.{T, eqb}
 use borrow.Author.Tests.{eq-eqb, ne-eqb}
+use Rattle.line.specs.declared.Family.{Family}
 use Rattle.line.specs.declared.Frame.{Frame}
-use Rattle.line.specs.declared.Frame.the-variants.{Site, Call, Spawn, Sync, Return, Cost, Instructions}
+use Rattle.line.specs.declared.Frame.the-variants.{Site, Call, Spawn, Sync, Return, Cost, Instructions, Async, Finish}
 use Rattle.chain.specs.Over.{Each}
 use Rattle.trace.specs.Shape.{root, step, walk, openAt, has, firstIs, Open, Contains, Directly}
-use Rattle.trace.specs.Series.{Span}
-use Rattle.trace.specs.Rows.{ofRow, hasOf, enclosed, unenclosed, outermost, inside, sum, Sum, work, Spans}
-use Rattle.trace.specs.Tree.{Way, Body, done, leaf, child, Parts, workOf, spanOf, madeSum, rowSum, outerSum, outerRow}
+use Rattle.trace.specs.Series.{SpanOf}
+use Rattle.trace.specs.Rows.{ofRow, hasOf, enclosed, unenclosed, outermost, inside, sum, Sum, work, SpansOf}
+use Rattle.trace.specs.Tree.{Way, invokes, Body, done, leaf, child, PartsOf, workOf, spanOf, madeSum, rowSum, outerSum, outerRow}
 use Rattle.trace.proofs.Sums.{same-or-not}
 use Rattle.trace.proofs.Open.{or-cases, or-right, has-cases, has-later, has-here, first-eq}
 use Rattle.trace.proofs.Invocations.{row-sum}
 use Rattle.trace.proofs.Stretches.{span-is, inside-is}
-use Rattle.trace.proofs.Unique.{span-unique, sum-unique}
+use Rattle.trace.proofs.Unique.{span-unique-of, sum-unique}
 use Rattle.trace.proofs.Columns.{sum-from}
 use Rattle.trace.proofs.Outermost.{work-tree, spans-tree}
 
@@ -116,6 +117,8 @@ module _ (t : List Frame) where
   stacked-step n Return (c ∷ o) q h = h .1
   stacked-step n (Cost v) o q h = h
   stacked-step n (Instructions v) o q h = h
+  stacked-step n (Async i) o q h = (sym q, h)
+  stacked-step n Finish o q h = (sym q, h)
 
   stacked-walk : (n : ℕ) (o : List ℕ) (u : List Frame) (j : ℕ) → ((k : ℕ) → openAt t (n + k) ≡ walk n o u k) → Stacked t o
       → Stacked t (walk n o u j)
@@ -167,12 +170,12 @@ module _ (t : List Frame) where
   neither-around f g i j a b c d = (λ h. b (contains-too (suc f) g j h c), λ h. d (contains-too (suc g) f i h a))
 
 -- LAW: by the tree, two made one after the other
-pub both-added : (h : Body → ℕ) (s : ℕ) (v w : Way) (a b r : Body) → outerSum h s (child v s a (child w s b r)) ≡ h a + (h b + outerSum h s r)
-both-added h s v w a b r =
+pub both-added : (h : Body → ℕ) (s : ℕ) (v w : Way) (a b r : Body) → invokes v ≡ true → invokes w ≡ true → outerSum h s (child v s a (child w s b r)) ≡ h a + (h b + outerSum h s r)
+both-added h s v w a b r x y =
     omega (
       arith,
-      ap (λ (x : Bool). cond x (h a) (outerSum h s a)) (eq-eqb s s refl),
-      ap (λ (x : Bool). cond x (h b) (outerSum h s b)) (eq-eqb s s refl),
+      ap₂ (λ (i j : Bool). cond (i && j) (h a) (outerSum h s a)) x (eq-eqb s s refl),
+      ap₂ (λ (i j : Bool). cond (i && j) (h b) (outerSum h s b)) y (eq-eqb s s refl),
     )
 
 -- ── where none is enclosed, the columns are those of all ──
@@ -209,8 +212,8 @@ module _ (t : List Frame) (s : ℕ) (h : Each (λ F. enclosed t s F ≡ false) (
   all-work = ap (sum (inside t)) all-outermost
 
   -- LAW
-  pub all-spans : (n : ℕ) → Sum (Span t) (ofRow t s) n → Spans t s n
-  all-spans n k = subst (λ (l : List ℕ). Sum (Span t) l n) (sym all-outermost) k
+  pub all-spans : (f : Family) (n : ℕ) → Sum (SpanOf f t) (ofRow t s) n → SpansOf f t s n
+  all-spans f n k = subst (λ (l : List ℕ). Sum (SpanOf f t) l n) (sym all-outermost) k
 
 -- ── a site that never calls itself, by the tree ──
 
@@ -218,12 +221,12 @@ module _ (t : List Frame) (s : ℕ) (h : Each (λ F. enclosed t s F ≡ false) (
 abbrev pub Alone : ℕ → Body → Type 0
 Alone s done = Unit {0}
 Alone s (leaf l r) = Alone s r
-Alone s (child w i g r) = (i ≡ s → madeSum (λ b. 1) s g ≡ 0) × Alone s g × Alone s r
+Alone s (child w i g r) = ((invokes w && eqb i s) ≡ true → madeSum (λ b. 1) s g ≡ 0) × Alone s g × Alone s r
 
 none-none : (h : Body → ℕ) (s : ℕ) (b : Body) → madeSum (λ b. 1) s b ≡ 0 → madeSum h s b ≡ 0
 none-none h s done e = refl
 none-none h s (leaf l r) e = none-none h s r e
-none-none h s (child w i g r) e = go (eqb i s) e (none-none h s g) (none-none h s r)
+none-none h s (child w i g r) e = go (invokes w && eqb i s) e (none-none h s g) (none-none h s r)
   where
     go : (b : Bool) → cond b 1 0 + (madeSum (λ b. 1) s g + madeSum (λ b. 1) s r) ≡ 0 → (madeSum (λ b. 1) s g ≡ 0 → madeSum h s g ≡ 0)
         → (madeSum (λ b. 1) s r ≡ 0 → madeSum h s r ≡ 0) → cond b (h g) 0 + (madeSum h s g + madeSum h s r) ≡ 0
@@ -234,22 +237,18 @@ none-none h s (child w i g r) e = go (eqb i s) e (none-none h s g) (none-none h 
 pub alone-all : (h : Body → ℕ) (s : ℕ) (b : Body) → Alone s b → outerSum h s b ≡ madeSum h s b
 alone-all h s done a = refl
 alone-all h s (leaf l r) a = alone-all h s r a
-alone-all h s (child w i g r) a = elim (same-or-not i s) [
-  | inl e ↦ (
-      let x : cond (eqb i s) (h g) (outerSum h s g) ≡ h g = ap (λ (b : Bool). cond b (h g) (outerSum h s g)) (eq-eqb i s e) in
-      let y : cond (eqb i s) (h g) 0 ≡ h g = ap (λ (b : Bool). cond b (h g) 0) (eq-eqb i s e) in
-      omega (arith, none-none h s g (a .0 e), alone-all h s r (a .2)))
-  | inr n ↦ (
-      let x : cond (eqb i s) (h g) (outerSum h s g) ≡ outerSum h s g = ap (λ (b : Bool). cond b (h g) (outerSum h s g)) (ne-eqb i s n) in
-      let y : cond (eqb i s) (h g) 0 ≡ 0 = ap (λ (b : Bool). cond b (h g) 0) (ne-eqb i s n) in
-      omega (arith, alone-all h s g (a .1), alone-all h s r (a .2)))
-]
+alone-all h s (child w i g r) a = go (invokes w && eqb i s) (a .0) (alone-all h s g (a .1)) (alone-all h s r (a .2))
+  where
+    go : (b : Bool) → (b ≡ true → madeSum (λ b. 1) s g ≡ 0) → outerSum h s g ≡ madeSum h s g → outerSum h s r ≡ madeSum h s r
+        → cond b (h g) (outerSum h s g) + outerSum h s r ≡ cond b (h g) 0 + (madeSum h s g + madeSum h s r)
+    go true k x y = omega (arith, none-none h s g (k refl))
+    go false k x y = omega arith
 
 row-alone : (h : Body → ℕ) (s : ℕ) (b : Body) → Alone s b → outerRow h s b ≡ rowSum h s b
 row-alone h zero b a = refl
 row-alone h (suc s) b a = alone-all h (suc s) b a
 
-module _ (D : ℕ) (t : List Frame) (p : Parts D t) (s : ℕ) (a : Alone s (p .body)) where
+module _ {f : Family} (D : ℕ) (t : List Frame) (p : PartsOf f D t) (s : ℕ) (a : Alone s (p .body)) where
   -- LAW: columns 2 and 3 of such a site count all its invocations
   pub alone-work : work t s ≡ sum (inside t) (ofRow t s)
   alone-work =
@@ -257,11 +256,11 @@ module _ (D : ℕ) (t : List Frame) (p : Parts D t) (s : ℕ) (a : Alone s (p .b
       ∙ row-alone workOf s (p .body) a
       ∙ sym (sum-from (inside t) (ofRow t s) (rowSum workOf s (p .body)) (row-sum D t p (λ F w. inside t F ≡ w) workOf (λ F g i. inside-is t F g i) s))
 
-  pub alone-spans : (n : ℕ) → Sum (Span t) (ofRow t s) n → Spans t s n
+  pub alone-spans : (n : ℕ) → Sum (SpanOf f t) (ofRow t s) n → SpansOf f t s n
   alone-spans n h =
-      let all = row-sum D t p (Span t) spanOf (λ F g i. span-is t F g i) s in
-      subst (Spans t s)
-      (row-alone spanOf s (p .body) a ∙ sum-unique (Span t) (span-unique t) (ofRow t s) (rowSum spanOf s (p .body)) n all h) (spans-tree D t p s)
+      let all = row-sum D t p (SpanOf f t) spanOf (λ F g i. span-is t F g i) s in
+      subst (SpansOf f t s)
+      (row-alone spanOf s (p .body) a ∙ sum-unique (SpanOf f t) (span-unique-of f t) (ofRow t s) (rowSum spanOf s (p .body)) n all h) (spans-tree D t p s)
 
 -- ── computed ──
 

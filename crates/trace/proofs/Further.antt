@@ -5,6 +5,7 @@ use mathlib.Core.Bool.{Bool, true, false}
 use mathlib.Core.List.{List, [], _∷_, _++_, map}
 use Prim.Native.Nat.{ℕ}
 use lib.ListN.{take, replicate}
+use Rattle.line.specs.declared.Family.the-variants.{Base}
 use Rattle.line.specs.declared.Frame.the-variants.{Site, Spawn, Return, Cost, Instructions}
 use Rattle.chain.specs.Plan.{choose}
 use Rattle.chain.specs.Over.{linesIn}
@@ -15,7 +16,7 @@ use Rattle.trace.specs.Refusals.{Verdict, accepted, refused, verdict}
 use Rattle.trace.specs.Tree.{spawn, site, carry, spend, note, Body, done, leaf, child, linesOf}
 use Rattle.trace.specs.Fold.{chainOf}
 use Rattle.trace.specs.Twelve.{text}
-use Rattle.trace.proofs.Twelve.{span-here, chosen-here}
+use Rattle.trace.proofs.Computed.{span-here, chosen-here}
 
 record Ask : Type 0 where
   trace : List ℕ
@@ -108,7 +109,7 @@ met-text =
     text (0x0100010000000a00010005 ∷ 0x0300010000000000000000 ∷ 0x0600000000000400000000 ∷ 0x0500000000000000000000 ∷ 0x0100020000001400010009 ∷ 0x0600000000000500000000 ∷ 0x0500000000000000000000 ∷ [])
 
 pub still-parallel : (verdict met-text 4 2 true ≡ accepted (linesOf met)) × Span (linesOf met) root 5
-still-parallel = (refl, span-here met-text met refl)
+still-parallel = (refl, span-here Base met-text 4 2 met refl refl)
 
 -- 02, request l: "The chain is still chosen by cycles." Cost 1 with 10 instructions, spawn 1 {9 with 2}, cost 5 with 1000,
 -- and a cost 1 with none: the child is on the chain, of fewer instructions than what is beside it.
@@ -131,7 +132,7 @@ unfolding choose
 carrying-chain = refl
 
 pub by-cycles : (verdict carrying-text 4 2 true ≡ accepted (linesOf carrying)) × Span (linesOf carrying) root 10 × Chosen (linesOf carrying) on-chain
-by-cycles = (refl, span-here carrying-text carrying refl, subst (Chosen (linesOf carrying)) carrying-chain (chosen-here carrying-text carrying refl))
+by-cycles = (refl, span-here Base carrying-text 4 2 carrying refl refl, subst (Chosen (linesOf carrying)) carrying-chain (chosen-here Base carrying-text 4 2 carrying refl refl))
 
 -- columns 4 to 7 of both rows
 abbrev columns-of : ℕ → List ℕ

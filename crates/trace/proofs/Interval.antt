@@ -8,6 +8,7 @@ use native.Mathlib.Omega.{arith}
 use native.Mathlib.Nat.{le-dest}
 use lib.ListN.{length, length-append}
 use lib.Dec.{T}
+use Rattle.line.specs.declared.Family.{Family}
 use Rattle.line.specs.declared.Frame.{Frame}
 use Rattle.line.specs.declared.Frame.the-variants.{Return}
 use Rattle.trace.specs.Shape.{Is, closed, step, walk, openAt, has, firstIs, Contains, Directly, Returns}
@@ -15,20 +16,13 @@ use Rattle.trace.specs.Tree.{Body, done, leaf, child, linesOf, size}
 use Rattle.trace.proofs.Basics.{below}
 use Rattle.trace.proofs.Tree.{size-is}
 use Rattle.trace.proofs.Open.{first-has, first-of, first-eq, Below, Low, below-not}
-use Rattle.trace.proofs.Context.{Ctx, at-open, low-walk, has-le}
+use Rattle.trace.proofs.Context.{walk-start, Ctx, low-walk, has-le, at-open, open-here, first-is}
 use Rattle.trace.proofs.Chains.{is-length, inside, within}
 use Rattle.trace.proofs.Invocations.{ctx-leaf, ctx-child, ctx-skip, Inv}
-use Rattle.trace.proofs.Columns.{first-is}
 
 -- the innermost invocation of a context is the one that its first line is directly in
 first-in : (t : List Frame) (n c : ℕ) (o : List ℕ) (v : List Frame) → Ctx t n (c ∷ o) v → Directly t c n
-first-in t n c o v x =
-    let f : n + 0 ≡ n = omega arith in
-    subst (λ (k : ℕ). T (firstIs c (openAt t k))) f (subst (λ (l : List ℕ). T (firstIs c l)) (sym (at-open t n (c ∷ o) v x 0)) (start v))
-  where
-    start : (v : List Frame) → T (firstIs c (walk n (c ∷ o) v 0))
-    start [] = first-of c c o refl
-    start (e ∷ v) = first-of c c o refl
+first-in t n c o v x = subst (λ (l : List ℕ). T (firstIs c l)) (sym (open-here t n (c ∷ o) v x)) (first-of c c o refl)
 
 -- a body's last line is the return of its invocation
 last-line : (t : List Frame) (b : Body) (n c : ℕ) (o : List ℕ) (u : List Frame) → Ctx t n (c ∷ o) (linesOf b ++ u) → (r : ℕ) → suc r ≡ n + size b → Returns t c r
@@ -43,16 +37,12 @@ open-suc : (n : ℕ) (o : List ℕ) (u : List Frame) (k : ℕ) (e : Frame) → I
 open-suc n o [] k e h = absurd h
 open-suc n o (f ∷ u) zero e h =
     let q : n ≡ n + 0 = omega arith in
-    at-start u ∙ ap (λ (x : Frame). step n x o) h ∙ ap (λ (m : ℕ). step m e o) q
-  where
-    at-start : (u : List Frame) → walk (suc n) (step n f o) u zero ≡ step n f o
-    at-start [] = refl
-    at-start (g ∷ u) = refl
+    walk-start (suc n) (step n f o) u ∙ ap (λ (x : Frame). step n x o) h ∙ ap (λ (m : ℕ). step m e o) q
 open-suc n o (f ∷ u) (suc k) e h =
     let q : suc n + k ≡ n + suc k = omega arith in
     open-suc (suc n) (step n f o) u k e h ∙ ap (λ (m : ℕ). step m e (walk (suc n) (step n f o) u k)) q
 
-module _ (t : List Frame) (F : ℕ) (g : Body) (i : Inv t F g) where
+module _ {f : Family} (t : List Frame) (F : ℕ) (g : Body) (i : Inv f t F g) where
   abbrev lines : List Frame
   lines = linesOf g ++ i .post
 

@@ -10,26 +10,28 @@ use native.Mathlib.Numerals.{one-add}
 use native.Mathlib.Omega.{arith}
 use lib.Dec.{when}
 use Rattle.line.specs.declared.Frame.{Frame}
-use Rattle.line.specs.declared.Frame.the-variants.{Site, Call, Spawn, Sync, Return, Cost, Instructions}
-use Rattle.trace.specs.Tree.{Way, call, spawn, opening, Note, site, carry, noteLine, Leaf, spend, sync, note, lineOf, Body, done, leaf, child, linesOf, size}
+use Rattle.line.specs.declared.Frame.the-variants.{Site, Call, Spawn, Sync, Return, Cost, Instructions, Async, Finish}
+use Rattle.trace.specs.Tree.{Way, call, spawn, async, pass, finish, opening, Note, site, carry, noteLine, Leaf, spend, sync, note, lineOf, Body, done, leaf, child, linesOf, size}
 use Rattle.trace.proofs.Basics.{below}
 
 -- A walk to the line that stands i lines on, which counts the invocations that open on the way. hit: what the line
--- itself says. pass: whether a sync directly in the invocation of the first line may be passed. out: what comes after
+-- itself says. over: whether a sync directly in the invocation of the first line may be passed. out: what comes after
 -- that invocation's return.
-module _ (hit : Type 0) (pass : Bool) (out : List Frame → ℕ → Type 0) where
+module _ (hit : Type 0) (over : Bool) (out : List Frame → ℕ → Type 0) where
   abbrev pub climb : ℕ → List Frame → ℕ → Type 0
   climb k [] i = ⊥
   climb k (e ∷ t) zero = hit
   climb k (Site s p ∷ t) (suc i) = climb k t i
   climb k (Call s ∷ t) (suc i) = climb (suc k) t i
   climb k (Spawn s ∷ t) (suc i) = climb (suc k) t i
-  climb zero (Sync ∷ t) (suc i) = when pass (climb zero t i)
+  climb zero (Sync ∷ t) (suc i) = when over (climb zero t i)
   climb (suc k) (Sync ∷ t) (suc i) = climb (suc k) t i
   climb zero (Return ∷ t) (suc i) = out t i
   climb (suc k) (Return ∷ t) (suc i) = climb k t i
   climb k (Cost v ∷ t) (suc i) = climb k t i
   climb k (Instructions v ∷ t) (suc i) = climb k t i
+  climb k (Async s ∷ t) (suc i) = climb (suc k) t i
+  climb k (Finish ∷ t) (suc i) = climb (suc k) t i
 
 abbrev pub never : List Frame → ℕ → Type 0
 never t i = ⊥
@@ -59,22 +61,27 @@ Beside (Sync ∷ t) (suc i) (suc j) = Beside t i j
 Beside (Return ∷ t) (suc i) (suc j) = Beside t i j
 Beside (Cost v ∷ t) (suc i) (suc j) = Beside t i j
 Beside (Instructions v ∷ t) (suc i) (suc j) = Beside t i j
+Beside (Async s ∷ t) (suc i) (suc j) = Beside t i j
+Beside (Finish ∷ t) (suc i) (suc j) = Beside t i j
 
 -- ── what both say of an item's first line ──
 
-module _ (hit : Type 0) (pass : Bool) (out : List Frame → ℕ → Type 0) where
-  climb-note : (x : Note) (k : ℕ) (t : List Frame) (i : ℕ) → climb hit pass out k (noteLine x ∷ t) (suc i) ≡ climb hit pass out k t i
+module _ (hit : Type 0) (over : Bool) (out : List Frame → ℕ → Type 0) where
+  climb-note : (x : Note) (k : ℕ) (t : List Frame) (i : ℕ) → climb hit over out k (noteLine x ∷ t) (suc i) ≡ climb hit over out k t i
   climb-note (site s p) k t i = refl
   climb-note (carry v) k t i = refl
 
-  climb-leaf : (l : Leaf) (k : ℕ) (t : List Frame) (i : ℕ) → climb hit pass out (suc k) (lineOf l ∷ t) (suc i) ≡ climb hit pass out (suc k) t i
+  climb-leaf : (l : Leaf) (k : ℕ) (t : List Frame) (i : ℕ) → climb hit over out (suc k) (lineOf l ∷ t) (suc i) ≡ climb hit over out (suc k) t i
   climb-leaf (spend v) k t i = refl
   climb-leaf sync k t i = refl
   climb-leaf (note x) k t i = climb-note x (suc k) t i
 
-  climb-opening : (w : Way) (s k : ℕ) (t : List Frame) (i : ℕ) → climb hit pass out k (opening w s ∷ t) (suc i) ≡ climb hit pass out (suc k) t i
+  climb-opening : (w : Way) (s k : ℕ) (t : List Frame) (i : ℕ) → climb hit over out k (opening w s ∷ t) (suc i) ≡ climb hit over out (suc k) t i
   climb-opening call s k t i = refl
   climb-opening spawn s k t i = refl
+  climb-opening async s k t i = refl
+  climb-opening pass s k t i = refl
+  climb-opening finish s k t i = refl
 
 -- directly in the invocation, where syncs may be passed
 climb-own : (hit : Type 0) (out : List Frame → ℕ → Type 0) (l : Leaf) (t : List Frame) (i : ℕ) → climb hit true out zero (lineOf l ∷ t) (suc i) ≡ climb hit true out zero t i
@@ -88,27 +95,45 @@ beside-leaf sync t i j = refl
 beside-leaf (note (site s p)) t i j = refl
 beside-leaf (note (carry v)) t i j = refl
 
--- A, where the way is a spawn
+-- A, where the way is a spawn of document 01
 abbrev pub Spawning : Way → Type 0 → Type 0
 Spawning call A = ⊥
 Spawning spawn A = A
+Spawning async A = ⊥
+Spawning pass A = ⊥
+Spawning finish A = ⊥
 
 pub spawning : {A B : Type 0} (w : Way) → (A → B) → Spawning w A → Spawning w B
 spawning call f h = h
 spawning spawn f h = f h
+spawning async f h = h
+spawning pass f h = h
+spawning finish f h = h
 
 pub so : {A : Type 0} (w : Way) → Spawning w A → A
 so call h = absurd h
 so spawn h = h
+so async h = absurd h
+so pass h = absurd h
+so finish h = absurd h
 
 pub beside-opening : (w : Way) (s : ℕ) (t : List Frame) (i j : ℕ) → Spawning w (In t i × Past t j) ⊎ Beside t i j → Beside (opening w s ∷ t) (suc i) (suc j)
 beside-opening call s t i j (inl h) = absurd h
 beside-opening call s t i j (inr h) = h
 beside-opening spawn s t i j h = h
+beside-opening async s t i j (inl h) = absurd h
+beside-opening async s t i j (inr h) = h
+beside-opening pass s t i j (inl h) = absurd h
+beside-opening pass s t i j (inr h) = h
+beside-opening finish s t i j (inl h) = absurd h
+beside-opening finish s t i j (inr h) = h
 
 pub opening-beside : (w : Way) (s : ℕ) (t : List Frame) (i j : ℕ) → Beside (opening w s ∷ t) (suc i) (suc j) → Spawning w (In t i × Past t j) ⊎ Beside t i j
 opening-beside call s t i j h = inr h
 opening-beside spawn s t i j h = h
+opening-beside async s t i j h = inr h
+opening-beside pass s t i j h = inr h
+opening-beside finish s t i j h = inr h
 
 -- ── and of a body's lines ──
 
@@ -120,44 +145,44 @@ bsize (leaf sync r) = 1
 bsize (leaf (note x) r) = suc (bsize r)
 bsize (child w s g r) = suc (size g + bsize r)
 
-module _ (hit : Type 0) (pass : Bool) (out : List Frame → ℕ → Type 0) where
+module _ (hit : Type 0) (over : Bool) (out : List Frame → ℕ → Type 0) where
   -- a climb past a whole body comes one level down
-  pub skip : (b : Body) (k : ℕ) (u : List Frame) (i : ℕ) → climb hit pass out (suc k) (linesOf b ++ u) (size b + i) ≡ climb hit pass out k u i
+  pub skip : (b : Body) (k : ℕ) (u : List Frame) (i : ℕ) → climb hit over out (suc k) (linesOf b ++ u) (size b + i) ≡ climb hit over out k u i
   skip done k u i = rw (one-add i)
-  skip (leaf l r) k u i = rw (suc-add (size r) i) (climb-leaf hit pass out l k (linesOf r ++ u) (size r + i) ∙ skip r k u i)
+  skip (leaf l r) k u i = rw (suc-add (size r) i) (climb-leaf hit over out l k (linesOf r ++ u) (size r + i) ∙ skip r k u i)
   skip (child w s g r) k u i =
       rw (suc-add (size g + size r) i, append-assoc (linesOf g) (linesOf r) u, add-assoc (size g) (size r) i)
-      (climb-opening hit pass out w s (suc k) (linesOf g ++ (linesOf r ++ u)) (size g + (size r + i)) ∙ skip g (suc k) (linesOf r ++ u) (size r + i) ∙ skip r k u i)
+      (climb-opening hit over out w s (suc k) (linesOf g ++ (linesOf r ++ u)) (size g + (size r + i)) ∙ skip g (suc k) (linesOf r ++ u) (size r + i) ∙ skip r k u i)
 
   -- the step of the laws below at a child
   level : (w : Way) (s : ℕ) (g r : Body) (k : ℕ) (u : List Frame) (m i : ℕ) (T : Type 0) → i < size g + m
-      → (i < size g → climb hit pass out (suc k) (linesOf g ++ (linesOf r ++ u)) i ≡ T)
-      → ((j : ℕ) → j < m → climb hit pass out k (linesOf r ++ u) j ≡ T)
-      → climb hit pass out k (linesOf (child w s g r) ++ u) (suc i) ≡ T
+      → (i < size g → climb hit over out (suc k) (linesOf g ++ (linesOf r ++ u)) i ≡ T)
+      → ((j : ℕ) → j < m → climb hit over out k (linesOf r ++ u) j ≡ T)
+      → climb hit over out k (linesOf (child w s g r) ++ u) (suc i) ≡ T
   level w s g r k u m i T h f f′ =
-      rw (append-assoc (linesOf g) (linesOf r) u) (climb-opening hit pass out w s k (linesOf g ++ (linesOf r ++ u)) i ∙ go (below (size g) i))
+      rw (append-assoc (linesOf g) (linesOf r) u) (climb-opening hit over out w s k (linesOf g ++ (linesOf r ++ u)) i ∙ go (below (size g) i))
     where
-      go : (i < size g) ⊎ ((j : ℕ) × (i ≡ size g + j)) → climb hit pass out (suc k) (linesOf g ++ (linesOf r ++ u)) i ≡ T
+      go : (i < size g) ⊎ ((j : ℕ) × (i ≡ size g + j)) → climb hit over out (suc k) (linesOf g ++ (linesOf r ++ u)) i ≡ T
       go (inl l) = f l
       go (inr w) = rw (w .1) (skip g k (linesOf r ++ u) (w .0) ∙ f′ (w .0) (omega (arith, w .1)))
 
   -- a climb that ends in a body of a level above
-  pub arrive : (b : Body) (k : ℕ) (u : List Frame) (i : ℕ) → i < size b → climb hit pass out (suc k) (linesOf b ++ u) i ≡ hit
+  pub arrive : (b : Body) (k : ℕ) (u : List Frame) (i : ℕ) → i < size b → climb hit over out (suc k) (linesOf b ++ u) i ≡ hit
   arrive done k u zero h = refl
   arrive done k u (suc i) h = absurd (omega arith)
   arrive (leaf l r) k u zero h = refl
-  arrive (leaf l r) k u (suc i) h = climb-leaf hit pass out l k (linesOf r ++ u) i ∙ arrive r k u i (omega arith)
+  arrive (leaf l r) k u (suc i) h = climb-leaf hit over out l k (linesOf r ++ u) i ∙ arrive r k u i (omega arith)
   arrive (child w s g r) k u zero h = refl
   arrive (child w s g r) k u (suc i) h = level w s g r (suc k) u (size r) i hit (omega arith) (arrive g (suc k) (linesOf r ++ u) i) (arrive r k u)
 
   -- a climb from the body's own level, up to its first direct sync
-  pub near : (b : Body) (u : List Frame) (i : ℕ) → i < bsize b → climb hit pass out zero (linesOf b ++ u) i ≡ hit
+  pub near : (b : Body) (u : List Frame) (i : ℕ) → i < bsize b → climb hit over out zero (linesOf b ++ u) i ≡ hit
   near done u zero h = refl
   near done u (suc i) h = absurd (omega arith)
   near (leaf l r) u zero h = refl
   near (leaf (spend v) r) u (suc i) h = near r u i (omega arith)
   near (leaf sync r) u (suc i) h = absurd (omega arith)
-  near (leaf (note x) r) u (suc i) h = climb-note hit pass out x zero (linesOf r ++ u) i ∙ near r u i (omega arith)
+  near (leaf (note x) r) u (suc i) h = climb-note hit over out x zero (linesOf r ++ u) i ∙ near r u i (omega arith)
   near (child w s g r) u zero h = refl
   near (child w s g r) u (suc i) h = level w s g r zero u (bsize r) i hit (omega arith) (arrive g zero (linesOf r ++ u) i) (near r u)
 

@@ -5,6 +5,7 @@ pub mod Tree
 pub mod Measures
 pub mod Checks
 pub mod Scan
+pub mod Plans
 pub mod Levels
 pub mod Apart
 pub mod Recurrence
@@ -19,6 +20,9 @@ pub mod Owned
 pub mod Sums
 pub mod Accept
 pub mod Invocations
+pub mod Nearest
+pub mod Asyncs
+pub mod Fits
 pub mod Stretches
 pub mod Unique
 pub mod Root
@@ -36,7 +40,10 @@ pub mod Places
 pub mod Letters
 pub mod Declared
 pub mod Interval
+pub mod Computed
 pub mod Twelve
+pub mod Finishes
 pub mod Further
+pub mod Escaping
 pub mod Enclosed
 pub mod Written

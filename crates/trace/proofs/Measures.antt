@@ -7,7 +7,7 @@ use Rattle.line.specs.declared.Frame.{Frame}
 use Rattle.line.specs.declared.Frame.the-variants.{Return}
 use Rattle.chain.specs.Plan.{CostLine}
 use Rattle.trace.specs.Rows.{cycles, carried, instructions}
-use Rattle.trace.specs.Tree.{Way, call, spawn, opening, Note, site, carry, Leaf, spend, sync, note, lineOf, Body, done, leaf, child, linesOf, ahead, leafCycles, leafInstructions}
+use Rattle.trace.specs.Tree.{Way, call, spawn, async, pass, finish, opening, Note, site, carry, Leaf, spend, sync, note, lineOf, Body, done, leaf, child, linesOf, ahead, leafCycles, leafInstructions}
 use Rattle.trace.specs.Fold.{costAt, itsCycles, itsInstructions}
 use Rattle.trace.proofs.Tree.{leaf-value, opening-value}
 
@@ -45,6 +45,9 @@ carried-lines (leaf (note (site s p)) r) u = refl
 carried-lines (leaf (note (carry v)) r) u = refl
 carried-lines (child call s g r) u = refl
 carried-lines (child spawn s g r) u = refl
+carried-lines (child async s g r) u = refl
+carried-lines (child pass s g r) u = refl
+carried-lines (child finish s g r) u = refl
 
 pub leaf-instructions : (l : Leaf) (r : Body) (u : List Frame) → instructions (lineOf l) (linesOf r ++ u) ≡ leafInstructions l r
 leaf-instructions (spend v) r u = carried-lines r u
@@ -55,6 +58,9 @@ leaf-instructions (note (carry v)) r u = refl
 pub opening-instructions : (w : Way) (s : ℕ) (u : List Frame) → instructions (opening w s) u ≡ 0
 opening-instructions call s u = refl
 opening-instructions spawn s u = refl
+opening-instructions async s u = refl
+opening-instructions pass s u = refl
+opening-instructions finish s u = refl
 
 abbrev pub by-instructions : Measured
 by-instructions =

@@ -7,8 +7,9 @@ use mathlib.Core.List.{List, [], _∷_, _++_, append-nil}
 use Prim.Native.Nat.{ℕ, suc}
 use lib.Dec.{eqb}
 use Rattle.line.specs.declared.Place.{Place}
+use Rattle.line.specs.declared.Family.{Family}
 use Rattle.line.specs.declared.Frame.{Frame}
-use Rattle.line.specs.declared.Frame.the-variants.{Site, Call, Spawn, Sync, Return, Cost, Instructions}
+use Rattle.line.specs.declared.Frame.the-variants.{Site, Call, Spawn, Sync, Return, Cost, Instructions, Async, Finish}
 use Rattle.trace.specs.Shape.{ifSite, sites}
 use Rattle.trace.specs.Refusals.{lastSite, misplaced, aboveM, placed, placeAgain, declared, undeclared}
 use Rattle.trace.proofs.Cases.{both-ways, makes-same}
@@ -36,6 +37,8 @@ naming (Sync ∷ t) = naming t
 naming (Return ∷ t) = naming t
 naming (Cost v ∷ t) = naming t
 naming (Instructions v ∷ t) = naming t
+naming (Async s ∷ t) = Async s ∷ naming t
+naming (Finish ∷ t) = naming t
 
 pub naming-append : (t u : List Frame) → naming (t ++ u) ≡ naming t ++ naming u
 naming-append [] u = refl
@@ -46,6 +49,8 @@ naming-append (Sync ∷ t) u = naming-append t u
 naming-append (Return ∷ t) u = naming-append t u
 naming-append (Cost v ∷ t) u = naming-append t u
 naming-append (Instructions v ∷ t) u = naming-append t u
+naming-append (Async s ∷ t) u = ap (λ (l : List Frame). Async s ∷ l) (naming-append t u)
+naming-append (Finish ∷ t) u = naming-append t u
 
 sites-naming : (t : List Frame) → sites (naming t) ≡ sites t
 sites-naming [] = refl
@@ -56,6 +61,8 @@ sites-naming (Sync ∷ t) = sites-naming t
 sites-naming (Return ∷ t) = sites-naming t
 sites-naming (Cost v ∷ t) = sites-naming t
 sites-naming (Instructions v ∷ t) = sites-naming t
+sites-naming (Async s ∷ t) = sites-naming t
+sites-naming (Finish ∷ t) = sites-naming t
 
 -- lines that name alike have as many sites
 pub sites-alike : (t u : List Frame) → naming t ≡ naming u → sites t ≡ sites u
@@ -70,6 +77,8 @@ last-naming n (Sync ∷ t) = last-naming n t
 last-naming n (Return ∷ t) = last-naming n t
 last-naming n (Cost v ∷ t) = last-naming n t
 last-naming n (Instructions v ∷ t) = last-naming n t
+last-naming n (Async s ∷ t) = last-naming n t
+last-naming n (Finish ∷ t) = last-naming n t
 
 placed-naming : (p : Place) (t : List Frame) → placed p (naming t) ≡ placed p t
 placed-naming p [] = refl
@@ -80,6 +89,8 @@ placed-naming p (Sync ∷ t) = placed-naming p t
 placed-naming p (Return ∷ t) = placed-naming p t
 placed-naming p (Cost v ∷ t) = placed-naming p t
 placed-naming p (Instructions v ∷ t) = placed-naming p t
+placed-naming p (Async s ∷ t) = placed-naming p t
+placed-naming p (Finish ∷ t) = placed-naming p t
 
 declared-naming : (s : ℕ) (t : List Frame) → declared s (naming t) ≡ declared s t
 declared-naming s [] = refl
@@ -90,6 +101,8 @@ declared-naming s (Sync ∷ t) = declared-naming s t
 declared-naming s (Return ∷ t) = declared-naming s t
 declared-naming s (Cost v ∷ t) = declared-naming s t
 declared-naming s (Instructions v ∷ t) = declared-naming s t
+declared-naming s (Async i ∷ t) = declared-naming s t
+declared-naming s (Finish ∷ t) = declared-naming s t
 
 -- what the rules say of a line is the same behind the lines that have a say
 module _ (M : ℕ) (b : List Frame) (f : Frame) where
@@ -123,6 +136,8 @@ says M Sync = inr (record { skipped = λ t. refl; passes = λ b. record { not8 =
 says M Return = inr (record { skipped = λ t. refl; passes = λ b. record { not8 = refl; not9 = refl; not10 = refl; not11 = refl } })
 says M (Cost v) = inr (record { skipped = λ t. refl; passes = λ b. record { not8 = refl; not9 = refl; not10 = refl; not11 = refl } })
 says M (Instructions v) = inr (record { skipped = λ t. refl; passes = λ b. record { not8 = refl; not9 = refl; not10 = refl; not11 = refl } })
+says M (Async s) = inl (λ t. refl)
+says M Finish = inr (record { skipped = λ t. refl; passes = λ b. record { not8 = refl; not9 = refl; not10 = refl; not11 = refl } })
 
 -- one line more, among all lines and among those that have a say
 module _ (M : ℕ) (b : List Frame) (f : Frame) (t : List Frame) where
@@ -148,8 +163,8 @@ module _ (M : ℕ) (b : List Frame) (f : Frame) (t : List Frame) where
   ]
 
 -- LAW: of lines that pass, those that have a say name their sites by the rules
-pub clean-named : (D M : ℕ) (before t : List Frame) → Clean D M before t → Named M (naming before) (naming t)
-clean-named D M before [] c = tt
-clean-named D M before (f ∷ t) c =
+pub clean-named : (g : Family) (D M : ℕ) (before t : List Frame) → Clean g D M before t → Named M (naming before) (naming t)
+clean-named g D M before [] c = tt
+clean-named g D M before (f ∷ t) c =
     let w = faultless D M before f (c .0) in
-    named-cons M before f t (record { not8 = w .not8; not9 = w .not9; not10 = w .not10; not11 = w .not11 }) (clean-named D M (before ++ f ∷ []) t (c .2))
+    named-cons M before f t (record { not8 = w .not8; not9 = w .not9; not10 = w .not10; not11 = w .not11 }) (clean-named g D M (before ++ f ∷ []) t (c .2))

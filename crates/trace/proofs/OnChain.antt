@@ -8,6 +8,7 @@ use Prim.Native.Nat.{ℕ, zero, suc, _+_, _≤_}
 use native.Mathlib.Omega.{arith}
 use lib.Dec.{eqb}
 use borrow.Author.Tests.{eq-eqb, ne-eqb}
+use Rattle.line.specs.declared.Family.{Family}
 use Rattle.line.specs.declared.Frame.{Frame}
 use Rattle.line.specs.declared.Frame.the-variants.{Return}
 use Rattle.chain.specs.Plan.{CostLine, costs, All, Pairs, Less}
@@ -15,13 +16,13 @@ use Rattle.chain.specs.Plan as P
 use Rattle.chain.specs.Over.{linesIn}
 use Rattle.chain.proofs.Lists.{all-map, all-both, all-at, all-append, pairs-map}
 use Rattle.trace.specs.Shape.{root, step, has, sites}
-use Rattle.trace.specs.Series.{Span, Chosen}
+use Rattle.trace.specs.Series.{SpanOf, ChosenOf}
 use Rattle.trace.specs.Rows.{ofRow, instructions, sumOf, costsWhere, total, itotal, direct, directOn, sum, local, onSpan, ilocal, ionSpan}
-use Rattle.trace.specs.Tree.{opening, lineOf, spend, sync, note, Body, done, leaf, child, linesOf, size, Within, Parts}
+use Rattle.trace.specs.Tree.{opening, lineOf, spend, sync, note, Body, done, leaf, child, linesOf, size, Within, PartsOf}
 use Rattle.trace.specs.Fold.{itsCycles, itsInstructions, block, after, plan, onAll, onRow}
 use Rattle.trace.proofs.Basics.{cond-same, cond-le}
 use Rattle.trace.proofs.Measures.{Measured, by-cycles, by-instructions}
-use Rattle.trace.proofs.Apart.{all-together, plan-ordered}
+use Rattle.trace.proofs.Plans.{all-two, plan-ordered}
 use Rattle.trace.proofs.Recurrence.{chain-chosen, weight-chain}
 use Rattle.trace.proofs.Sums.{upTo, up-add, up-same, up-one}
 use Rattle.trace.proofs.Invocations.{whole, root-paid}
@@ -151,10 +152,10 @@ module _ (v : Measured) (q : ℕ → Bool) where
       )
 
   -- LAW: what the lines of a trace come to, picked by number, is what the costs of its plan come to
-  pub at-lines : (D : ℕ) (t : List Frame) (p : Parts D t) → costsWhere (v .of-line) t there ≡ sumWhere (v .of-cost) (λ x. q (x .line)) (costs (plan 0 0 (p .body)))
+  pub at-lines : {f : Family} (D : ℕ) (t : List Frame) (p : PartsOf f D t) → costsWhere (v .of-line) t there ≡ sumWhere (v .of-cost) (λ x. q (x .line)) (costs (plan 0 0 (p .body)))
   at-lines D t p = omega (arith, ap (sumOf (v .of-line) there 0 (root ∷ [])) (whole D t p), body-lines (p .body) 0 0 (root ∷ []) [])
 
-module _ (D : ℕ) (t : List Frame) (p : Parts D t) where
+module _ {f : Family} (D : ℕ) (t : List Frame) (p : PartsOf f D t) where
   abbrev all : List CostLine
   all = costs (plan 0 0 (p .body))
 
@@ -180,15 +181,13 @@ abbrev Row-to : ℕ → CostLine → Type 0
 Row-to m x = x .row ≤ m
 
 -- every cost's row is its invocation's, and so one of 0 to m
-rows-within : (m D d : ℕ) (b : Body) (n r : ℕ) → r ≤ m → Within m D d b → All (Row-to m) (costs (block n r b)) × All (Row-to m) (costs (after n r b))
-rows-within m D d done n r l w = (tt, tt)
-rows-within m D d (leaf (spend v) b) n r l w = let k = rows-within m D d b (suc n) r l (w .1) in ((l, k .0), k .1)
-rows-within m D d (leaf sync b) n r l w = let k = rows-within m D d b (suc n) r l (w .1) in (tt, all-append (Row-to m) (costs (block (suc n) r b)) (costs (after (suc n) r b)) (k .0) (k .1))
+rows-within : (m D d : ℕ) (b : Body) (n r : ℕ) → r ≤ m → Within m D d b → All (Row-to m) (costs (plan n r b))
+rows-within m D d done n r l w = tt
+rows-within m D d (leaf (spend v) b) n r l w = (l, rows-within m D d b (suc n) r l (w .1))
+rows-within m D d (leaf sync b) n r l w = rows-within m D d b (suc n) r l (w .1)
 rows-within m D d (leaf (note x) b) n r l w = rows-within m D d b (suc n) r l (w .1)
 rows-within m D d (child v i g b) n r l w =
-    let h = rows-within m D (suc d) g (suc n) i (w .1) (w .3) in
-    let k = rows-within m D d b (suc n + size g) r l (w .4) in
-    (all-together (Row-to m) v (plan (suc n) i g) (block (suc n + size g) r b) (all-append (Row-to m) (costs (block (suc n) i g)) (costs (after (suc n) i g)) (h .0) (h .1)) (k .0), k .1)
+    all-two (Row-to m) v n r i g b (rows-within m D (suc d) g (suc n) i (w .1) (w .3)) (rows-within m D d b (suc n + size g) r l (w .4))
 
 rows-add : (v : CostLine → ℕ) (w : CostLine → Bool) (m : ℕ) (l : List CostLine) → All (Row-to m) l → upTo (λ s. sumWhere v (λ x. eqb (x .row) s && w x) l) m ≡ sumWhere v w l
 rows-add v w m [] h = zeros m
@@ -204,11 +203,9 @@ rows-add v w m (x ∷ l) h =
       rows-add v w m l (h .1),
     )
 
-module _ (D : ℕ) (t : List Frame) (p : Parts D t) where
+module _ {f : Family} (D : ℕ) (t : List Frame) (p : PartsOf f D t) where
   rows-of-all : All (Row-to (sites t)) (all D t p)
-  rows-of-all =
-      let k = rows-within (sites t) D 1 (p .body) 0 0 (omega arith) (p .within) in
-      all-append (Row-to (sites t)) (costs (block 0 0 (p .body))) (costs (after 0 0 (p .body))) (k .0) (k .1)
+  rows-of-all = rows-within (sites t) D 1 (p .body) 0 0 (omega arith) (p .within)
 
   module _ (v : Measured) where
     -- what stands in all rows is all, in any measure
@@ -234,7 +231,7 @@ module _ (D : ℕ) (t : List Frame) (p : Parts D t) where
   ilocals-add-up = directs-add-up by-instructions
 
   -- LAW: "and column 5 to the total span"
-  pub on-spans-add-up : (c : List ℕ) → Chosen t c → (n : ℕ) → Span t root n → upTo (onSpan t c) (sites t) ≡ n
+  pub on-spans-add-up : (c : List ℕ) → ChosenOf f t c → (n : ℕ) → SpanOf f t root n → upTo (onSpan t c) (sites t) ≡ n
   on-spans-add-up c h n k =
       ap (λ (d : List ℕ). upTo (onSpan t d) (sites t)) (root-chosen-only D t p c h)
       ∙ directs-on-add-up by-cycles (linesIn (rootChain D t p))

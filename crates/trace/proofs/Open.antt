@@ -9,7 +9,7 @@ use lib.ListN.{length}
 use lib.Dec.{T, eqb}
 use borrow.Author.Tests.{eqb-true, eq-eqb}
 use Rattle.line.specs.declared.Frame.{Frame}
-use Rattle.line.specs.declared.Frame.the-variants.{Site, Call, Spawn, Sync, Return, Cost, Instructions}
+use Rattle.line.specs.declared.Frame.the-variants.{Site, Call, Spawn, Sync, Return, Cost, Instructions, Async, Finish}
 use Rattle.trace.specs.Shape.{Is, step, walk, has, firstIs}
 use Rattle.trace.proofs.Basics.{clash}
 use Rattle.trace.proofs.Levels.{climb, never, Near}
@@ -114,6 +114,10 @@ gone b n [] (Return ∷ u) (suc i) l h k = gone b (suc n) [] u i (omega arith) h
 gone b n (c ∷ o) (Return ∷ u) (suc i) l h k = gone b (suc n) o u i (omega arith) (λ m. h (has-later b c o m)) k
 gone b n o (Cost v ∷ u) (suc i) l h k = gone b (suc n) o u i (omega arith) h k
 gone b n o (Instructions v ∷ u) (suc i) l h k = gone b (suc n) o u i (omega arith) h k
+gone b n o (Async x ∷ u) (suc i) l h k =
+    gone b (suc n) (suc n ∷ o) u i (omega arith) (λ m. elim (has-cases b (suc n) o m) [ inl e ↦ omega arith | inr q ↦ h q ]) k
+gone b n o (Finish ∷ u) (suc i) l h k =
+    gone b (suc n) (suc n ∷ o) u i (omega arith) (λ m. elim (has-cases b (suc n) o m) [ inl e ↦ omega arith | inr q ↦ h q ]) k
 
 -- ── In ──
 
@@ -130,6 +134,8 @@ in-to b (suc k) n [] (Return ∷ u) (suc i) l h w = absurd h
 in-to b (suc k) n (c ∷ o) (Return ∷ u) (suc i) l h w = in-to b k (suc n) o u i (omega arith) (h .1) w
 in-to b k n o (Cost v ∷ u) (suc i) l h w = in-to b k (suc n) o u i (omega arith) h w
 in-to b k n o (Instructions v ∷ u) (suc i) l h w = in-to b k (suc n) o u i (omega arith) h w
+in-to b k n o (Async x ∷ u) (suc i) l h w = in-to b (suc k) (suc n) (suc n ∷ o) u i (omega arith) (omega arith, h) w
+in-to b k n o (Finish ∷ u) (suc i) l h w = in-to b (suc k) (suc n) (suc n ∷ o) u i (omega arith) (omega arith, h) w
 
 pub in-from : (b k n : ℕ) (o : List ℕ) (u : List Frame) (i : ℕ) → b ≤ n → Nth b k o → i < length u → T (has b (walk n o u i)) → climb (Unit {0}) true never k u i
 in-from b k n o [] i l h m w = absurd (omega arith)
@@ -145,6 +151,8 @@ in-from b (suc k) n [] (Return ∷ u) (suc i) l h m w = absurd h
 in-from b (suc k) n (c ∷ o) (Return ∷ u) (suc i) l h m w = in-from b k (suc n) o u i (omega arith) (h .1) (omega arith) w
 in-from b k n o (Cost v ∷ u) (suc i) l h m w = in-from b k (suc n) o u i (omega arith) h (omega arith) w
 in-from b k n o (Instructions v ∷ u) (suc i) l h m w = in-from b k (suc n) o u i (omega arith) h (omega arith) w
+in-from b k n o (Async x ∷ u) (suc i) l h m w = in-from b (suc k) (suc n) (suc n ∷ o) u i (omega arith) (omega arith, h) (omega arith) w
+in-from b k n o (Finish ∷ u) (suc i) l h m w = in-from b (suc k) (suc n) (suc n ∷ o) u i (omega arith) (omega arith, h) (omega arith) w
 
 -- ── Near: b is still open, and no sync directly in b lies between ──
 
@@ -190,6 +198,12 @@ near-to b k n o (Cost v ∷ u) (suc i) l h w =
 near-to b k n o (Instructions v ∷ u) (suc i) l h w =
     let r = near-to b k (suc n) o u i (omega arith) h w in
     (r .0, unjoined-cons b n o (Instructions v) u i (λ e f. clash (cc)) (r .1))
+near-to b k n o (Async x ∷ u) (suc i) l h w =
+    let r = near-to b (suc k) (suc n) (suc n ∷ o) u i (omega arith) (omega arith, h) w in
+    (r .0, unjoined-cons b n o (Async x) u i (λ e f. clash (cc)) (r .1))
+near-to b k n o (Finish ∷ u) (suc i) l h w =
+    let r = near-to b (suc k) (suc n) (suc n ∷ o) u i (omega arith) (omega arith, h) w in
+    (r .0, unjoined-cons b n o Finish u i (λ e f. clash (cc)) (r .1))
 
 pub near-from : (b k n : ℕ) (o : List ℕ) (u : List Frame) (i : ℕ) → b ≤ n → Nth b k o → i < length u → T (has b (walk n o u i)) → Unjoined b n o u i → climb (Unit {0}) false never k u i
 near-from b k n o [] i l h m w j = absurd (omega arith)
@@ -206,6 +220,8 @@ near-from b (suc k) n [] (Return ∷ u) (suc i) l h m w j = absurd h
 near-from b (suc k) n (c ∷ o) (Return ∷ u) (suc i) l h m w j = near-from b k (suc n) o u i (omega arith) (h .1) (omega arith) w (unjoined-tail b n (c ∷ o) Return u i j)
 near-from b k n o (Cost v ∷ u) (suc i) l h m w j = near-from b k (suc n) o u i (omega arith) h (omega arith) w (unjoined-tail b n o (Cost v) u i j)
 near-from b k n o (Instructions v ∷ u) (suc i) l h m w j = near-from b k (suc n) o u i (omega arith) h (omega arith) w (unjoined-tail b n o (Instructions v) u i j)
+near-from b k n o (Async x ∷ u) (suc i) l h m w j = near-from b (suc k) (suc n) (suc n ∷ o) u i (omega arith) (omega arith, h) (omega arith) w (unjoined-tail b n o (Async x) u i j)
+near-from b k n o (Finish ∷ u) (suc i) l h m w j = near-from b (suc k) (suc n) (suc n ∷ o) u i (omega arith) (omega arith, h) (omega arith) w (unjoined-tail b n o Finish u i j)
 
 -- ── Past: G has returned, and from there on Near holds of F ──
 
@@ -259,6 +275,8 @@ past-to G F (suc k) n [] (Return ∷ u) (suc j) l f h w = absurd h
 past-to G F (suc k) n (c ∷ o) (Return ∷ u) (suc j) l f h w = passed-cons G F n (c ∷ o) Return u j (past-to G F k (suc n) o u j (omega arith) f (h .1) w)
 past-to G F k n o (Cost v ∷ u) (suc j) l f h w = passed-cons G F n o (Cost v) u j (past-to G F k (suc n) o u j (omega arith) f h w)
 past-to G F k n o (Instructions v ∷ u) (suc j) l f h w = passed-cons G F n o (Instructions v) u j (past-to G F k (suc n) o u j (omega arith) f h w)
+past-to G F k n o (Async x ∷ u) (suc j) l f h w = passed-cons G F n o (Async x) u j (past-to G F (suc k) (suc n) (suc n ∷ o) u j (omega arith) f (omega arith, h) w)
+past-to G F k n o (Finish ∷ u) (suc j) l f h w = passed-cons G F n o Finish u j (past-to G F (suc k) (suc n) (suc n ∷ o) u j (omega arith) f (omega arith, h) w)
 
 pub past-from : (G F k n : ℕ) (o : List ℕ) (u : List Frame) (j : ℕ) → G ≤ n → F < G → Two G F k o → j < length u → Passed G F n o u j → climb ⊥ true Near k u j
 past-from G F k n o [] j l f h m p = absurd (omega arith)
@@ -281,3 +299,7 @@ past-from G F (suc k) n (c ∷ o) (Return ∷ u) (suc j) l f h m p =
     past-from G F k (suc n) o u j (omega arith) f (h .1) (omega arith) (passed-tail G F n (c ∷ o) Return u j (λ e g. above-two G F k (c ∷ o) h g) p)
 past-from G F k n o (Cost v ∷ u) (suc j) l f h m p = past-from G F k (suc n) o u j (omega arith) f h (omega arith) (passed-tail G F n o (Cost v) u j (λ e g. clash (cc)) p)
 past-from G F k n o (Instructions v ∷ u) (suc j) l f h m p = past-from G F k (suc n) o u j (omega arith) f h (omega arith) (passed-tail G F n o (Instructions v) u j (λ e g. clash (cc)) p)
+past-from G F k n o (Async x ∷ u) (suc j) l f h m p =
+    past-from G F (suc k) (suc n) (suc n ∷ o) u j (omega arith) f (omega arith, h) (omega arith) (passed-tail G F n o (Async x) u j (λ e g. clash (cc)) p)
+past-from G F k n o (Finish ∷ u) (suc j) l f h m p =
+    past-from G F (suc k) (suc n) (suc n ∷ o) u j (omega arith) f (omega arith, h) (omega arith) (passed-tail G F n o Finish u j (λ e g. clash (cc)) p)

@@ -9,26 +9,28 @@ use lib.ListN.{length, getD, replicate, List·getD-eq-default}
 use lib.Dec.{ltb, leb}
 use lib.Seq.{ext-getD}
 use borrow.Author.Tests.{leb-true, lt-ltb, le-ltb}
+use Rattle.line.specs.declared.Family.{Family}
+use Rattle.line.specs.declared.Family.the-variants.{Base}
 use Rattle.line.specs.declared.Frame.{Frame}
 use Rattle.chain.specs.Over.{linesIn}
 use Rattle.trace.specs.declared.Answer.{Answer}
 use Rattle.trace.specs.declared.Answer.the-variants.{Accepted}
 use Rattle.trace.specs.Shape.{has, sites}
-use Rattle.trace.specs.Rows.{columns, Spans}
+use Rattle.trace.specs.Rows.{columns, SpansOf}
 use Rattle.trace.specs.Column.{Column, slot}
-use Rattle.trace.specs.Refusals.{lineCount, Verdict, accepted, refused, verdict}
-use Rattle.trace.specs.Promise.{Engine, tables, marks, Lent, scratchRoom, marksRoom, rowsRoom, enough, acceptance, refusal, Row, Marked, Profile, Kept, Promise}
-use Rattle.trace.specs.Tree.{Body, size, Parts, workOf, instructionsOf, spanOf}
+use Rattle.trace.specs.Refusals.{lineCount, Verdict, accepted, refused, verdictOf, verdict}
+use Rattle.trace.specs.Promise.{Engine, tables, marks, Lent, scratchRoom, marksRoom, rowsRoom, enough, acceptance, refusal, RowOf, Marked, ProfileOf, KeptOf, Kept, PromiseOf, Promise}
+use Rattle.trace.specs.Tree.{Body, size, PartsOf, Parts, workOf, instructionsOf, spanOf}
 use Rattle.trace.specs.Fold.{chainOf}
 use Rattle.trace.specs.ByTree.{cell, RowsBy, ProfileBy}
 use Rattle.trace.specs.Small.{Small}
 use Rattle.trace.proofs.Basics.{clash, below, both}
 use Rattle.trace.proofs.Slots.{rowOf, columnOf, row-slot, column-slot, slot-in, by-slots}
 use Rattle.trace.proofs.Tree.{size-is}
-use Rattle.trace.proofs.Scan.{Fine, accepted-is, accepted-fine, accepted-length}
-use Rattle.trace.proofs.Parse.{parts, accepted-parts}
+use Rattle.trace.proofs.Scan.{Fine, accepted-is-of, accepted-fine-of, accepted-length-of}
+use Rattle.trace.proofs.Parse.{parts, accepted-parts-of}
 use Rattle.trace.proofs.Accept.{sites-le-M}
-use Rattle.trace.proofs.Unique.{spans-unique}
+use Rattle.trace.proofs.Unique.{spans-unique-of}
 use Rattle.trace.proofs.Root.{rootChain, root-span, root-chosen, root-span-only, root-chosen-only}
 use Rattle.trace.proofs.Columns.{calls-tree, local-tree, ilocal-tree, total-tree, itotal-tree}
 use Rattle.trace.proofs.Outermost.{work-tree, spans-tree}
@@ -43,7 +45,7 @@ lent-same a b x y z =
 
 -- ── a profile is what the tree says ──
 
-module _ (D : ℕ) (t : List Frame) (p : Parts D t) where
+module _ {f : Family} (D : ℕ) (t : List Frame) (p : PartsOf f D t) where
   pub length-is : length t ≡ size (p .body)
   length-is = ap length (p .lines) ∙ size-is (p .body)
 
@@ -52,29 +54,29 @@ module _ (D : ℕ) (t : List Frame) (p : Parts D t) where
       ap (λ (w : ℕ). Accepted w (spanOf (p .body)) (sites t) (length t)) (total-tree D t p)
       ∙ ap (Accepted (workOf (p .body)) (spanOf (p .body)) (sites t)) length-is
 
-  row-from : (l : List ℕ) (s : ℕ) → ((k : Column) → getD l (slot s k) 0 ≡ cell (p .body) s k) → Row t (linesIn (rootChain D t p)) l s
+  row-from : (l : List ℕ) (s : ℕ) → ((k : Column) → getD l (slot s k) 0 ≡ cell (p .body) s k) → RowOf f t (linesIn (rootChain D t p)) l s
   row-from l s h =
       record {
         calls-is = h Column.calls ∙ sym (calls-tree D t p s);
         work-is = h Column.work ∙ sym (work-tree D t p s);
-        span-is = subst (Spans t s) (sym (h Column.span)) (spans-tree D t p s);
+        span-is = subst (SpansOf f t s) (sym (h Column.span)) (spans-tree D t p s);
         local-is = h Column.local ∙ sym (local-tree D t p s);
         on-span-is = h Column.onSpan ∙ sym (on-span-tree D t p s);
         ilocal-is = h Column.ilocal ∙ sym (ilocal-tree D t p s);
         ion-span-is = h Column.ionSpan ∙ sym (ion-span-tree D t p s);
       }
 
-  row-to : (l : List ℕ) (s : ℕ) → Row t (linesIn (rootChain D t p)) l s → (k : Column) → getD l (slot s k) 0 ≡ cell (p .body) s k
+  row-to : (l : List ℕ) (s : ℕ) → RowOf f t (linesIn (rootChain D t p)) l s → (k : Column) → getD l (slot s k) 0 ≡ cell (p .body) s k
   row-to l s r Column.calls = r .calls-is ∙ calls-tree D t p s
   row-to l s r Column.work = r .work-is ∙ work-tree D t p s
-  row-to l s r Column.span = spans-unique t s _ _ (r .span-is) (spans-tree D t p s)
+  row-to l s r Column.span = spans-unique-of f t s _ _ (r .span-is) (spans-tree D t p s)
   row-to l s r Column.local = r .local-is ∙ local-tree D t p s
   row-to l s r Column.onSpan = r .on-span-is ∙ on-span-tree D t p s
   row-to l s r Column.ilocal = r .ilocal-is ∙ ilocal-tree D t p s
   row-to l s r Column.ionSpan = r .ion-span-is ∙ ion-span-tree D t p s
 
   -- LAW: what the tree says is a profile
-  pub tree-profile : (e : Engine) (before : Lent) (r : Answer) (after : Lent) → ProfileBy e (sites t) (p .body) before r after → Profile e t before r after
+  pub tree-profile : (e : Engine) (before : Lent) (r : Answer) (after : Lent) → ProfileBy e (sites t) (p .body) before r after → ProfileOf f e t before r after
   tree-profile e before r after h =
       record {
         chain = linesIn (rootChain D t p);
@@ -92,14 +94,14 @@ module _ (D : ℕ) (t : List Frame) (p : Parts D t) where
       }
 
   -- LAW: and a profile is what the tree says
-  pub profile-tree : (e : Engine) (before : Lent) (r : Answer) (after : Lent) → Profile e t before r after → ProfileBy e (sites t) (p .body) before r after
+  pub profile-tree : (e : Engine) (before : Lent) (r : Answer) (after : Lent) → ProfileOf f e t before r after → ProfileBy e (sites t) (p .body) before r after
   profile-tree e before r after h =
       let c = root-chosen-only D t p (h .chain) (h .chosen) in
       record {
         answer = h .answer ∙ ap (acceptance t) (root-span-only D t p (h .span) (h .is-span)) ∙ answer-is;
         rows = record {
           same-length = h .rows .same-length;
-          cells = λ s k l. row-to (after .rows) s (subst (λ (d : List ℕ). Row t d (after .rows) s) c (h .rows .rows-are s l)) k;
+          cells = λ s k l. row-to (after .rows) s (subst (λ (d : List ℕ). RowOf f t d (after .rows) s) c (h .rows .rows-are s l)) k;
           rest = h .rows .rest;
         };
         scratch = h .scratch;
@@ -107,12 +109,12 @@ module _ (D : ℕ) (t : List Frame) (p : Parts D t) where
       }
 
   -- LAW: within the limits the work of the tree is below 2 ^ 54
-  pub work-small : (M : ℕ) → Fine D M t → Small (workOf (p .body))
-  work-small M f = subst Small (total-tree D t p) (fine-small D M t f .total-work)
+  pub work-small : (M : ℕ) → Fine f D M t → Small (workOf (p .body))
+  work-small M h = subst Small (total-tree D t p) (fine-small D M t h .total-work)
 
   -- LAW: and so are its instructions
-  pub instructions-small : (M : ℕ) → Fine D M t → Small (instructionsOf (p .body))
-  instructions-small M f = omega (arith, itotal-tree D t p, itotal-below D M t f)
+  pub instructions-small : (M : ℕ) → Fine f D M t → Small (instructionsOf (p .body))
+  instructions-small M h = omega (arith, itotal-tree D t p, itotal-below D M t h)
 
 -- ── there is one ──
 
@@ -139,18 +141,25 @@ by-tree-unique e m b before r q x y h k = (
 )
 
 -- LAW: two outcomes that keep to a verdict for the same room are equal
-pub kept-unique : (e : Engine) (v : Verdict) (before : Lent) → ((t : List Frame) → v ≡ accepted t → (D : ℕ) × Parts D t) → (r q : Answer) (x y : Lent) → Kept e v before r x → Kept e v before q y → (r ≡ q) × (x ≡ y)
-kept-unique e (accepted t) before p r q x y h k =
+pub kept-unique-of : (f : Family) (e : Engine) (v : Verdict) (before : Lent) → ((t : List Frame) → v ≡ accepted t → (D : ℕ) × PartsOf f D t) → (r q : Answer) (x y : Lent) → KeptOf f e v before r x → KeptOf f e v before q y → (r ≡ q) × (x ≡ y)
+kept-unique-of f e (accepted t) before p r q x y h k =
     let d = p t refl in
     by-tree-unique e (sites t) (d .1 .body) before r q x y (profile-tree (d .0) t (d .1) e before r x (h .when-accepted t refl)) (profile-tree (d .0) t (d .1) e before q y (k .when-accepted t refl))
-kept-unique e (refused n l) before p r q x y h k =
+kept-unique-of f e (refused n l) before p r q x y h k =
     let u = h .when-refused n l refl in
     let v = k .when-refused n l refl in
     (u .0 ∙ sym (v .0), u .1 ∙ sym (v .1))
 
 -- LAW: two outcomes that meet the promise for the same text, limits and room are equal
+pub promise-unique-of : (f : Family) (e : Engine) (s : List ℕ) (D M : ℕ) (before : Lent) (r q : Answer) (x y : Lent) → PromiseOf f e s D M before r x → PromiseOf f e s D M before q y → (r ≡ q) × (x ≡ y)
+promise-unique-of f e s D M before = kept-unique-of f e (verdictOf f s D M (enough e s D M before)) before (λ t a. (D, accepted-parts-of f s D M (enough e s D M before) t a))
+
+-- the same of document 01's traces
+pub kept-unique : (e : Engine) (v : Verdict) (before : Lent) → ((t : List Frame) → v ≡ accepted t → (D : ℕ) × Parts D t) → (r q : Answer) (x y : Lent) → Kept e v before r x → Kept e v before q y → (r ≡ q) × (x ≡ y)
+kept-unique = kept-unique-of Base
+
 pub promise-unique : (e : Engine) (s : List ℕ) (D M : ℕ) (before : Lent) (r q : Answer) (x y : Lent) → Promise e s D M before r x → Promise e s D M before q y → (r ≡ q) × (x ≡ y)
-promise-unique e s D M before = kept-unique e (verdict s D M (enough e s D M before)) before (λ t a. (D, accepted-parts s D M (enough e s D M before) t a))
+promise-unique = promise-unique-of Base
 
 -- ── there is some ──
 
@@ -228,26 +237,30 @@ module _ (m : ℕ) (b : Body) (before : Lent) (rows-fit : columns * (m + 1) ≤ 
       )
 
 -- what a verdict says of a trace that it accepts: it keeps the limits, and the rows and the marks are there
-pub record Housed (e : Engine) (before : Lent) (t : List Frame) : Type 0 where
+pub record HousedOf (f : Family) (e : Engine) (before : Lent) (t : List Frame) : Type 0 where
   pub D : ℕ
-  pub parts : Parts D t
+  pub parts : PartsOf f D t
   pub rows-there : columns * (sites t + 1) ≤ length (before .rows)
   pub marks-there : e ≡ marks → length t ≤ length (before .marks)
 
+-- that of document 01's
+abbrev pub Housed : Engine → Lent → List Frame → Type 0
+Housed e before t = HousedOf Base e before t
+
 -- LAW: whatever is lent, some outcome keeps to the verdict
-pub kept-met : (e : Engine) (v : Verdict) (before : Lent) → ((t : List Frame) → v ≡ accepted t → Housed e before t) → (r : Answer) × (after : Lent) × Kept e v before r after
-kept-met e (accepted t) before h =
+pub kept-met-of : (f : Family) (e : Engine) (v : Verdict) (before : Lent) → ((t : List Frame) → v ≡ accepted t → HousedOf f e before t) → (r : Answer) × (after : Lent) × KeptOf f e v before r after
+kept-met-of f e (accepted t) before h =
     let a = h t refl in
     let p = a .parts in
     let w = some-profile (sites t) (p .body) before (a .rows-there) e (λ q. omega (arith, a .marks-there q, length-is (a .D) t p)) in (
       w .0,
       w .1,
       record {
-        when-accepted = λ u q. (let i : t ≡ u = cc in subst (λ (z : List Frame). Profile e z before (w .0) (w .1)) i (tree-profile (a .D) t p e before (w .0) (w .1) (w .2)));
+        when-accepted = λ u q. (let i : t ≡ u = cc in subst (λ (z : List Frame). ProfileOf f e z before (w .0) (w .1)) i (tree-profile (a .D) t p e before (w .0) (w .1) (w .2)));
         when-refused = λ n k q. clash (cc);
       },
     )
-kept-met e (refused n k) before h = (
+kept-met-of f e (refused n k) before h = (
   refusal n k,
   before,
   record {
@@ -257,20 +270,20 @@ kept-met e (refused n k) before h = (
 )
 
 -- an accepted trace has its room
-pub accepted-housed : (e : Engine) (s : List ℕ) (D M : ℕ) (before : Lent) (t : List Frame) → verdict s D M (enough e s D M before) ≡ accepted t → Housed e before t
-accepted-housed e s D M before t a =
+pub accepted-housed-of : (g : Family) (e : Engine) (s : List ℕ) (D M : ℕ) (before : Lent) (t : List Frame) → verdictOf g s D M (enough e s D M before) ≡ accepted t → HousedOf g e before t
+accepted-housed-of g e s D M before t a =
     record {
       D = D;
       parts = parts D M t f;
       rows-there = omega (arith, sites-le-M D M t f, y);
-      marks-there = marks-fit e (length t) (accepted-length s D M (enough e s D M before) t a) (x .1);
+      marks-there = marks-fit e (length t) (accepted-length-of g s D M (enough e s D M before) t a) (x .1);
     }
   where
-    f : Fine D M t
-    f = accepted-fine s D M (enough e s D M before) t a
+    f : Fine g D M t
+    f = accepted-fine-of g s D M (enough e s D M before) t a
 
     x : (leb (scratchRoom e D M) (length (before .scratch)) && leb (rowsRoom M) (length (before .rows)) ≡ true) × (leb (marksRoom e s) (length (before .marks)) ≡ true)
-    x = both (leb (scratchRoom e D M) (length (before .scratch)) && leb (rowsRoom M) (length (before .rows))) (leb (marksRoom e s) (length (before .marks))) (accepted-is s D M (enough e s D M before) t a .0)
+    x = both (leb (scratchRoom e D M) (length (before .scratch)) && leb (rowsRoom M) (length (before .rows))) (leb (marksRoom e s) (length (before .marks))) (accepted-is-of g s D M (enough e s D M before) t a .0)
 
     y : rowsRoom M ≤ length (before .rows)
     y = leb-true (rowsRoom M) (length (before .rows)) (both (leb (scratchRoom e D M) (length (before .scratch))) (leb (rowsRoom M) (length (before .rows))) (x .0) .1)
@@ -280,5 +293,15 @@ accepted-housed e s D M before t a =
     marks-fit marks k l h q = omega (arith, leb-true (lineCount s) (length (before .marks)) h)
 
 -- LAW: whatever is lent, some outcome meets the promise
+pub promise-met-of : (f : Family) (e : Engine) (s : List ℕ) (D M : ℕ) (before : Lent) → (r : Answer) × (after : Lent) × PromiseOf f e s D M before r after
+promise-met-of f e s D M before = kept-met-of f e (verdictOf f s D M (enough e s D M before)) before (accepted-housed-of f e s D M before)
+
+-- the same of document 01's traces
+pub kept-met : (e : Engine) (v : Verdict) (before : Lent) → ((t : List Frame) → v ≡ accepted t → Housed e before t) → (r : Answer) × (after : Lent) × Kept e v before r after
+kept-met = kept-met-of Base
+
+pub accepted-housed : (e : Engine) (s : List ℕ) (D M : ℕ) (before : Lent) (t : List Frame) → verdict s D M (enough e s D M before) ≡ accepted t → Housed e before t
+accepted-housed = accepted-housed-of Base
+
 pub promise-met : (e : Engine) (s : List ℕ) (D M : ℕ) (before : Lent) → (r : Answer) × (after : Lent) × Promise e s D M before r after
-promise-met e s D M before = kept-met e (verdict s D M (enough e s D M before)) before (accepted-housed e s D M before)
+promise-met = promise-met-of Base

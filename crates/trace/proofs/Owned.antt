@@ -6,13 +6,15 @@ use mathlib.Core.Bool.{Bool, true, false, not}
 use mathlib.Core.List.{List, [], _∷_, _++_, append-assoc}
 use Prim.Native.Nat.{ℕ, zero, suc}
 use borrow.Author.Tests.{not-false}
+use Rattle.line.specs.declared.Family.{Family}
+use Rattle.line.specs.declared.Family.the-variants.{Base}
 use Rattle.line.specs.declared.Frame.{Frame}
-use Rattle.line.specs.declared.Frame.the-variants.{Site, Call, Spawn, Sync, Return, Cost, Instructions}
+use Rattle.line.specs.declared.Frame.the-variants.{Site, Call, Spawn, Sync, Return, Cost, Instructions, Async, Finish}
 use Rattle.trace.specs.Shape.{ifInstructions, Is}
-use Rattle.trace.specs.Refusals.{isCost, afterCost, stray, accepted, verdict}
-use Rattle.trace.specs.Tree.{Way, call, spawn, opening, lineOf, Body, done, leaf, child, linesOf}
+use Rattle.trace.specs.Refusals.{isCost, afterCost, stray, accepted, verdictOf, verdict}
+use Rattle.trace.specs.Tree.{Way, call, spawn, async, pass, finish, opening, lineOf, Body, done, leaf, child, linesOf}
 use Rattle.trace.proofs.Basics.{no-way}
-use Rattle.trace.proofs.Scan.{Clean, faultless, accepted-fine}
+use Rattle.trace.proofs.Scan.{Clean, faultless, accepted-fine-of}
 
 -- c: the line before this one is a cost line
 abbrev OwnedLine : Bool → Frame → Type 0
@@ -33,6 +35,8 @@ not-stray c Sync e = refl
 not-stray c Return e = refl
 not-stray c (Cost v) e = refl
 not-stray c (Instructions v) e = not-false c e
+not-stray c (Async s) e = refl
+not-stray c Finish e = refl
 
 stray-not : (c : Bool) (f : Frame) → OwnedLine c f → ifInstructions (λ v. not c) false f ≡ false
 stray-not c (Site s p) e = refl
@@ -42,6 +46,8 @@ stray-not c Sync e = refl
 stray-not c Return e = refl
 stray-not c (Cost v) e = refl
 stray-not c (Instructions v) e = ap not e
+stray-not c (Async s) e = refl
+stray-not c Finish e = refl
 
 pub after-snoc : (c : Bool) (b : List Frame) (f : Frame) → afterCost c (b ++ f ∷ []) ≡ isCost f
 after-snoc c [] f = refl
@@ -53,11 +59,11 @@ owned-head b f t h =
     (stray-not (afterCost false b) f (h .0), subst (λ (c : Bool). Owned c t) (sym (after-snoc false b f)) (h .1))
 
 -- LAW: lines that pass are such lines
-pub clean-owned : (D M : ℕ) (before t : List Frame) → Clean D M before t → Owned (afterCost false before) t
-clean-owned D M before [] c = tt
-clean-owned D M before (f ∷ t) c = (
+pub clean-owned : (g : Family) (D M : ℕ) (before t : List Frame) → Clean g D M before t → Owned (afterCost false before) t
+clean-owned g D M before [] c = tt
+clean-owned g D M before (f ∷ t) c = (
   not-stray (afterCost false before) f (faultless D M before f (c .0) .not22),
-  subst (λ (x : Bool). Owned x t) (after-snoc false before f) (clean-owned D M (before ++ f ∷ []) t (c .2)),
+  subst (λ (x : Bool). Owned x t) (after-snoc false before f) (clean-owned g D M (before ++ f ∷ []) t (c .2)),
 )
 
 -- ── by line numbers ──
@@ -74,6 +80,8 @@ cost-is Sync e = no-way e
 cost-is Return e = no-way e
 cost-is (Cost w) e = (w, refl)
 cost-is (Instructions v) e = no-way e
+cost-is (Async s) e = no-way e
+cost-is Finish e = no-way e
 
 owned-from : (c : Bool) (t : List Frame) → Owned c t → (k v : ℕ) → Is t k (Instructions v) → ((k ≡ 0) × (c ≡ true)) ⊎ Behind t k
 owned-from c [] h k v i = absurd i
@@ -93,11 +101,18 @@ owned-behind t h k v i = go (owned-from false t h k v i)
     go (inr w) = w
 
 -- LAW: so it does in every accepted trace
+pub accepted-owned-of : (g : Family) (s : List ℕ) (D M : ℕ) (room : Bool) (t : List Frame) → verdictOf g s D M room ≡ accepted t → Owned false t
+accepted-owned-of g s D M room t e = clean-owned g D M [] t (accepted-fine-of g s D M room t e .clean)
+
+pub accepted-behind-of : (g : Family) (s : List ℕ) (D M : ℕ) (room : Bool) (t : List Frame) → verdictOf g s D M room ≡ accepted t → (k v : ℕ) → Is t k (Instructions v) → Behind t k
+accepted-behind-of g s D M room t e = owned-behind t (accepted-owned-of g s D M room t e)
+
+-- the same of document 01's traces
 pub accepted-owned : (s : List ℕ) (D M : ℕ) (room : Bool) (t : List Frame) → verdict s D M room ≡ accepted t → Owned false t
-accepted-owned s D M room t e = clean-owned D M [] t (accepted-fine s D M room t e .clean)
+accepted-owned = accepted-owned-of Base
 
 pub accepted-behind : (s : List ℕ) (D M : ℕ) (room : Bool) (t : List Frame) → verdict s D M room ≡ accepted t → (k v : ℕ) → Is t k (Instructions v) → Behind t k
-accepted-behind s D M room t e = owned-behind t (accepted-owned s D M room t e)
+accepted-behind = accepted-behind-of Base
 
 -- ── by the tree ──
 
@@ -110,10 +125,16 @@ OwnedBody c (child w s g r) = OwnedBody false g × OwnedBody false r
 opening-owned : (c : Bool) (w : Way) (s : ℕ) → OwnedLine c (opening w s)
 opening-owned c call s = refl
 opening-owned c spawn s = refl
+opening-owned c async s = refl
+opening-owned c pass s = refl
+opening-owned c finish s = refl
 
 opening-no-cost : (w : Way) (s : ℕ) → isCost (opening w s) ≡ false
 opening-no-cost call s = refl
 opening-no-cost spawn s = refl
+opening-no-cost async s = refl
+opening-no-cost pass s = refl
+opening-no-cost finish s = refl
 
 -- LAW: the lines of a body that is so are such lines, where those behind them are
 pub owned-lines : (b : Body) (c : Bool) (u : List Frame) → OwnedBody c b → Owned false u → Owned c (linesOf b ++ u)

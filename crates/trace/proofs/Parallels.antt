@@ -8,7 +8,7 @@ use native.Mathlib.Omega.{arith}
 use lib.ListN.{length}
 use lib.Dec.{T}
 use Rattle.line.specs.declared.Frame.{Frame}
-use Rattle.line.specs.declared.Frame.the-variants.{Site, Call, Spawn, Sync, Return, Cost, Instructions}
+use Rattle.line.specs.declared.Frame.the-variants.{Site, Call, Spawn, Sync, Return, Cost, Instructions, Async, Finish}
 use Rattle.trace.specs.Shape.{Is, step, walk, has, firstIs}
 use Rattle.trace.proofs.Levels.{In, Past, Beside}
 use Rattle.trace.proofs.Open.{first-eq, first-of, first-has, Low, below-not, low-below, low-on, low-push, in-to, in-from, Passed, passed-cons, passed-tail, past-to, past-from}
@@ -40,6 +40,8 @@ low-step n Return [] l = tt
 low-step n Return (c ∷ o) l = low-on n o (l .2)
 low-step n (Cost v) o l = low-on n o l
 low-step n (Instructions v) o l = low-on n o l
+low-step n (Async s) o l = low-push n o l
+low-step n Finish o l = low-push n o l
 
 parallel-cons : (n : ℕ) (o : List ℕ) (e : Frame) (u : List Frame) (i j : ℕ) → ParallelFrom (suc n) (step n e o) u i j → ParallelFrom n o (e ∷ u) (suc i) (suc j)
 parallel-cons n o e u i j p =
@@ -66,6 +68,8 @@ beside-parallel n (c ∷ o) (Instructions v ∷ u) (suc i) (suc j) l a w = paral
 beside-parallel n (c ∷ o) (Sync ∷ u) (suc i) (suc j) l a w = parallel-cons n (c ∷ o) Sync u i j (beside-parallel (suc n) (c ∷ o) u i j (low-on n (c ∷ o) l) a w)
 beside-parallel n (c ∷ o) (Return ∷ u) (suc i) (suc j) l a w = parallel-cons n (c ∷ o) Return u i j (beside-parallel (suc n) o u i j (low-on n o (l .2)) a w)
 beside-parallel n (c ∷ o) (Call s ∷ u) (suc i) (suc j) l a w = parallel-cons n (c ∷ o) (Call s) u i j (beside-parallel (suc n) (suc n ∷ c ∷ o) u i j (low-push n (c ∷ o) l) a w)
+beside-parallel n (c ∷ o) (Async s ∷ u) (suc i) (suc j) l a w = parallel-cons n (c ∷ o) (Async s) u i j (beside-parallel (suc n) (suc n ∷ c ∷ o) u i j (low-push n (c ∷ o) l) a w)
+beside-parallel n (c ∷ o) (Finish ∷ u) (suc i) (suc j) l a w = parallel-cons n (c ∷ o) Finish u i j (beside-parallel (suc n) (suc n ∷ c ∷ o) u i j (low-push n (c ∷ o) l) a w)
 beside-parallel n (c ∷ o) (Spawn s ∷ u) (suc i) (suc j) l a (inr w) = parallel-cons n (c ∷ o) (Spawn s) u i j (beside-parallel (suc n) (suc n ∷ c ∷ o) u i j (low-push n (c ∷ o) l) a w)
 beside-parallel n (c ∷ o) (Spawn s ∷ u) (suc i) (suc j) l a (inl w) =
     let b = low-below n (suc n) (c ∷ o) l (omega arith) in
@@ -101,6 +105,8 @@ parallel-beside n (c ∷ o) (e ∷ u) (suc i) (suc j) l a lt m p =
     rest Return w = w
     rest (Cost v) w = w
     rest (Instructions v) w = w
+    rest (Async s) w = w
+    rest Finish w = w
 
     -- the spawn is this line
     here : (s : ℕ) → Spawn s ≡ e → p .G ≡ suc n → p .F ≡ c → In u i × Past u j

@@ -5,8 +5,9 @@ use mathlib.Core.List.{List, [], _∷_}
 use Prim.Native.Nat.{ℕ, zero, suc}
 use native.Mathlib.Omega.{arith}
 use Rattle.line.specs.declared.Frame.{Frame}
-use Rattle.line.specs.declared.Frame.the-variants.{Site, Call, Spawn, Sync, Return, Cost, Instructions}
-use Rattle.trace.specs.Shape.{ifInstructions, Is, root, step, firstIs, has}
+use Rattle.line.specs.declared.Frame.the-variants.{Site, Call, Spawn, Sync, Return, Cost, Instructions, Async, Finish}
+use Rattle.trace.specs.Shape.{ifInstructions, Is, root, step, has}
+use Rattle.trace.specs.Async.{ownerIs}
 use Rattle.trace.specs.Rows.{ofRow, carried, instructions, sumOf, itotal, direct, directOn, ilocal, ionSpan}
 use Rattle.trace.proofs.Basics.{no-way, cond-same}
 use Rattle.trace.proofs.Sums.{sum-zero, sum-same}
@@ -33,6 +34,8 @@ plain-is (f ∷ t) e (suc k) v i = plain-is t (rest f e) k v i
     rest Return e = e
     rest (Cost w) e = e
     rest (Instructions w) e = no-way e
+    rest (Async s) e = e
+    rest Finish e = e
 
 none-carried : (t : List Frame) → Plain t → carried t ≡ 0
 none-carried [] h = refl
@@ -43,6 +46,8 @@ none-carried (Sync ∷ t) h = refl
 none-carried (Return ∷ t) h = refl
 none-carried (Cost v ∷ t) h = refl
 none-carried (Instructions v ∷ t) h = absurd (h zero v refl)
+none-carried (Async s ∷ t) h = refl
+none-carried (Finish ∷ t) h = refl
 
 none-of : (f : Frame) (t : List Frame) → Plain t → instructions f t ≡ 0
 none-of (Site s p) t h = refl
@@ -52,6 +57,8 @@ none-of Sync t h = refl
 none-of Return t h = refl
 none-of (Cost v) t h = none-carried t h
 none-of (Instructions v) t h = refl
+none-of (Async s) t h = refl
+none-of Finish t h = refl
 
 none-summed : (p : ℕ → List ℕ → Bool) (n : ℕ) (o : List ℕ) (t : List Frame) → Plain t → sumOf instructions p n o t ≡ 0
 none-summed p n o [] h = refl
@@ -66,11 +73,11 @@ none-summed p n o (f ∷ t) h =
 module _ (t : List Frame) (h : Plain t) where
   -- LAW: a trace without 07 lines has 0 in columns 6 and 7 of every row
   pub plain-local : (s : ℕ) → ilocal t s ≡ 0
-  plain-local s = sum-same (direct instructions t) (λ F. 0) (λ F. none-summed (λ k o. firstIs F o) 0 (root ∷ []) t h) (ofRow t s) ∙ sum-zero (ofRow t s)
+  plain-local s = sum-same (direct instructions t) (λ F. 0) (λ F. none-summed (λ k o. ownerIs t F o) 0 (root ∷ []) t h) (ofRow t s) ∙ sum-zero (ofRow t s)
 
   pub plain-on-span : (c : List ℕ) (s : ℕ) → ionSpan t c s ≡ 0
   plain-on-span c s =
-      sum-same (directOn instructions t c) (λ F. 0) (λ F. none-summed (λ k o. firstIs F o && has k c) 0 (root ∷ []) t h) (ofRow t s) ∙ sum-zero (ofRow t s)
+      sum-same (directOn instructions t c) (λ F. 0) (λ F. none-summed (λ k o. ownerIs t F o && has k c) 0 (root ∷ []) t h) (ofRow t s) ∙ sum-zero (ofRow t s)
 
   -- and none in all
   pub plain-total : itotal t ≡ 0

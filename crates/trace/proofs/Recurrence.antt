@@ -9,46 +9,13 @@ use native.Mathlib.Omega.{arith}
 use lib.Dec.{ltb}
 use borrow.Author.Tests.{lt-ltb, le-ltb}
 use Rattle.chain.specs.Plan.{CostLine, costs, All, Worth, Positive, weight, choose, pick, Chosen}
-use Rattle.chain.proofs.Lists.{all-append, weight-append}
+use Rattle.chain.proofs.Lists.{all-append, all-left, weight-append}
 use Rattle.chain.proofs.Choose.{test, choose-cases, choose-left, choose-right, choose-empty}
 use Rattle.chain.proofs.Laws.{pick-worth, pick-chosen, chosen-unique}
-use Rattle.trace.specs.Tree.{Way, call, spawn, Leaf, spend, sync, note, LeafWithin, Body, done, leaf, child, ahead, size, Within, workOf, larger, spanFrom, spanOf}
-use Rattle.trace.specs.Fold.{costAt, block, after, plan, Chains, nothing, joined, spawned, leafChains, childChains, run, chainOf}
-use Rattle.trace.proofs.Apart.{all-together, plan-ordered}
-
--- each cost is at least 1
-abbrev LeafPaid : Leaf → Type 0
-LeafPaid (spend v) = 1 ≤ v
-LeafPaid sync = Unit {0}
-LeafPaid (note x) = Unit {0}
-
-abbrev pub Paid : Body → Type 0
-Paid done = Unit {0}
-Paid (leaf l r) = LeafPaid l × Paid r
-Paid (child w i g r) = Paid g × Paid r
-
-leaf-paid : (l : Leaf) → LeafWithin l → LeafPaid l
-leaf-paid (spend v) h = h .0
-leaf-paid sync h = tt
-leaf-paid (note x) h = tt
-
-pub paid : (m D d : ℕ) (b : Body) → Within m D d b → Paid b
-paid m D d done h = tt
-paid m D d (leaf l r) h = (leaf-paid l (h .0), paid m D d r (h .1))
-paid m D d (child w i g r) h = (paid m D (suc d) g (h .3), paid m D d r (h .4))
-
-positive : (b : Body) (n s : ℕ) → Paid b → All Worth (costs (block n s b)) × All Worth (costs (after n s b))
-positive done n s h = (tt, tt)
-positive (leaf (spend v) r) n s h = let k = positive r (suc n) s (h .1) in ((h .0, k .0), k .1)
-positive (leaf sync r) n s h = let k = positive r (suc n) s (h .1) in (tt, all-append Worth (costs (block (suc n) s r)) (costs (after (suc n) s r)) (k .0) (k .1))
-positive (leaf (note x) r) n s h = positive r (suc n) s (h .1)
-positive (child w i g r) n s h =
-    let p = positive g (suc n) i (h .0) in
-    let k = positive r (suc n + size g) s (h .1) in
-    (all-together Worth w (plan (suc n) i g) (block (suc n + size g) s r) (all-append Worth (costs (block (suc n) i g)) (costs (after (suc n) i g)) (p .0) (p .1)) (k .0), k .1)
-
-pub plan-positive : (b : Body) (n s : ℕ) → Paid b → Positive (plan n s b)
-plan-positive b n s h = let k = positive b n s h in all-append Worth (costs (block n s b)) (costs (after n s b)) (k .0) (k .1)
+use Rattle.trace.specs.Tree.{Way, call, spawn, async, pass, finish, Leaf, spend, sync, note, Body, done, leaf, child, ahead, size, workOf, larger, ending, spanTo, spanFrom, spanOf}
+use Rattle.trace.specs.Fold.{costAt, Rest, nil, all, together, planTo, plan, Chains, nothing, joined, called, spawned, leafChains, ended, childChains, run, chainOf}
+use Rattle.trace.proofs.Plans.{costs-to, plan-ordered}
+pub use Rattle.trace.proofs.Plans.{Paid, paid, plan-positive}
 
 -- what choose-cases gives
 abbrev Cases : List CostLine → List CostLine → Type 0
@@ -78,45 +45,83 @@ spawn-taken g k e = rw e
 spawn-passed : (g : List CostLine) (k : Chains) → ltb (weight (k .l)) (weight (k .c) + weight g) ≡ false → spawned g k ≡ k
 spawn-passed g k e = rw e
 
--- what the chains of an open invocation come to, once the rest of it is b
-abbrev Ends : ℕ → ℕ → Chains → Body → List CostLine
-Ends n s k b = k .p ++ choose (k .l) (k .c ++ pick (block n s b)) ++ pick (after n s b)
-
-block-empty : (b : Body) (n s : ℕ) → Paid b → choose [] (pick (block n s b)) ≡ pick (block n s b)
-block-empty b n s h = choose-empty (pick (block n s b)) (pick-worth (block n s b) (positive b n s h .0))
-
 -- what the tests that test gives say of a spawned child whose chain is g
 abbrev Tests : Chains → List CostLine → Type 0
 Tests k g = ((weight (k .l) < weight (k .c) + weight g) × (ltb (weight (k .l)) (weight (k .c) + weight g) ≡ true)) ⊎ ((weight (k .c) + weight g ≤ weight (k .l)) × (ltb (weight (k .l)) (weight (k .c) + weight g) ≡ false))
 
--- the invariant, a leaf and a child at a time
-leaf-is : (l : Leaf) (r : Body) → LeafPaid l → Paid r → (n s : ℕ) (k : Chains) → Ends (suc n) s (leafChains n s l (ahead r) k) r ≡ Ends n s k (leaf l r)
-leaf-is (spend v) r q h n s k = rw (append-assoc (k .c) (costAt n s v (ahead r) ∷ []) (pick (block (suc n) s r)))
-leaf-is sync r q h n s k = rw (block-empty r (suc n) s h, append-nil (k .c)) (append-assoc (k .p ++ choose (k .l) (k .c)) (pick (block (suc n) s r)) (pick (after (suc n) s r)))
-leaf-is (note x) r q h n s k = refl
+-- what the chains of an open invocation come to, once a is picked in the rest of its block, and b behind it
+abbrev Ends : Chains → List CostLine → List CostLine → List CostLine
+Ends k a b = k .p ++ choose (k .l) (k .c ++ a) ++ b
 
-child-is : (w : Way) (i : ℕ) (g r : Body) (n s : ℕ) (k : Chains) → chainOf (suc n) i g ≡ pick (plan (suc n) i g) → Ends (suc n + size g) s (childChains w (run (suc n) i g) k) r ≡ Ends n s k (child w i g r)
-child-is call i g r n s k e = rw (e, append-assoc (k .c) (pick (plan (suc n) i g)) (pick (block (suc n + size g) s r)))
-child-is spawn i g r n s k e = go (chainOf (suc n) i g) e (test (weight (k .l)) (weight (k .c) + weight (chainOf (suc n) i g)))
+-- the steps: a chain in series, a chain beside, a join
+called-is : (g a b : List CostLine) (k : Chains) → Ends k (g ++ a) b ≡ Ends (called g k) a b
+called-is g a b k = ap (λ (c : List CostLine). k .p ++ choose (k .l) c ++ b) (sym (append-assoc (k .c) g a))
+
+spawned-is : (g a b : List CostLine) (k : Chains) → Ends k (choose g a) b ≡ Ends (spawned g k) a b
+spawned-is g a b k = go (test (weight (k .l)) (weight (k .c) + weight g))
   where
-    rest : List CostLine
-    rest = pick (block (suc n + size g) s r)
+    go : Tests k g → Ends k (choose g a) b ≡ Ends (spawned g k) a b
+    go (inl t) =
+        ap (λ (z : List CostLine). k .p ++ z ++ b) (taken (k .l) (k .c) g a (t .0))
+        ∙ ap (λ (z : List CostLine). z ++ b) (sym (append-assoc (k .p) (k .c) (choose g a)))
+        ∙ sym (ap (λ (x : Chains). Ends x a b) (spawn-taken g k (t .1)))
+    go (inr t) = ap (λ (z : List CostLine). k .p ++ z ++ b) (passed (k .l) (k .c) g a (t .0)) ∙ sym (ap (λ (x : Chains). Ends x a b) (spawn-passed g k (t .1)))
 
-    go : (c : List CostLine) → c ≡ pick (plan (suc n) i g) → Tests k c → Ends (suc n + size g) s (spawned c k) r ≡ Ends n s k (child spawn i g r)
-    go c e (inl t) =
-        ap (λ (x : Chains). Ends (suc n + size g) s x r) (spawn-taken c k (t .1))
-        ∙ rw (e, taken (k .l) (k .c) (pick (plan (suc n) i g)) rest (omega (arith, ap weight e)), append-assoc (k .p) (k .c) (choose (pick (plan (suc n) i g)) rest))
-    go c e (inr t) = ap (λ (x : Chains). Ends (suc n + size g) s x r) (spawn-passed c k (t .1)) ∙ rw (passed (k .l) (k .c) (pick (plan (suc n) i g)) rest (omega (arith, ap weight e)))
+joined-is : (a b : List CostLine) (k : Chains) → All Worth a → Ends k [] (a ++ b) ≡ Ends (joined k) a b
+joined-is a b k h =
+    ap (λ (c : List CostLine). k .p ++ choose (k .l) c ++ (a ++ b)) (append-nil (k .c))
+    ∙ sym (append-assoc (joined k .p) a b)
+    ∙ ap (λ (c : List CostLine). joined k .p ++ c ++ b) (sym (choose-empty a h))
 
-run-is : (b : Body) → Paid b → (n s : ℕ) (k : Chains) → joined (run n s b k) .p ≡ Ends n s k b
-run-is done h n s k = rw (append-nil (k .c)) (sym (append-nil _))
-run-is (leaf l r) h n s k = run-is r (h .1) (suc n) s (leafChains n s l (ahead r) k) ∙ leaf-is l r (h .0) (h .1) n s k
-run-is (child w i g r) h n s k =
-    run-is r (h .1) (suc n + size g) s (childChains w (run (suc n) i g) k) ∙ child-is w i g r n s k (run-is g (h .0) (suc n) i nothing ∙ rw (block-empty g (suc n) i (h .0)))
+ends-joined : (k : Chains) → Ends k [] [] ≡ joined k .p
+ends-joined k = append-nil (k .p ++ choose (k .l) (k .c ++ [])) ∙ ap (λ (c : List CostLine). k .p ++ choose (k .l) c) (append-nil (k .c))
+
+-- and once q is what is left
+abbrev EndsTo : Chains → Rest → List CostLine
+EndsTo k q = Ends k (pick (q .now)) (pick (q .later))
+
+now-worth : (q : Rest) → Positive (all q) → All Worth (pick (q .now))
+now-worth q h = pick-worth (q .now) (all-left Worth (costs (q .now)) (costs (q .later)) h)
+
+-- what is left with a body in front of it
+positive-to : (b : Body) (n s : ℕ) (q : Rest) → Paid b → Positive (all q) → Positive (all (planTo n s b q))
+positive-to b n s q h g = rw (costs-to b n s q) (all-append Worth (costs (plan n s b)) (costs (all q)) (plan-positive b n s h) g)
+
+-- a child whose items make F of a plan and f of chains
+module _ (F : Rest → Rest) (f : Chains → Chains) (e : (k : Chains) (q : Rest) → Positive (all q) → EndsTo k (F q) ≡ EndsTo (f k) q) (h : Positive (all (F nil))) where
+  ended-is : pick (all (F nil)) ≡ ended f
+  ended-is = ap (λ (c : List CostLine). c ++ pick (F nil .later)) (sym (choose-empty (pick (F nil .now)) (now-worth (F nil) h))) ∙ e nothing nil tt ∙ ends-joined (f nothing)
+
+  in-series : (k : Chains) (q : Rest) → Ends k (pick (all (F nil)) ++ pick (q .now)) (pick (q .later)) ≡ EndsTo (called (ended f) k) q
+  in-series k q = ap (λ (z : List CostLine). Ends k (z ++ pick (q .now)) (pick (q .later))) ended-is ∙ called-is (ended f) (pick (q .now)) (pick (q .later)) k
+
+  beside : (k : Chains) (q : Rest) → Ends k (choose (pick (all (F nil))) (pick (q .now))) (pick (q .later)) ≡ EndsTo (spawned (ended f) k) q
+  beside k q = ap (λ (z : List CostLine). Ends k (choose z (pick (q .now))) (pick (q .later))) ended-is ∙ spawned-is (ended f) (pick (q .now)) (pick (q .later)) k
+
+  child-is : (w : Way) (k : Chains) (q : Rest) → Positive (all q) → EndsTo k (together w F q) ≡ EndsTo (childChains w f k) q
+  child-is call k q g = in-series k q
+  child-is spawn k q g = beside k q
+  child-is async k q g = beside k q
+  child-is pass k q g = e k q g
+  child-is finish k q g = in-series k q
+
+-- the invariant
+run-is : (b : Body) → Paid b → (n s : ℕ) (k : Chains) (q : Rest) → Positive (all q) → EndsTo k (planTo n s b q) ≡ EndsTo (run n s b k) q
+run-is done h n s k q g = refl
+run-is (leaf (spend v) r) h n s k q g =
+    let x = costAt n s v (ahead r) in
+    called-is (x ∷ []) (pick (planTo (suc n) s r q .now)) (pick (planTo (suc n) s r q .later)) k ∙ run-is r (h .1) (suc n) s (called (x ∷ []) k) q g
+run-is (leaf sync r) h n s k q g =
+    let o = planTo (suc n) s r q in
+    joined-is (pick (o .now)) (pick (o .later)) k (now-worth o (positive-to r (suc n) s q (h .1) g)) ∙ run-is r (h .1) (suc n) s (joined k) q g
+run-is (leaf (note x) r) h n s k q g = run-is r (h .1) (suc n) s k q g
+run-is (child w i g r) h n s k q e =
+    child-is (planTo (suc n) i g) (run (suc n) i g) (run-is g (h .0) (suc n) i) (plan-positive g (suc n) i (h .0)) w k (planTo (suc n + size g) s r q) (positive-to r (suc n + size g) s q (h .1) e)
+    ∙ run-is r (h .1) (suc n + size g) s (childChains w (run (suc n) i g) k) q e
 
 -- LAW: with chains for numbers, the recurrence gives the pick of the plan
 pub chain-is-pick : (b : Body) (n s : ℕ) → Paid b → chainOf n s b ≡ pick (plan n s b)
-chain-is-pick b n s h = run-is b h n s nothing ∙ rw (block-empty b n s h)
+chain-is-pick b n s h = sym (ended-is (planTo n s b) (run n s b) (run-is b h n s) (plan-positive b n s h))
 
 -- LAW: it is the chosen chain of the plan, and nothing else is
 pub chain-chosen : (b : Body) (n s : ℕ) → Paid b → Chosen (plan n s b) (chainOf n s b)
@@ -138,58 +143,95 @@ weight-choose a b = go (choose-cases a b)
 pub weight-joined : (k : Chains) → weight (joined k .p) ≡ weight (k .p) + larger (weight (k .l)) (weight (k .c))
 weight-joined k = weight-append (k .p) (choose (k .l) (k .c)) ∙ ap (λ (x : ℕ). weight (k .p) + x) (weight-choose (k .l) (k .c))
 
+-- what is made of the weights of the chains
+abbrev Made : (ℕ → ℕ → ℕ → ℕ) → Chains → ℕ
+Made to k = to (weight (k .p)) (weight (k .l)) (weight (k .c))
+
 -- the recurrence on numbers, from the weights of the chains
-abbrev Spans : Chains → Body → ℕ
-Spans k b = spanFrom (weight (k .p)) (weight (k .l)) (weight (k .c)) b
+abbrev Spans : (ℕ → ℕ → ℕ → ℕ) → Chains → Body → ℕ
+Spans to k b = Made (λ p l c. spanTo to p l c b) k
 
-leaf-spans : (l : Leaf) (r : Body) (n s : ℕ) (k : Chains) → Spans (leafChains n s l (ahead r) k) r ≡ Spans k (leaf l r)
-leaf-spans (spend v) r n s k =
+leaf-spans : (to : ℕ → ℕ → ℕ → ℕ) (l : Leaf) (r : Body) (n s : ℕ) (k : Chains) → Spans to (leafChains n s l (ahead r) k) r ≡ Spans to k (leaf l r)
+leaf-spans to (spend v) r n s k =
     let e : weight (k .c ++ costAt n s v (ahead r) ∷ []) ≡ weight (k .c) + v = omega (arith, weight-append (k .c) (costAt n s v (ahead r) ∷ [])) in
-    ap (λ (c : ℕ). spanFrom (weight (k .p)) (weight (k .l)) c r) e
-leaf-spans sync r n s k = ap (λ (p : ℕ). spanFrom p 0 0 r) (weight-joined k)
-leaf-spans (note x) r n s k = refl
+    ap (λ (c : ℕ). spanTo to (weight (k .p)) (weight (k .l)) c r) e
+leaf-spans to sync r n s k = ap (λ (p : ℕ). spanTo to p 0 0 r) (weight-joined k)
+leaf-spans to (note x) r n s k = refl
 
-child-spans : (w : Way) (i : ℕ) (g r : Body) (n : ℕ) (k : Chains) → weight (chainOf (suc n) i g) ≡ spanOf g → Spans (childChains w (run (suc n) i g) k) r ≡ Spans k (child w i g r)
-child-spans call i g r n k e =
-    ap (λ (c : ℕ). spanFrom (weight (k .p)) (weight (k .l)) c r) (weight-append (k .c) (chainOf (suc n) i g) ∙ ap (λ (x : ℕ). weight (k .c) + x) e)
-child-spans spawn i g r n k e = go (chainOf (suc n) i g) e (test (weight (k .l)) (weight (k .c) + weight (chainOf (suc n) i g)))
-  where
-    go : (c : List CostLine) → weight c ≡ spanOf g → Tests k c → Spans (spawned c k) r ≡ Spans k (child spawn i g r)
-    go c e (inl t) =
-        let q : ltb (weight (k .l)) (weight (k .c) + spanOf g) ≡ true = ap (λ (x : ℕ). ltb (weight (k .l)) (weight (k .c) + x)) (sym e) ∙ t .1 in
-        ap (λ (x : Chains). Spans x r) (spawn-taken c k (t .1)) ∙ rw (q, weight-append (k .p) (k .c), e)
-    go c e (inr t) =
-        let q : ltb (weight (k .l)) (weight (k .c) + spanOf g) ≡ false = ap (λ (x : ℕ). ltb (weight (k .l)) (weight (k .c) + x)) (sym e) ∙ t .1 in
-        ap (λ (x : Chains). Spans x r) (spawn-passed c k (t .1)) ∙ rw q
+-- a child with the body g, whose items make f of chains
+module _ (g : Body) (f : Chains → Chains) (e : (to : ℕ → ℕ → ℕ → ℕ) (k : Chains) → Made to (f k) ≡ Spans to k g) where
+  ended-spans : weight (ended f) ≡ spanOf g
+  ended-spans = weight-joined (f nothing) ∙ e ending nothing
 
-weight-run : (b : Body) (n s : ℕ) (k : Chains) → weight (joined (run n s b k) .p) ≡ Spans k b
-weight-run done n s k = weight-joined k
-weight-run (leaf l r) n s k = weight-run r (suc n) s (leafChains n s l (ahead r) k) ∙ leaf-spans l r n s k
-weight-run (child w i g r) n s k =
-    weight-run r (suc n + size g) s (childChains w (run (suc n) i g) k) ∙ child-spans w i g r n k (weight-run g (suc n) i nothing)
+  module _ (to : ℕ → ℕ → ℕ → ℕ) (i : ℕ) (r : Body) (k : Chains) where
+    called-spans : Spans to (called (ended f) k) r ≡ Spans to k (child call i g r)
+    called-spans = ap (λ (c : ℕ). spanTo to (weight (k .p)) (weight (k .l)) c r) (weight-append (k .c) (ended f) ∙ ap (λ (x : ℕ). weight (k .c) + x) ended-spans)
+
+    spawned-spans : Spans to (spawned (ended f) k) r ≡ Spans to k (child spawn i g r)
+    spawned-spans = go (ended f) ended-spans (test (weight (k .l)) (weight (k .c) + weight (ended f)))
+      where
+        go : (c : List CostLine) → weight c ≡ spanOf g → Tests k c → Spans to (spawned c k) r ≡ Spans to k (child spawn i g r)
+        go c e (inl t) =
+            let q : ltb (weight (k .l)) (weight (k .c) + spanOf g) ≡ true = ap (λ (x : ℕ). ltb (weight (k .l)) (weight (k .c) + x)) (sym e) ∙ t .1 in
+            ap (λ (x : Chains). Spans to x r) (spawn-taken c k (t .1)) ∙ rw (q, weight-append (k .p) (k .c), e)
+        go c e (inr t) =
+            let q : ltb (weight (k .l)) (weight (k .c) + spanOf g) ≡ false = ap (λ (x : ℕ). ltb (weight (k .l)) (weight (k .c) + x)) (sym e) ∙ t .1 in
+            ap (λ (x : Chains). Spans to x r) (spawn-passed c k (t .1)) ∙ rw q
+
+    child-spans : (w : Way) → Spans to (childChains w f k) r ≡ Spans to k (child w i g r)
+    child-spans call = called-spans
+    child-spans spawn = spawned-spans
+    child-spans async = spawned-spans
+    child-spans pass = e (λ p l c. spanTo to p l c r) k
+    child-spans finish = called-spans
+
+run-spans : (b : Body) (n s : ℕ) (to : ℕ → ℕ → ℕ → ℕ) (k : Chains) → Made to (run n s b k) ≡ Spans to k b
+run-spans done n s to k = refl
+run-spans (leaf l r) n s to k = run-spans r (suc n) s to (leafChains n s l (ahead r) k) ∙ leaf-spans to l r n s k
+run-spans (child w i g r) n s to k =
+    run-spans r (suc n + size g) s to (childChains w (run (suc n) i g) k) ∙ child-spans g (run (suc n) i g) (run-spans g (suc n) i) to i r k w
 
 -- LAW: the recurrence on numbers gives the weight of that chain, whatever the line and the row
 pub weight-chain : (b : Body) (n s : ℕ) → weight (chainOf n s b) ≡ spanOf b
-weight-chain b n s = weight-run b n s nothing
+weight-chain b n s = ended-spans b (run n s b) (run-spans b n s)
 
--- LAW: a span is at most what it starts from and the work; so no partial sum of an engine is above its final load
-pub span-le : (b : Body) (p l c : ℕ) → spanFrom p l c b ≤ p + l + c + workOf b
-span-le done p l c = go (ltb l c)
-  where
-    go : (t : Bool) → p + cond t c l ≤ p + l + c + 0
-    go true = omega arith
-    go false = omega arith
-span-le (leaf (spend v) r) p l c = omega (arith, span-le r p l (c + v))
-span-le (leaf sync r) p l c = omega (arith, span-le r (p + larger l c) 0 0, go (ltb l c))
+larger-le : (l c : ℕ) → larger l c ≤ l + c
+larger-le l c = go (ltb l c)
   where
     go : (t : Bool) → cond t c l ≤ l + c
     go true = omega arith
     go false = omega arith
-span-le (leaf (note x) r) p l c = omega (arith, span-le r p l c)
-span-le (child call i g r) p l c = omega (arith, span-le g 0 0 0, span-le r p l (c + spanOf g))
-span-le (child spawn i g r) p l c = go (ltb l (c + spanOf g)) (span-le g 0 0 0) (span-le r (p + c) (spanOf g) 0) (span-le r p l c)
-  where
-    go : (t : Bool) → spanOf g ≤ 0 + 0 + 0 + workOf g → spanFrom (p + c) (spanOf g) 0 r ≤ p + c + spanOf g + 0 + workOf r → spanFrom p l c r ≤ p + l + c + workOf r
-        → cond t (spanFrom (p + c) (spanOf g) 0 r) (spanFrom p l c r) ≤ p + l + c + (workOf g + workOf r)
-    go true a x y = omega arith
-    go false a x y = omega arith
+
+-- of p, l and c it makes at most their sum and x
+abbrev AtMost : (ℕ → ℕ → ℕ → ℕ) → ℕ → Type 0
+AtMost to x = (p l c : ℕ) → to p l c ≤ p + l + c + x
+
+ending-le : AtMost ending 0
+ending-le p l c = omega (arith, larger-le l c)
+
+-- a child whose span is at most its work, and the rest
+module _ (to : ℕ → ℕ → ℕ → ℕ) (x : ℕ) (g r : Body) (h : AtMost (λ p l c. spanTo ending p l c g) (workOf g + 0)) (k : AtMost (λ p l c. spanTo to p l c r) (workOf r + x)) where
+  called-le : (i : ℕ) → AtMost (λ p l c. spanTo to p l c (child call i g r)) (workOf g + workOf r + x)
+  called-le i p l c = omega (arith, h 0 0 0, k p l (c + spanOf g))
+
+  spawned-le : (i : ℕ) → AtMost (λ p l c. spanTo to p l c (child spawn i g r)) (workOf g + workOf r + x)
+  spawned-le i p l c = go (ltb l (c + spanOf g))
+    where
+      go : (t : Bool) → cond t (spanTo to (p + c) (spanOf g) 0 r) (spanTo to p l c r) ≤ p + l + c + (workOf g + workOf r + x)
+      go true = omega (arith, h 0 0 0, k (p + c) (spanOf g) 0)
+      go false = omega (arith, k p l c)
+
+span-to-le : (b : Body) (to : ℕ → ℕ → ℕ → ℕ) (x : ℕ) → AtMost to x → AtMost (λ p l c. spanTo to p l c b) (workOf b + x)
+span-to-le done to x h p l c = omega (arith, h p l c)
+span-to-le (leaf (spend v) r) to x h p l c = omega (arith, span-to-le r to x h p l (c + v))
+span-to-le (leaf sync r) to x h p l c = omega (arith, span-to-le r to x h (p + larger l c) 0 0, larger-le l c)
+span-to-le (leaf (note n) r) to x h p l c = omega (arith, span-to-le r to x h p l c)
+span-to-le (child call i g r) to x h p l c = called-le to x g r (span-to-le g ending 0 ending-le) (span-to-le r to x h) i p l c
+span-to-le (child spawn i g r) to x h p l c = spawned-le to x g r (span-to-le g ending 0 ending-le) (span-to-le r to x h) i p l c
+span-to-le (child async i g r) to x h p l c = spawned-le to x g r (span-to-le g ending 0 ending-le) (span-to-le r to x h) i p l c
+span-to-le (child pass i g r) to x h p l c = omega (arith, span-to-le g (λ p l c. spanTo to p l c r) (workOf r + x) (span-to-le r to x h) p l c)
+span-to-le (child finish i g r) to x h p l c = called-le to x g r (span-to-le g ending 0 ending-le) (span-to-le r to x h) i p l c
+
+-- LAW: a span is at most what it starts from and the work; so no partial sum of an engine is above its final load
+pub span-le : (b : Body) (p l c : ℕ) → spanFrom p l c b ≤ p + l + c + workOf b
+span-le b p l c = omega (arith, span-to-le b ending 0 ending-le p l c)

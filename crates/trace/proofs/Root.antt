@@ -4,32 +4,35 @@ use mathlib.Core.Path.{_≡_, refl}
 use mathlib.Core.Logic.{_↔_}
 use mathlib.Core.List.{List, []}
 use Prim.Native.Nat.{ℕ, _<_}
+use Rattle.line.specs.declared.Family.{Family}
 use Rattle.line.specs.declared.Frame.{Frame}
 use Rattle.chain.specs.Plan.{CostLine, Plan, costs, On, Apart}
 use Rattle.chain.specs.Over.{linesIn}
-use Rattle.chain.proofs.Over.{Found}
-use Rattle.trace.specs.Shape.{root, Parallel}
-use Rattle.trace.specs.Series.{valueAt, CostIn, Span, Chosen}
-use Rattle.trace.specs.Tree.{Parts, spanOf}
+use Rattle.chain.proofs.Over.{Found, Fits}
+use Rattle.trace.specs.Shape.{root}
+use Rattle.trace.specs.Series.{valueAt, CostIn, ParallelOf, ruleOf, SpanOf, ChosenOf}
+use Rattle.trace.specs.Tree.{PartsOf, spanOf}
 use Rattle.trace.specs.Fold.{plan, chainOf}
-use Rattle.trace.proofs.Unique.{span-unique, chosen-unique}
-use Rattle.trace.proofs.Chains.{cost-on, on-cost, apart-is-parallel, parallel-is-apart, chosen-of}
+use Rattle.trace.proofs.Unique.{span-unique-of, chosen-unique-of}
+use Rattle.trace.proofs.Chains.{cost-on, on-cost, chosen-of}
+use Rattle.trace.proofs.Fits.{fits-of}
 use Rattle.trace.proofs.Invocations.{root-ctx, root-paid, root-inv}
 use Rattle.trace.proofs.Stretches.{span-is}
 
-module _ (D : ℕ) (t : List Frame) (p : Parts D t) where
+module _ {f : Family} (D : ℕ) (t : List Frame) (p : PartsOf f D t) where
   abbrev pub rootChain : List CostLine
   rootChain = chainOf 0 0 (p .body)
 
   abbrev pub rootPlan : Plan
   rootPlan = plan 0 0 (p .body)
 
+  -- the plan fits the rule of the root's cost lines
+  root-fits : Fits (ruleOf f t root) rootPlan
+  root-fits = fits-of t 0 root [] (p .body) [] (root-ctx D t p) f (p .of)
+
   -- LAW: two cost lines are parallel exactly where they are apart in the plan
-  pub parallel-iff : (y z : CostLine) → On rootPlan y → On rootPlan z → y .line < z .line → Parallel t (y .line) (z .line) ↔ Apart rootPlan y z
-  parallel-iff y z my mz l = (
-    parallel-is-apart t 0 root [] (p .body) [] (root-ctx D t p) y z my mz l,
-    apart-is-parallel t 0 root [] (p .body) [] (root-ctx D t p) y z my mz l,
-  )
+  pub parallel-iff : (y z : CostLine) → On rootPlan y → On rootPlan z → y .line < z .line → ParallelOf f t (y .line) (z .line) ↔ Apart rootPlan y z
+  parallel-iff y z my mz l = (root-fits .parallel y z my mz l, root-fits .apart y z my mz l)
 
   -- LAW: the costs of the plan are the cost lines of the trace
   pub plan-cost : (y : CostLine) → On rootPlan y → CostIn t root (y .line) × (valueAt t (y .line) ≡ y .value)
@@ -39,15 +42,15 @@ module _ (D : ℕ) (t : List Frame) (p : Parts D t) where
   cost-plan = cost-on t 0 root [] (p .body) [] (root-ctx D t p)
 
   -- LAW
-  pub root-span : Span t root (spanOf (p .body))
+  pub root-span : SpanOf f t root (spanOf (p .body))
   root-span = span-is t root (p .body) (root-inv D t p)
 
   -- LAW
-  pub root-chosen : Chosen t (linesIn rootChain)
-  root-chosen = chosen-of t 0 root [] (p .body) [] (root-ctx D t p) (root-paid D t p) refl
+  pub root-chosen : ChosenOf f t (linesIn rootChain)
+  root-chosen = chosen-of f t 0 root (p .body) root-fits (root-paid D t p) refl
 
-  pub root-span-only : (n : ℕ) → Span t root n → n ≡ spanOf (p .body)
-  root-span-only n s = span-unique t root n (spanOf (p .body)) s root-span
+  pub root-span-only : (n : ℕ) → SpanOf f t root n → n ≡ spanOf (p .body)
+  root-span-only n s = span-unique-of f t root n (spanOf (p .body)) s root-span
 
-  pub root-chosen-only : (c : List ℕ) → Chosen t c → c ≡ linesIn rootChain
-  root-chosen-only c h = chosen-unique t c (linesIn rootChain) h root-chosen
+  pub root-chosen-only : (c : List ℕ) → ChosenOf f t c → c ≡ linesIn rootChain
+  root-chosen-only c h = chosen-unique-of f t c (linesIn rootChain) h root-chosen

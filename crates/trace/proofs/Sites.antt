@@ -9,6 +9,7 @@ use lib.Seq.{append-snoc}
 use lib.Dec.{eqb, leb}
 use borrow.Author.Tests.{eqb-true, eqb-false, ltb-false, leb-true, leb-false, le-leb, lt-leb, not-false}
 use Rattle.line.specs.declared.Place.{Place}
+use Rattle.line.specs.declared.Family.{Family}
 use Rattle.line.specs.declared.Frame.{Frame}
 use Rattle.line.specs.declared.Frame.the-variants.{Site}
 use Rattle.trace.specs.Shape.{ifSite, sites}
@@ -105,9 +106,9 @@ within-snoc M before f m a h l =
     (λ g n m a. omega (arith, sites-append before (g ∷ []), sites-other g [] n)) f m a
 
 -- lines that pass have their sites within M
-pub clean-sites : (D M : ℕ) (before t : List Frame) → Clean D M before t → Numbered before → sites before ≤ M → sites (before ++ t) ≤ M
-clean-sites D M before [] c h l = subst (λ (u : List Frame). sites u ≤ M) (sym (append-nil before)) l
-clean-sites D M before (f ∷ t) c h l =
+pub clean-sites : (g : Family) (D M : ℕ) (before t : List Frame) → Clean g D M before t → Numbered before → sites before ≤ M → sites (before ++ t) ≤ M
+clean-sites g D M before [] c h l = subst (λ (u : List Frame). sites u ≤ M) (sym (append-nil before)) l
+clean-sites g D M before (f ∷ t) c h l =
     let w = faultless D M before f (c .0) in
     subst (λ (u : List Frame). sites u ≤ M) (append-snoc before f t)
-    (clean-sites D M (before ++ f ∷ []) t (c .2) (numbered-snoc before f (w .not8) h) (within-snoc M before f (w .not8) (w .not9) h l))
+    (clean-sites g D M (before ++ f ∷ []) t (c .2) (numbered-snoc before f (w .not8) h) (within-snoc M before f (w .not8) (w .not9) h l))

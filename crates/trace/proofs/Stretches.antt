@@ -6,10 +6,11 @@ use Prim.Native.Nat.{ℕ, zero, suc, _+_, _<_}
 use native.Mathlib.Omega.{arith}
 use lib.ListN.{length, length-append}
 use lib.Dec.{T}
+use Rattle.line.specs.declared.Family.{Family}
 use Rattle.line.specs.declared.Frame.{Frame}
 use Rattle.line.specs.declared.Frame.the-variants.{Return}
 use Rattle.trace.specs.Shape.{Is, step, walk, openAt, has}
-use Rattle.trace.specs.Series.{value, Span}
+use Rattle.trace.specs.Series.{value, SpanOf}
 use Rattle.trace.specs.Rows.{Measure, cycles, sumOf, inside}
 use Rattle.trace.specs.Tree.{opening, lineOf, Body, done, leaf, child, linesOf, allOf, workOf, spanOf}
 use Rattle.trace.proofs.Tree.{size-is}
@@ -18,6 +19,7 @@ use Rattle.trace.proofs.Recurrence.{weight-chain}
 use Rattle.trace.proofs.Context.{walk-append, has-le}
 use Rattle.trace.proofs.Chains.{is-length, span-of}
 use Rattle.trace.proofs.Chains as C
+use Rattle.trace.proofs.Fits.{fits-of}
 use Rattle.trace.proofs.Invocations.{Inv}
 
 pub walk-left : (n : ℕ) (o : List ℕ) (u v : List Frame) (j : ℕ) → j < length u → walk n o (u ++ v) j ≡ walk n o u j
@@ -93,10 +95,10 @@ module _ (m : Measured) where
   all-costs b n o =
       omega (arith, ap (sumOf (m .of-line) (λ k o. true) n o) (append-nil (linesOf b)), body-costs b n o [])
 
-module _ (t : List Frame) (F : ℕ) (g : Body) (i : Inv t F g) where
+module _ {f : Family} (t : List Frame) (F : ℕ) (g : Body) (i : Inv f t F g) where
   -- LAW: the span of an invocation is what Cilkprof's recurrence gives
-  pub span-is : Span t F (spanOf g)
-  span-is = subst (Span t F) (weight-chain g F 0) (span-of t 0 F (i .around) g (i .post) (i .ctx) (i .paid))
+  pub span-is : SpanOf f t F (spanOf g)
+  span-is = subst (SpanOf f t F) (weight-chain g F (i .row)) (span-of f t (i .row) F g (fits-of t (i .row) F (i .around) g (i .post) (i .ctx) f (i .of)) (i .paid))
 
   abbrev in-it : ℕ → List ℕ → Bool
   in-it k o = has F o

@@ -5,18 +5,17 @@ use mathlib.Core.List.{List, [], _∷_, map}
 use Prim.Native.Nat.{ℕ}
 use Rattle.chain.specs.Plan.{choose}
 use Rattle.chain.specs.Over.{linesIn}
+use Rattle.line.specs.declared.Family.the-variants.{Base}
 use Rattle.trace.specs.Shape.{root}
-use Rattle.trace.specs.Series.{Span, Chosen}
-use Rattle.trace.specs.Rows.{total, Spans, onSpan}
+use Rattle.trace.specs.Series.{Span}
+use Rattle.trace.specs.Rows.{total, onSpan}
 use Rattle.trace.specs.Refusals.{Verdict, accepted, verdict}
-use Rattle.trace.specs.Tree.{call, spawn, site, spend, sync, note, Body, done, leaf, child, linesOf, Parts, spanOf, spansIn}
+use Rattle.trace.specs.Tree.{call, spawn, site, spend, sync, note, Body, done, leaf, child, linesOf, spanOf}
 use Rattle.trace.specs.Fold.{chainOf}
 use Rattle.trace.specs.Twelve.{Case, twelve, Holds, AllHold, K, RowOne, Claim}
 use Rattle.trace.proofs.Basics.{clash}
-use Rattle.trace.proofs.Tree.{body-one}
-use Rattle.trace.proofs.Parse.{accepted-parts}
-use Rattle.trace.proofs.Root.{root-span, root-chosen}
-use Rattle.trace.proofs.Outermost.{spans-tree}
+use Rattle.trace.proofs.Tree.{isOf}
+use Rattle.trace.proofs.Computed.{span-here, chosen-here, spans-here}
 use Rattle.trace.proofs.Plain.{plain, plain-is, plain-local, plain-on-span}
 
 -- the trees, which the law finds the chosen chains with
@@ -48,9 +47,10 @@ pub record Row : Type 0 where
   pub on1 : ℕ
   pub on2 : ℕ
   pub without : Bool
+  pub base : Bool
 
 abbrev pub expected : Case → Row
-expected c = record { answer = verdict (c .trace) 4 2 true; work = c .work; span = c .span; on0 = c .on0; on1 = c .on1; on2 = c .on2; without = true }
+expected c = record { answer = verdict (c .trace) 4 2 true; work = c .work; span = c .span; on0 = c .on0; on1 = c .on1; on2 = c .on2; without = true; base = true }
 
 abbrev pub computed : Body → Row
 computed b =
@@ -62,6 +62,7 @@ computed b =
       on1 = onSpan (linesOf (sited b)) (linesIn (chainOf 0 0 (sited b))) 1;
       on2 = onSpan (linesOf (sited b)) (linesIn (chainOf 0 0 (sited b))) 2;
       without = plain (linesOf (sited b));
+      base = isOf Base 0 (sited b);
     }
 
 -- the one computed test
@@ -69,34 +70,18 @@ pub test : map expected twelve ≡ map computed trees
 unfolding choose
 test = refl
 
--- what the laws say of a text that is accepted as the body b
-module _ (s : List ℕ) (b : Body) (e : verdict s 4 2 true ≡ accepted (linesOf b)) where
-  p : Parts 4 (linesOf b)
-  p = accepted-parts s 4 2 true (linesOf b) e
-
-  same : p .body ≡ b
-  same = body-one (p .body) b (sym (p .lines))
-
-  pub span-here : Span (linesOf b) root (spanOf b)
-  span-here = subst (λ (c : Body). Span (linesOf b) root (spanOf c)) same (root-span 4 (linesOf b) p)
-
-  pub chosen-here : Chosen (linesOf b) (linesIn (chainOf 0 0 b))
-  chosen-here = subst (λ (c : Body). Chosen (linesOf b) (linesIn (chainOf 0 0 c))) same (root-chosen 4 (linesOf b) p)
-
-  spans-here : (i : ℕ) → Spans (linesOf b) i (spansIn i b)
-  spans-here i = subst (λ (c : Body). Spans (linesOf b) i (spansIn i c)) same (spans-tree 4 (linesOf b) p i)
-
 holds : (c : Case) (b : Body) → expected c ≡ computed b → Holds c
 holds c b e =
     let a = ap (λ (r : Row). r .answer) e in
+    let o = sym (ap (λ (r : Row). r .base) e) in
     let n = plain-is (linesOf (sited b)) (sym (ap (λ (r : Row). r .without) e)) in
     record {
       t = linesOf (sited b);
       is-accepted = a;
       work-is = sym (ap (λ (r : Row). r .work) e);
-      span-is = subst (Span (linesOf (sited b)) root) (sym (ap (λ (r : Row). r .span) e)) (span-here (c .trace) (sited b) a);
+      span-is = subst (Span (linesOf (sited b)) root) (sym (ap (λ (r : Row). r .span) e)) (span-here Base (c .trace) 4 2 (sited b) o a);
       chain = linesIn (chainOf 0 0 (sited b));
-      chosen = chosen-here (c .trace) (sited b) a;
+      chosen = chosen-here Base (c .trace) 4 2 (sited b) o a;
       on0-is = sym (ap (λ (r : Row). r .on0) e);
       on1-is = sym (ap (λ (r : Row). r .on1) e);
       on2-is = sym (ap (λ (r : Row). r .on2) e);
@@ -116,7 +101,7 @@ abbrev pub K-tree : Body
 K-tree = child call 1 (leaf (spend 1) (child call 1 (leaf (spend 2) done) done)) done
 
 K-row : RowOne K 2 3 3 3
-K-row = record { t = linesOf (sited K-tree); is-accepted = refl; calls-is = refl; work-is = refl; span-is = spans-here (K .trace) (sited K-tree) refl 1; local-is = refl }
+K-row = record { t = linesOf (sited K-tree); is-accepted = refl; calls-is = refl; work-is = refl; span-is = spans-here Base (K .trace) 4 2 (sited K-tree) refl refl 1; local-is = refl }
 
 -- THE CLAIM
 pub twelve-hold : Claim

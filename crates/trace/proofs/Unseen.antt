@@ -8,13 +8,14 @@ use native.Mathlib.Omega.{arith}
 use lib.ListN.{length}
 use lib.Dec.{eqb, ltb}
 use Rattle.line.specs.declared.Place.{Place}
+use Rattle.line.specs.declared.Family.{Family}
 use Rattle.line.specs.declared.Frame.{Frame}
 use Rattle.line.specs.declared.Frame.the-variants.{Site}
 use Rattle.line.specs.declared.Read.{Read}
 use Rattle.line.specs.declared.Read.the-variants.{Line, Refused}
-use Rattle.line.specs.Read.{readAt}
-use Rattle.trace.specs.Shape.{ifSite, ifMakes, ifInstructions, root, step, walk, openAt, sites}
-use Rattle.trace.specs.Refusals.{lineCount, checks, openNow, empty, afterRoot, isCost, afterCost, stray, lastSite, misplaced, aboveM, placeAgain, declared, undeclared, tooDeep, fault, Verdict, accepted, refused, judged, scan, readsFrom, reads, verdict}
+use Rattle.line.specs.Read.{readAtOf}
+use Rattle.trace.specs.Shape.{ifSite, ifMakes, ifOpens, ifInstructions, root, step, walk, openAt, sites}
+use Rattle.trace.specs.Refusals.{lineCount, checks, openNow, empty, afterRoot, isCost, afterCost, stray, lastSite, misplaced, aboveM, placeAgain, declared, undeclared, tooDeep, fault, Verdict, accepted, refused, judged, scan, readsFromOf, readsOf, verdictOf}
 use Rattle.trace.specs.Places.{Alike, OnlyPlaces}
 use Rattle.trace.proofs.Basics.{no-way}
 use Rattle.trace.proofs.Cases.{by-site, other, both-ways, makes-same}
@@ -50,6 +51,9 @@ step-blank n f o = unseen (λ e. step n e o) (λ s p q. refl) f
 
 makes-blank : {A : Type 0} (a : ℕ → A) (b : A) (f : Frame) → ifMakes a b (blank f) ≡ ifMakes a b f
 makes-blank a b f = unseen (ifMakes a b) (λ s p q. refl) f
+
+opens-blank : {A : Type 0} (a b : A) (f : Frame) → ifOpens a b (blank f) ≡ ifOpens a b f
+opens-blank a b f = unseen (ifOpens a b) (λ s p q. refl) f
 
 -- ── what all lines say without their places ──
 
@@ -105,8 +109,8 @@ undeclared-blank t f =
 
 deep-blank : (D : ℕ) (t : List Frame) (f : Frame) → tooDeep D (blanks t) (blank f) ≡ tooDeep D t f
 deep-blank D t f =
-    ap (λ (o : List ℕ). ifMakes (λ s. ltb D (suc (length o))) false (blank f)) (now-blank t)
-    ∙ makes-blank (λ s. ltb D (suc (length (openNow t)))) false f
+    ap (λ (o : List ℕ). ifOpens (ltb D (suc (length o))) false (blank f)) (now-blank t)
+    ∙ opens-blank (ltb D (suc (length (openNow t)))) false f
 
 -- ── the refusals of a line ──
 
@@ -192,10 +196,10 @@ same-self : (r : Read) → SameRead r r
 same-self (Line n f) = (refl, refl)
 same-self (Refused k n) = (refl, refl)
 
-alike-same : (s z : List ℕ) (n : ℕ) → Alike s z n → SameRead (readAt s n) (readAt z n)
-alike-same s z n (inl e) = subst (SameRead (readAt s n)) e (same-self (readAt s n))
-alike-same s z n (inr w) =
-    subst (λ (r : Read). SameRead r (readAt z n)) (sym (w .reads-one))
+alike-same : (g : Family) (s z : List ℕ) (n : ℕ) → Alike g s z n → SameRead (readAtOf g s n) (readAtOf g z n)
+alike-same g s z n (inl e) = subst (SameRead (readAtOf g s n)) e (same-self (readAtOf g s n))
+alike-same g s z n (inr w) =
+    subst (λ (r : Read). SameRead r (readAtOf g z n)) (sym (w .reads-one))
     (subst (SameRead (Line n (Site (w .number) (w .place)))) (sym (w .reads-other)) (refl, refl))
 
 -- what comes of line n with this fault, where v is the verdict without one
@@ -225,11 +229,11 @@ judged-same D M t u on on′ d rec (Line n f) (Line m g) e h i =
     (λ a. h n (ap (λ (j : ℕ). faulted n j (on f)) a)) (λ a. i m (ap (λ (j : ℕ). faulted m j (on′ g)) a)) in
     faulted-same n m (fault D M t f) (fault D M u g) (on f) (on′ g) (e .0) c (rec f g (e .1)) h i
 
-scan-same : (D M : ℕ) (s z : List ℕ) (t u : List Frame) (n count : ℕ) → ButPlaces t u
-    → ((i : ℕ) → n ≤ i → i < n + count → Alike s z i)
-    → NotTen (scan D M t (readsFrom s n count)) → NotTen (scan D M u (readsFrom z n count))
-    → SameVerdict (scan D M t (readsFrom s n count)) (scan D M u (readsFrom z n count))
-scan-same D M s z t u n zero d l h i =
+scan-same : (x : Family) (D M : ℕ) (s z : List ℕ) (t u : List Frame) (n count : ℕ) → ButPlaces t u
+    → ((i : ℕ) → n ≤ i → i < n + count → Alike x s z i)
+    → NotTen (scan D M t (readsFromOf x s n count)) → NotTen (scan D M u (readsFromOf x z n count))
+    → SameVerdict (scan D M t (readsFromOf x s n count)) (scan D M u (readsFromOf x z n count))
+scan-same x D M s z t u n zero d l h i =
     go (afterRoot t) (afterRoot u) (sym (ap empty (now-blank t)) ∙ ap afterRoot d ∙ ap empty (now-blank u))
   where
     go : (a b : Bool) → a ≡ b
@@ -238,12 +242,12 @@ scan-same D M s z t u n zero d l h i =
     go true false e = no-way (sym e)
     go false true e = no-way e
     go false false e = (refl, sym (blanks-length t) ∙ ap length d ∙ blanks-length u)
-scan-same D M s z t u n (suc count) d l h i =
+scan-same x D M s z t u n (suc count) d l h i =
     judged-same D M t u
-    (λ f. scan D M (t ++ f ∷ []) (readsFrom s (suc n) count)) (λ f. scan D M (u ++ f ∷ []) (readsFrom z (suc n) count)) d
-    (λ f g e. scan-same D M s z (t ++ f ∷ []) (u ++ g ∷ []) (suc n) count
+    (λ f. scan D M (t ++ f ∷ []) (readsFromOf x s (suc n) count)) (λ f. scan D M (u ++ f ∷ []) (readsFromOf x z (suc n) count)) d
+    (λ f g e. scan-same x D M s z (t ++ f ∷ []) (u ++ g ∷ []) (suc n) count
     (snoc-alike D M t u f g d e) (λ j a b. l j (omega arith) (omega arith)))
-    (readAt s n) (readAt z n) (alike-same s z n (l n (omega arith) (omega arith))) h i
+    (readAtOf x s n) (readAtOf x z n) (alike-same x s z n (l n (omega arith) (omega arith))) h i
 
 -- the lines decide, or the checks gave n
 decided-same : (b : Bool) (n : ℕ) (v w : Verdict) → (NotTen v → NotTen w → SameVerdict v w)
@@ -253,14 +257,14 @@ decided-same true n v w k h i = k h i
 decided-same false n v w k h i = (refl, refl)
 
 -- LAW: two texts that differ only in places have one verdict, unless one is refused with 10
-pub verdict-same : (s z : List ℕ) (D M : ℕ) (room : Bool) → OnlyPlaces s z
-    → NotTen (verdict s D M room) → NotTen (verdict z D M room) → SameVerdict (verdict s D M room) (verdict z D M room)
-verdict-same s z D M room d h =
-    subst (λ (v : Verdict). NotTen v → SameVerdict (verdict s D M room) v) (ap of-length (d .same-length))
+pub verdict-same : (x : Family) (s z : List ℕ) (D M : ℕ) (room : Bool) → OnlyPlaces x s z
+    → NotTen (verdictOf x s D M room) → NotTen (verdictOf x z D M room) → SameVerdict (verdictOf x s D M room) (verdictOf x z D M room)
+verdict-same x s z D M room d h =
+    subst (λ (v : Verdict). NotTen v → SameVerdict (verdictOf x s D M room) v) (ap of-length (d .same-length))
     (decided-same (eqb (checks (length s) D M room) 0) (checks (length s) D M room)
-    (scan D M [] (reads s)) (scan D M [] (readsFrom z 0 (lineCount s)))
-    (scan-same D M s z [] [] 0 (lineCount s) refl (λ n a b. d .lines n (omega arith))) h)
+    (scan D M [] (readsOf x s)) (scan D M [] (readsFromOf x z 0 (lineCount s)))
+    (scan-same x D M s z [] [] 0 (lineCount s) refl (λ n a b. d .lines n (omega arith))) h)
   where
     -- the verdict on z, were it of this length
     of-length : ℕ → Verdict
-    of-length k = cond (eqb (checks k D M room) 0) (scan D M [] (readsFrom z 0 (k / 23))) (refused (checks k D M room) 0)
+    of-length k = cond (eqb (checks k D M room) 0) (scan D M [] (readsFromOf x z 0 (k / 23))) (refused (checks k D M room) 0)

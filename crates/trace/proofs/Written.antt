@@ -8,6 +8,8 @@ use native.Mathlib.Nat.{mul-div-right, mul-mod-right}
 use native.Mathlib.Omega.{arith}
 use lib.ListN.{length, take, length-append}
 use lib.Seq.{take-at, drop-at}
+use Rattle.line.specs.declared.Family.{Family}
+use Rattle.line.specs.declared.Family.the-variants.{Base}
 use Rattle.line.specs.declared.Frame.{Frame}
 use Rattle.line.specs.Read.{readLine, lineAt}
 use Rattle.line.specs.Write.{writable, writeChars}
@@ -45,7 +47,7 @@ reads-text p n (f ∷ u) h w =
     )
 
 -- LAW: a trace that keeps the rules, written out by the line writer, is accepted as that trace
-pub text-accepted : (D M : ℕ) (t : List Frame) → Fine D M t → Writable t → verdict (textOf t) D M true ≡ accepted t
+pub text-accepted : (D M : ℕ) (t : List Frame) → Fine Base D M t → Writable t → verdict (textOf t) D M true ≡ accepted t
 text-accepted D M t f w =
     accepts-accepted (textOf t) D M t
     (record {

@@ -5,7 +5,7 @@ use mathlib.Core.Bool.{cond}
 use mathlib.Core.List.{List, [], _∷_, _++_}
 use lib.Dec.{eqb, ltb}
 use Rattle.chain.specs.Plan.{CostLine, Plan, none, cost, seq, par, weight, choose}
-use Rattle.trace.specs.Tree.{Way, call, spawn, Leaf, spend, sync, note, Body, done, leaf, child, ahead, size}
+use Rattle.trace.specs.Tree.{Way, call, spawn, async, pass, finish, Leaf, spend, sync, note, Body, done, leaf, child, ahead, size}
 
 abbrev pub costAt : ℕ → ℕ → ℕ → ℕ → CostLine
 costAt n s v i = record { line = n; row = s; value = v; instructions = i }
@@ -17,27 +17,40 @@ itsCycles x = x .value
 abbrev pub itsInstructions : CostLine → ℕ
 itsInstructions x = x .instructions
 
--- a called child is in series with what follows it in its block, a spawned child parallel to all of that
-abbrev pub together : Way → Plan → Plan → Plan
-together call g r = seq g r
-together spawn g r = par g r
+-- what follows in the block, up to the next sync of the thing that joins it, and what follows behind that
+pub record Rest : Type 0 where
+  pub now : Plan
+  pub later : Plan
 
-abbrev mutual
-  -- what stands before the next sync directly in the body
-  pub block : ℕ → ℕ → Body → Plan
-  block n s done = none
-  block n s (leaf (spend v) r) = seq (cost (costAt n s v (ahead r))) (block (suc n) s r)
-  block n s (leaf sync r) = none
-  block n s (leaf (note x) r) = block (suc n) s r
-  block n s (child w i g r) = together w (seq (block (suc n) i g) (after (suc n) i g)) (block (suc n + size g) s r)
+abbrev pub nil : Rest
+nil = record { now = none; later = none }
 
-  -- what stands behind that sync
-  pub after : ℕ → ℕ → Body → Plan
-  after n s done = none
-  after n s (leaf (spend v) r) = after (suc n) s r
-  after n s (leaf sync r) = seq (block (suc n) s r) (after (suc n) s r)
-  after n s (leaf (note x) r) = after (suc n) s r
-  after n s (child w i g r) = after (suc n + size g) s r
+abbrev pub all : Rest → Plan
+all k = seq (k .now) (k .later)
+
+-- What a child's body makes of what follows the child. A called child or a finish is in series with what follows it in its
+-- block, a spawned child parallel to all of that, and a call that joins nothing hands it on into its own items.
+abbrev pub together : Way → (Rest → Rest) → Rest → Rest
+together call f k = record { now = seq (all (f nil)) (k .now); later = k .later }
+together spawn f k = record { now = par (all (f nil)) (k .now); later = k .later }
+together async f k = record { now = par (all (f nil)) (k .now); later = k .later }
+together pass f k = f k
+together finish f k = record { now = seq (all (f nil)) (k .now); later = k .later }
+
+-- the plan of a body's items with what follows the body
+abbrev pub planTo : ℕ → ℕ → Body → Rest → Rest
+planTo n s done k = k
+planTo n s (leaf (spend v) r) k = record { now = seq (cost (costAt n s v (ahead r))) (planTo (suc n) s r k .now); later = planTo (suc n) s r k .later }
+planTo n s (leaf sync r) k = record { now = none; later = all (planTo (suc n) s r k) }
+planTo n s (leaf (note x) r) k = planTo (suc n) s r k
+planTo n s (child w i g r) k = together w (planTo (suc n) i g) (planTo (suc n + size g) s r k)
+
+-- what stands before the next sync directly in the body, and what stands behind that sync
+abbrev pub block : ℕ → ℕ → Body → Plan
+block n s b = planTo n s b nil .now
+
+abbrev pub after : ℕ → ℕ → Body → Plan
+after n s b = planTo n s b nil .later
 
 abbrev pub plan : ℕ → ℕ → Body → Plan
 plan n s b = seq (block n s b) (after n s b)
@@ -79,6 +92,9 @@ ended f = joined (f nothing) .p
 abbrev pub childChains : Way → (Chains → Chains) → Chains → Chains
 childChains call f k = called (ended f) k
 childChains spawn f k = spawned (ended f) k
+childChains async f k = spawned (ended f) k
+childChains pass f k = f k
+childChains finish f k = called (ended f) k
 
 -- what the items of a body make of the chains that its invocation has come to; the join at its return is left to the
 -- caller

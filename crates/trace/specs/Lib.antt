@@ -1,4 +1,5 @@
 pub mod Shape
+pub mod Async
 pub mod Series
 pub mod Rows
 pub mod Column
@@ -10,4 +11,5 @@ pub mod Tree
 pub mod Fold
 pub mod ByTree
 pub mod Twelve
+pub mod Finishes
 pub mod Written

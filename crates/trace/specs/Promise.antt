@@ -5,14 +5,16 @@ use mathlib.Core.Bool.{Bool, cond, _&&_}
 use mathlib.Core.List.{List}
 use lib.Dec.{leb}
 use lib.ListN.{length, getD, replicate}
+use Rattle.line.specs.declared.Family.{Family}
+use Rattle.line.specs.declared.Family.the-variants.{Base}
 use Rattle.line.specs.declared.Frame.{Frame}
 use Rattle.trace.specs.declared.Answer.{Answer}
 use Rattle.trace.specs.declared.Answer.the-variants.{Accepted, Refused}
 use Rattle.trace.specs.Shape.{root, has, sites}
-use Rattle.trace.specs.Series.{Span, Chosen}
-use Rattle.trace.specs.Rows.{columns, total, calls, work, Spans, local, onSpan, ilocal, ionSpan}
+use Rattle.trace.specs.Series.{SpanOf, ChosenOf}
+use Rattle.trace.specs.Rows.{columns, total, calls, work, SpansOf, local, onSpan, ilocal, ionSpan}
 use Rattle.trace.specs.Column.{Column, slot}
-use Rattle.trace.specs.Refusals.{lineCount, Verdict, accepted, refused, verdict}
+use Rattle.trace.specs.Refusals.{lineCount, Verdict, accepted, refused, verdictOf}
 
 pub data Engine : Type 0 where
   tables marks : Engine
@@ -53,19 +55,19 @@ abbrev pub refusal : ℕ → ℕ → Answer
 refusal number line = Refused number line
 
 -- row s of the rows; c is the chosen chain
-pub record Row (t : List Frame) (c : List ℕ) (rows : List ℕ) (s : ℕ) : Type 0 where
+pub record RowOf (g : Family) (t : List Frame) (c : List ℕ) (rows : List ℕ) (s : ℕ) : Type 0 where
   pub calls-is : getD rows (slot s Column.calls) 0 ≡ calls t s
   pub work-is : getD rows (slot s Column.work) 0 ≡ work t s
-  pub span-is : Spans t s (getD rows (slot s Column.span) 0)
+  pub span-is : SpansOf g t s (getD rows (slot s Column.span) 0)
   pub local-is : getD rows (slot s Column.local) 0 ≡ local t s
   pub on-span-is : getD rows (slot s Column.onSpan) 0 ≡ onSpan t c s
   pub ilocal-is : getD rows (slot s Column.ilocal) 0 ≡ ilocal t s
   pub ion-span-is : getD rows (slot s Column.ionSpan) 0 ≡ ionSpan t c s
 
 -- "Row numbers 0 to 5·(sites+1)-1", with seven for five, "hold the rows and the rest are unchanged."
-pub record Rows (t : List Frame) (c before after : List ℕ) : Type 0 where
+pub record RowsOf (g : Family) (t : List Frame) (c before after : List ℕ) : Type 0 where
   pub same-length : length after ≡ length before
-  pub rows-are : (s : ℕ) → s ≤ sites t → Row t c after s
+  pub rows-are : (s : ℕ) → s ≤ sites t → RowOf g t c after s
   pub rest : (i : ℕ) → columns * (sites t + 1) ≤ i → getD after i 0 ≡ getD before i 0
 
 -- "A mark is 1 for a line on the chosen chain, 0 for any other; marks past the last line are unchanged." n: the
@@ -81,23 +83,39 @@ Marked tables n c before after = after ≡ before
 Marked marks n c before after = Marks n c before after
 
 -- what comes back of an accepted trace
-pub record Profile (e : Engine) (t : List Frame) (before : Lent) (r : Answer) (after : Lent) : Type 0 where
+pub record ProfileOf (g : Family) (e : Engine) (t : List Frame) (before : Lent) (r : Answer) (after : Lent) : Type 0 where
   pub chain : List ℕ
-  pub chosen : Chosen t chain
+  pub chosen : ChosenOf g t chain
   pub span : ℕ
-  pub is-span : Span t root span
+  pub is-span : SpanOf g t root span
   pub answer : r ≡ acceptance t span
-  pub rows : Rows t chain (before .rows) (after .rows)
+  pub rows : RowsOf g t chain (before .rows) (after .rows)
   -- "The whole scratch is zero."
   pub scratch : after .scratch ≡ replicate (length (before .scratch)) 0
   pub marked : Marked e (length t) chain (before .marks) (after .marks)
 
 -- The engine e, lent the room before, answers r and leaves after, where this is the verdict. "Every lent slice, scratch
 -- included, is unchanged" where it refuses.
-pub record Kept (e : Engine) (v : Verdict) (before : Lent) (r : Answer) (after : Lent) : Type 0 where
-  pub when-accepted : (t : List Frame) → v ≡ accepted t → Profile e t before r after
+pub record KeptOf (g : Family) (e : Engine) (v : Verdict) (before : Lent) (r : Answer) (after : Lent) : Type 0 where
+  pub when-accepted : (t : List Frame) → v ≡ accepted t → ProfileOf g e t before r after
   pub when-refused : (number line : ℕ) → v ≡ refused number line → (r ≡ refusal number line) × (after ≡ before)
 
 -- the same of the text s with limits D and M
+abbrev pub PromiseOf : Family → Engine → List ℕ → ℕ → ℕ → Lent → Answer → Lent → Type 0
+PromiseOf g e s D M before r after = KeptOf g e (verdictOf g s D M (enough e s D M before)) before r after
+
+-- those of document 01's traces
+abbrev pub Row : List Frame → List ℕ → List ℕ → ℕ → Type 0
+Row t c rows s = RowOf Base t c rows s
+
+abbrev pub Rows : List Frame → List ℕ → List ℕ → List ℕ → Type 0
+Rows t c before after = RowsOf Base t c before after
+
+abbrev pub Profile : Engine → List Frame → Lent → Answer → Lent → Type 0
+Profile e t before r after = ProfileOf Base e t before r after
+
+abbrev pub Kept : Engine → Verdict → Lent → Answer → Lent → Type 0
+Kept e v before r after = KeptOf Base e v before r after
+
 abbrev pub Promise : Engine → List ℕ → ℕ → ℕ → Lent → Answer → Lent → Type 0
-Promise e s D M before r after = Kept e (verdict s D M (enough e s D M before)) before r after
+Promise e s D M before r after = PromiseOf Base e s D M before r after

@@ -6,11 +6,13 @@ use mathlib.Core.List.{List, [], _∷_, _++_}
 use lib.ListN.{length}
 use lib.Dec.{eqb, ltb, leb}
 use Rattle.line.specs.declared.Place.{Place}
+use Rattle.line.specs.declared.Family.{Family}
+use Rattle.line.specs.declared.Family.the-variants.{Base}
 use Rattle.line.specs.declared.Frame.{Frame}
 use Rattle.line.specs.declared.Read.{Read}
 use Rattle.line.specs.declared.Read.the-variants.{Line, Refused}
-use Rattle.line.specs.Read.{width, readAt}
-use Rattle.trace.specs.Shape.{ifSite, ifMakes, ifCost, ifInstructions, openAt}
+use Rattle.line.specs.Read.{width, readAtOf}
+use Rattle.trace.specs.Shape.{ifSite, ifMakes, ifOpens, ifCost, ifInstructions, openAt}
 
 -- 1: "D or M outside its range": "a depth limit D, 1 to 64, counting the root, and a site limit M, 0 to 255"
 abbrev pub outOfRange : ℕ → ℕ → Bool
@@ -96,13 +98,13 @@ abbrev pub declared : ℕ → List Frame → Bool
 declared s [] = false
 declared s (f ∷ t) = ifSite (λ i p. eqb s i || declared s t) (declared s t) f
 
--- 11: "call or spawn of site 0 or one not declared"; 02, request j: "declared on an earlier line"
+-- 11: "call or spawn of site 0 or one not declared", or async; 02, request j: "declared on an earlier line"
 abbrev pub undeclared : List Frame → Frame → Bool
 undeclared before f = ifMakes (λ s. eqb s 0 || not (declared s before)) false f
 
--- 12: "more than D invocations open", the one that this line opens among them
+-- 12: "more than D invocations open", the one that this line opens among them; 02, request n: "a finish counts towards D"
 abbrev pub tooDeep : ℕ → List Frame → Frame → Bool
-tooDeep D before f = ifMakes (λ s. ltb D (suc (length (openNow before)))) false f
+tooDeep D before f = ifOpens (ltb D (suc (length (openNow before)))) false f
 
 -- the smallest number from 7 to 12 that applies to the line, where 22 is "checked after 7"; 0 where none does. 02,
 -- request e: "take 13 out of the table, code and card, and leave its number unused"
@@ -134,13 +136,23 @@ scan D M before [] = cond (afterRoot before) (accepted before) (refused 14 (leng
 scan D M before (r ∷ rs) = judged D M before r (λ f. scan D M (before ++ f ∷ []) rs)
 
 -- how the lines of a text read, count of them from line n on
-abbrev pub readsFrom : List ℕ → ℕ → ℕ → List Read
-readsFrom s n zero = []
-readsFrom s n (suc count) = readAt s n ∷ readsFrom s (suc n) count
+abbrev pub readsFromOf : Family → List ℕ → ℕ → ℕ → List Read
+readsFromOf g s n zero = []
+readsFromOf g s n (suc count) = readAtOf g s n ∷ readsFromOf g s (suc n) count
 
-abbrev pub reads : List ℕ → List Read
-reads s = readsFrom s 0 (lineCount s)
+abbrev pub readsOf : Family → List ℕ → List Read
+readsOf g s = readsFromOf g s 0 (lineCount s)
 
 -- "Checks 1 to 4 run in that order. Then the first faulty line decides"
+abbrev pub verdictOf : Family → List ℕ → ℕ → ℕ → Bool → Verdict
+verdictOf g s D M room = cond (eqb (checks (length s) D M room) 0) (scan D M [] (readsOf g s)) (refused (checks (length s) D M room) 0)
+
+-- those of document 01's traces
+abbrev pub readsFrom : List ℕ → ℕ → ℕ → List Read
+readsFrom s n count = readsFromOf Base s n count
+
+abbrev pub reads : List ℕ → List Read
+reads s = readsOf Base s
+
 abbrev pub verdict : List ℕ → ℕ → ℕ → Bool → Verdict
-verdict s D M room = cond (eqb (checks (length s) D M room) 0) (scan D M [] (reads s)) (refused (checks (length s) D M room) 0)
+verdict s D M room = verdictOf Base s D M room

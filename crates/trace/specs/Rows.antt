@@ -5,15 +5,18 @@ use mathlib.Core.Bool.{Bool, true, false, cond, _&&_, _||_}
 use mathlib.Core.List.{List, [], _∷_}
 use lib.Dec.{eqb}
 use lib.ListN.{length}
+use Rattle.line.specs.declared.Family.{Family}
+use Rattle.line.specs.declared.Family.the-variants.{Base}
 use Rattle.line.specs.declared.Frame.{Frame}
-use Rattle.trace.specs.Shape.{ifMakes, ifCost, ifInstructions, root, step, openAt, has, firstIs}
-use Rattle.trace.specs.Series.{value, Span}
+use Rattle.trace.specs.Shape.{ifMakes, ifCost, ifInstructions, root, step, openAt, has}
+use Rattle.trace.specs.Async.{ownerIs}
+use Rattle.trace.specs.Series.{value, SpanOf}
 
 -- "Five numbers a row"; 02, request l: "so rows are seven long"
 abbrev pub columns : ℕ
 columns = 7
 
--- a call or spawn of site s
+-- a call, spawn or async of site s
 abbrev pub makes : ℕ → Frame → Bool
 makes s f = ifMakes (λ i. eqb i s) false f
 
@@ -87,15 +90,15 @@ total t = costsWhere cycles t (λ k o. true)
 abbrev pub itotal : List Frame → ℕ
 itotal t = costsWhere instructions t (λ k o. true)
 
--- all costs inside an invocation; what stands directly in it; and of that on a chain
+-- all costs inside an invocation; what stands directly in it, or in a finish directly in it; and of that on a chain
 abbrev pub inside : List Frame → ℕ → ℕ
 inside t F = costsWhere cycles t (λ k o. has F o)
 
 abbrev pub direct : Measure → List Frame → ℕ → ℕ
-direct m t F = costsWhere m t (λ k o. firstIs F o)
+direct m t F = costsWhere m t (λ k o. ownerIs t F o)
 
 abbrev pub directOn : Measure → List Frame → List ℕ → ℕ → ℕ
-directOn m t c F = costsWhere m t (λ k o. firstIs F o && has k c)
+directOn m t c F = costsWhere m t (λ k o. ownerIs t F o && has k c)
 
 abbrev pub sum : (ℕ → ℕ) → List ℕ → ℕ
 sum f [] = 0
@@ -106,7 +109,7 @@ abbrev pub Sum : (ℕ → ℕ → Type 0) → List ℕ → ℕ → Type 0
 Sum p [] n = n ≡ 0
 Sum p (x ∷ l) n = (a : ℕ) × (b : ℕ) × p x a × Sum p l b × (n ≡ a + b)
 
--- 1. "calls: invocations made from that site, by call or spawn (root: 1)"
+-- 1. "calls: invocations made from that site, by call or spawn (root: 1)", or by async
 abbrev pub calls : List Frame → ℕ → ℕ
 calls t s = length (ofRow t s)
 
@@ -115,8 +118,12 @@ abbrev pub work : List Frame → ℕ → ℕ
 work t s = sum (inside t) (counted t s)
 
 -- 3. "span: the sum, over those invocations, of each one's span"; those that are counted
+abbrev pub SpansOf : Family → List Frame → ℕ → ℕ → Type 0
+SpansOf g t s n = Sum (SpanOf g t) (counted t s) n
+
+-- that of document 01's traces
 abbrev pub Spans : List Frame → ℕ → ℕ → Type 0
-Spans t s n = Sum (Span t) (counted t s) n
+Spans t s n = SpansOf Base t s n
 
 -- 4. "local: costs directly in those invocations"
 abbrev pub local : List Frame → ℕ → ℕ

@@ -7,7 +7,7 @@ use mathlib.Core.List.{List, [], _∷_}
 use lib.Dec.{T, eqb}
 use Rattle.line.specs.declared.Place.{Place}
 use Rattle.line.specs.declared.Frame.{Frame}
-use Rattle.line.specs.declared.Frame.the-variants.{Site, Call, Spawn, Sync, Return, Cost, Instructions}
+use Rattle.line.specs.declared.Frame.the-variants.{Site, Call, Spawn, Sync, Return, Cost, Instructions, Async, Finish}
 
 -- a: what is said of a site line, by its number and its place; b: of any other line
 abbrev pub ifSite : {A : Type 0} → (ℕ → Place → A) → A → Frame → A
@@ -18,8 +18,11 @@ ifSite a b Sync = b
 ifSite a b Return = b
 ifSite a b (Cost v) = b
 ifSite a b (Instructions v) = b
+ifSite a b (Async s) = b
+ifSite a b Finish = b
 
--- a: what is said of a call or spawn, by its site; b: of any other line
+-- a: what is said of a call, spawn or async, by its site; b: of any other line. 02, request n: "Refusal 11 and column 1 take
+-- async as spawn"
 abbrev pub ifMakes : {A : Type 0} → (ℕ → A) → A → Frame → A
 ifMakes a b (Site s p) = b
 ifMakes a b (Call s) = a s
@@ -28,6 +31,8 @@ ifMakes a b Sync = b
 ifMakes a b Return = b
 ifMakes a b (Cost v) = b
 ifMakes a b (Instructions v) = b
+ifMakes a b (Async s) = a s
+ifMakes a b Finish = b
 
 -- a: what is said of a cost line, by its value; b: of any other line
 abbrev pub ifCost : {A : Type 0} → (ℕ → A) → A → Frame → A
@@ -38,6 +43,8 @@ ifCost a b Sync = b
 ifCost a b Return = b
 ifCost a b (Cost v) = a v
 ifCost a b (Instructions v) = b
+ifCost a b (Async s) = b
+ifCost a b Finish = b
 
 -- a: what is said of a line of instructions, by its value; b: of any other line
 abbrev pub ifInstructions : {A : Type 0} → (ℕ → A) → A → Frame → A
@@ -48,6 +55,20 @@ ifInstructions a b Sync = b
 ifInstructions a b Return = b
 ifInstructions a b (Cost v) = b
 ifInstructions a b (Instructions v) = a v
+ifInstructions a b (Async s) = b
+ifInstructions a b Finish = b
+
+-- a: what is said of a line that opens something, a finish too; b: of any other line
+abbrev pub ifOpens : {A : Type 0} → A → A → Frame → A
+ifOpens a b (Site s p) = b
+ifOpens a b (Call s) = a
+ifOpens a b (Spawn s) = a
+ifOpens a b Sync = b
+ifOpens a b Return = b
+ifOpens a b (Cost v) = b
+ifOpens a b (Instructions v) = b
+ifOpens a b (Async s) = a
+ifOpens a b Finish = a
 
 -- "Lines are numbered from 0": line k of the trace is this frame
 abbrev pub Is : List Frame → ℕ → Frame → Type 0
@@ -64,7 +85,8 @@ closed [] = []
 closed (x ∷ o) = o
 
 -- What line n does to the open invocations, which are listed innermost first: "a call or spawn with its body up to
--- its own return".
+-- its own return". 02, request n: an async is one, and a finish stands among them under its own name; "05 closes the
+-- innermost open thing".
 abbrev pub step : ℕ → Frame → List ℕ → List ℕ
 step n (Site s p) o = o
 step n (Call s) o = suc n ∷ o
@@ -73,6 +95,8 @@ step n Sync o = o
 step n Return o = closed o
 step n (Cost v) o = o
 step n (Instructions v) o = o
+step n (Async s) o = suc n ∷ o
+step n Finish o = suc n ∷ o
 
 -- those open at the line j lines behind line n, at which t begins and o are open
 abbrev pub walk : ℕ → List ℕ → List Frame → ℕ → List ℕ

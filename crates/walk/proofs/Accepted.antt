@@ -8,19 +8,20 @@ use native.Mathlib.Omega.{arith}
 use lib.Dec.{leb}
 use lib.ListN.{length, getD, drop, replicate}
 use borrow.Author.Tests.{leb-true}
+use Rattle.line.specs.declared.Family.{Family}
 use Rattle.line.specs.declared.Frame.{Frame}
 use Rattle.trace.specs.Shape.{sites}
 use Rattle.trace.specs.Rows.{columns}
 use Rattle.trace.specs.Column.{Column, slot}
-use Rattle.trace.specs.Refusals.{accepted, verdict}
+use Rattle.trace.specs.Refusals.{accepted, verdictOf}
 use Rattle.trace.specs.declared.Answer.{Answer}
-use Rattle.trace.specs.Promise.{Engine, Lent, enough, scratchRoom, rowsRoom, marksRoom, Profile}
-use Rattle.trace.specs.Tree.{Body, size, Within, workOf, spanOf, Parts}
+use Rattle.trace.specs.Promise.{Engine, Lent, enough, scratchRoom, rowsRoom, marksRoom, ProfileOf}
+use Rattle.trace.specs.Tree.{Body, size, Within, workOf, spanOf, PartsOf}
 use Rattle.trace.specs.Fold.{nothing}
 use Rattle.trace.specs.ByTree.{cell, ProfileBy}
 use Rattle.trace.proofs.Basics.{both}
 use Rattle.trace.proofs.Slots.{slot-in}
-use Rattle.trace.proofs.Scan.{Fine, accepted-is, accepted-fine}
+use Rattle.trace.proofs.Scan.{Fine, accepted-is-of, accepted-fine-of}
 use Rattle.trace.proofs.Accept.{sites-le-M}
 use Rattle.trace.proofs.Outcome.{tree-profile, length-is}
 use Rattle.weigh.specs.Weighed.{Weigh, Tabled}
@@ -37,9 +38,9 @@ use Rattle.walk.proofs.Columns.{root-on, root-ion}
 use Rattle.walk.proofs.Root.{Weighty, other, tree, root-small, root-reads, root-ready, cells-are, behind}
 use Rattle.walk.proofs.Zeros.{cleared-length, cleared-front, cleared-back}
 
-module _ (e : Engine) (s : List ℕ) (D M : ℕ) (x : Lent) (t : List Frame) (is : verdict s D M (enough e s D M x) ≡ accepted t) (count : ℕ) (count-is : sites t ≡ count) where
-  pub fine : Fine D M t
-  fine = accepted-fine s D M (enough e s D M x) t is
+module _ (y : Family) (e : Engine) (s : List ℕ) (D M : ℕ) (x : Lent) (t : List Frame) (is : verdictOf y s D M (enough e s D M x) ≡ accepted t) (count : ℕ) (count-is : sites t ≡ count) where
+  pub fine : Fine y D M t
+  fine = accepted-fine-of y s D M (enough e s D M x) t is
 
   pub limits : (1 ≤ D) × (D ≤ 64) × (M ≤ 255) × (count ≤ M)
   limits = (fine .least, fine .most, fine .sites-most, omega (arith, sites-le-M D M t fine))
@@ -47,7 +48,7 @@ module _ (e : Engine) (s : List ℕ) (D M : ℕ) (x : Lent) (t : List Frame) (is
   -- no lent slice is too short
   pub rooms : (scratchRoom e D M ≤ length (x .scratch)) × (rowsRoom M ≤ length (x .rows)) × (marksRoom e s ≤ length (x .marks))
   rooms =
-      let h = accepted-is s D M (enough e s D M x) t is .0 in
+      let h = accepted-is-of y s D M (enough e s D M x) t is .0 in
       let a = both (leb (scratchRoom e D M) (length (x .scratch)) && leb (rowsRoom M) (length (x .rows))) (leb (marksRoom e s) (length (x .marks))) h in
       let b = both (leb (scratchRoom e D M) (length (x .scratch))) (leb (rowsRoom M) (length (x .rows))) (a .0) in
       (leb-true (scratchRoom e D M) (length (x .scratch)) (b .0), leb-true (rowsRoom M) (length (x .rows)) (b .1), leb-true (marksRoom e s) (length (x .marks)) (a .1))
@@ -71,7 +72,7 @@ module _ (e : Engine) (s : List ℕ) (D M : ℕ) (x : Lent) (t : List Frame) (is
     abbrev pub trace : List Frame
     trace = other w tabled D M t fine
 
-    abbrev pub root : Parts D trace
+    abbrev pub root : PartsOf y D trace
     root = tree w tabled D M t fine
 
     abbrev pub body : Body
@@ -93,7 +94,7 @@ module _ (e : Engine) (s : List ℕ) (D M : ℕ) (x : Lent) (t : List Frame) (is
     pub small : mostGain body < 2 ^ 56
     small = root-small w tabled D M t fine
 
-    pub reads : Reads w s 0 0 body
+    pub reads : Reads y w s 0 0 body
     reads = root-reads w some D M t fine s (enough e s D M x) is
 
     zeros : (i : ℕ) → i < columns * (sites trace + 1) → getD cleared i 0 ≡ 0
@@ -102,13 +103,13 @@ module _ (e : Engine) (s : List ℕ) (D M : ℕ) (x : Lent) (t : List Frame) (is
     long : columns * (sites trace + 1) ≤ length cleared
     long = omega (arith, cleared-long, rows-room, sites-are)
 
-    pub ready : Ready w s 0 count (D - 1) (numbers 0 0 nothing) cleared
+    pub ready : Ready y w s 0 count (D - 1) (numbers 0 0 nothing) cleared
     ready =
         root-ready w some D M t fine s (enough e s D M x) is small count count-is cleared (omega (arith, long, sites-are)) (λ i l. zeros i (omega (arith, sites-are)))
 
     -- what the tree says of an outcome is the profile of the weighed trace
-    pub profiled : (r : Answer) (y : Lent) → ProfileBy e count body x r y → Profile e trace x r y
-    profiled r y h = tree-profile D trace root e x r y (subst (λ (m : ℕ). ProfileBy e m body x r y) (sym sites-are) h)
+    pub profiled : (r : Answer) (after : Lent) → ProfileBy e count body x r after → ProfileOf y e trace x r after
+    profiled r after h = tree-profile D trace root e x r after (subst (λ (m : ℕ). ProfileBy e m body x r after) (sym sites-are) h)
 
     -- The root's body was read: its numbers are c, and before is what columns 2 and 3 of its row held.
     module _ (before : Credit) (before-is : before ≡ creditOf cleared 0) (c : Open) (rows₁ : List ℕ) (same : length rows₁ ≡ length (x .rows))

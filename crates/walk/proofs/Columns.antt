@@ -5,13 +5,14 @@ use Prim.Native.Nat.{ℕ, zero, suc, _+_, _*_, _≤_}
 use native.Mathlib.Omega.{arith}
 use lib.Dec.{eqb}
 use borrow.Author.Tests.{eqb-true, eqb-false, eq-eqb, ne-eqb}
+use Rattle.line.specs.declared.Family.{Family}
 use Rattle.trace.specs.Rows.{columns}
 use Rattle.trace.specs.Column.{Column, nth, slot}
 use Rattle.trace.specs.ByTree.{cell}
-use Rattle.trace.specs.Tree.{Leaf, leafWork, leafCycles, leafInstructions, Body, done, leaf, child, Within, directOf, workOf, localOf, ilocalOf, spanOf, madeSum, outerSum}
+use Rattle.trace.specs.Tree.{Way, Leaf, leafWork, leafCycles, leafInstructions, Body, done, leaf, child, invokes, Of, Within, directOf, workOf, localOf, ilocalOf, spanOf, madeSum, outerSum}
 use Rattle.trace.proofs.Basics.{cond-same, cond-add}
 use Rattle.trace.proofs.Slots.{slot-apart, slot-in}
-use Rattle.trace.proofs.Columns.{none-from-root}
+use Rattle.trace.proofs.Columns.{none-from-root, held}
 use Rattle.walk.specs.Gain.{one, oneCall, returned, costGain, gain, made}
 use Rattle.walk.proofs.Rows.{one-other}
 
@@ -58,6 +59,14 @@ returned-at k j s work span x =
     go true Column.ionSpan = omega arith
     go false k = omega arith
 
+-- a finish returns and nothing is counted
+child-at : (k : Column) (w : Way) (j s work span x : ℕ) → cond (invokes w) (returned j work span x (slot s k)) x ≡ cond (invokes w && eqb j s) (own k work span x) x
+child-at k w j s work span x = go (invokes w)
+  where
+    go : (b : Bool) → cond b (returned j work span x (slot s k)) x ≡ cond (b && eqb j s) (own k work span x) x
+    go true = returned-at k j s work span x
+    go false = refl
+
 -- a cost is in no column but the fourth and the sixth
 no-one : (c k : Column) → ((v : ℕ) → one (nth c) v (nth k) ≡ 0) → (row s v : ℕ) → one (slot row c) v (slot s k) ≡ 0
 no-one c k h row s v = one-at row s v c k ∙ ap (λ (x : ℕ). cond (eqb row s) x 0) (h v) ∙ cond-same (eqb row s)
@@ -79,7 +88,7 @@ gain-calls row s done = refl
 gain-calls row s (leaf l r) = omega (arith, no-cost Column.calls ((λ v. refl), (λ v. refl)) row s (leafWork l) (leafInstructions l r), gain-calls row s r)
 gain-calls row s (child w j g r) =
     let x = gain j g (slot s Column.calls) in
-    omega (arith, returned-at Column.calls j s (workOf g) (spanOf g) x, call-more (eqb j s) x, gain-calls j s g, gain-calls row s r)
+    omega (arith, child-at Column.calls w j s (workOf g) (spanOf g) x, call-more (invokes w && eqb j s) x, gain-calls j s g, gain-calls row s r)
 
 -- columns 2 and 3: the outermost, for a return writes over what is inside
 module _ (k : Column) (h : Body → ℕ) (written : (g : Body) (x : ℕ) → own k (workOf g) (spanOf g) x ≡ h g) (no-local : Neither k) where
@@ -90,9 +99,9 @@ module _ (k : Column) (h : Body → ℕ) (written : (g : Body) (x : ℕ) → own
       let x = gain j g (slot s k) in
       omega (
         arith,
-        returned-at k j s (workOf g) (spanOf g) x,
-        ap (λ (y : ℕ). cond (eqb j s) y x) (written g x),
-        ap (cond (eqb j s) (h g)) (gain-outer j s g),
+        child-at k w j s (workOf g) (spanOf g) x,
+        ap (λ (z : ℕ). cond (invokes w && eqb j s) z x) (written g x),
+        ap (cond (invokes w && eqb j s) (h g)) (gain-outer j s g),
         gain-outer row s r,
       )
 
@@ -100,21 +109,25 @@ same-either : (b : Bool) (x : ℕ) → cond b x x ≡ x
 same-either true x = refl
 same-either false x = refl
 
--- columns 4 and 6: what stands directly in the body belongs to its own row
+-- a column that a return leaves alone
+module _ (k : Column) (kept : (work span x : ℕ) → own k work span x ≡ x) where
+  child-kept : (w : Way) (j s work span x : ℕ) → cond (invokes w) (returned j work span x (slot s k)) x ≡ x
+  child-kept w j s work span x =
+      child-at k w j s work span x ∙ ap (λ (z : ℕ). cond (invokes w && eqb j s) z x) (kept work span x) ∙ same-either (invokes w && eqb j s) x
+
+-- columns 4 and 6: what stands directly in the body, or in a finish directly in it, belongs to its own row
 module _ (k : Column) (m : Leaf → Body → ℕ) (kept : (work span x : ℕ) → own k work span x ≡ x)
     (here : (row s : ℕ) (l : Leaf) (r : Body) → costGain row (leafWork l) (leafInstructions l r) (slot s k) ≡ cond (eqb row s) (m l r) 0) where
-  gain-direct : (row s : ℕ) (b : Body) → gain row b (slot s k) ≡ cond (eqb row s) (directOf m b) 0 + madeSum (directOf m) s b
-  gain-direct row s done = omega (arith, cond-same (eqb row s))
-  gain-direct row s (leaf l r) = omega (arith, here row s l r, cond-add (eqb row s) (m l r) (directOf m r), gain-direct row s r)
-  gain-direct row s (child w j g r) =
-      let x = gain j g (slot s k) in
+  gain-direct : (y : Family) (row s : ℕ) (b : Body) → Of y row b → gain row b (slot s k) ≡ cond (eqb row s) (directOf m b) 0 + madeSum (directOf m) s b
+  gain-direct y row s done o = omega (arith, cond-same (eqb row s))
+  gain-direct y row s (leaf l r) o = omega (arith, here row s l r, cond-add (eqb row s) (m l r) (directOf m r), gain-direct y row s r (o .1))
+  gain-direct y row s (child w j g r) o =
       omega (
         arith,
-        returned-at k j s (workOf g) (spanOf g) x,
-        ap (λ (y : ℕ). cond (eqb j s) y x) (kept (workOf g) (spanOf g) x),
-        same-either (eqb j s) x,
-        gain-direct j s g,
-        gain-direct row s r,
+        child-kept k kept w j s (workOf g) (spanOf g) (gain j g (slot s k)),
+        gain-direct y j s g (o .1),
+        gain-direct y row s r (o .2),
+        held y w j row (o .0) s (directOf m g) (directOf m r),
       )
 
 cost-local : (row s v j : ℕ) → costGain row v j (slot s Column.local) ≡ cond (eqb row s) v 0
@@ -123,10 +136,10 @@ cost-local row s v j = omega (arith, one-at row s v Column.local Column.local, n
 cost-ilocal : (row s v j : ℕ) → costGain row v j (slot s Column.ilocal) ≡ cond (eqb row s) j 0
 cost-ilocal row s v j = omega (arith, one-at row s j Column.ilocal Column.ilocal, no-one Column.local Column.ilocal (λ i. refl) row s v)
 
-gain-local : (row s : ℕ) (b : Body) → gain row b (slot s Column.local) ≡ cond (eqb row s) (localOf b) 0 + madeSum localOf s b
+gain-local : (y : Family) (row s : ℕ) (b : Body) → Of y row b → gain row b (slot s Column.local) ≡ cond (eqb row s) (localOf b) 0 + madeSum localOf s b
 gain-local = gain-direct Column.local leafCycles (λ work span x. refl) (λ row s l r. cost-local row s (leafWork l) (leafInstructions l r))
 
-gain-ilocal : (row s : ℕ) (b : Body) → gain row b (slot s Column.ilocal) ≡ cond (eqb row s) (ilocalOf b) 0 + madeSum ilocalOf s b
+gain-ilocal : (y : Family) (row s : ℕ) (b : Body) → Of y row b → gain row b (slot s Column.ilocal) ≡ cond (eqb row s) (ilocalOf b) 0 + madeSum ilocalOf s b
 gain-ilocal = gain-direct Column.ilocal leafInstructions (λ work span x. refl) (λ row s l r. cost-ilocal row s (leafWork l) (leafInstructions l r))
 
 -- columns 5 and 7 are left alone
@@ -134,16 +147,7 @@ module _ (k : Column) (kept : (work span x : ℕ) → own k work span x ≡ x) (
   gain-on : (row s : ℕ) (b : Body) → gain row b (slot s k) ≡ 0
   gain-on row s done = refl
   gain-on row s (leaf l r) = omega (arith, no-cost k no-local row s (leafWork l) (leafInstructions l r), gain-on row s r)
-  gain-on row s (child w j g r) =
-      let x = gain j g (slot s k) in
-      omega (
-        arith,
-        returned-at k j s (workOf g) (spanOf g) x,
-        ap (λ (y : ℕ). cond (eqb j s) y x) (kept (workOf g) (spanOf g) x),
-        same-either (eqb j s) x,
-        gain-on j s g,
-        gain-on row s r,
-      )
+  gain-on row s (child w j g r) = omega (arith, child-kept k kept w j s (workOf g) (spanOf g) (gain j g (slot s k)), gain-on j s g, gain-on row s r)
 
 -- the numbers behind the rows are left alone
 module _ (m i : ℕ) (l : columns * (m + 1) ≤ i) where
@@ -163,7 +167,14 @@ module _ (m i : ℕ) (l : columns * (m + 1) ≤ i) where
   gain-out D d row done h w = refl
   gain-out D d row (leaf k r) h w = omega (arith, one-out row (leafWork k) Column.local w, one-out row (leafInstructions k r) Column.ilocal w, gain-out D d row r (h .1) w)
   gain-out D d row (child k j g r) h w =
-      omega (arith, returned-out j (workOf g) (spanOf g) (gain j g i) (h .1), gain-out D (suc d) j g (h .3) (h .1), gain-out D d row r (h .4) w)
+      let x = gain j g i in
+      omega (
+        arith,
+        ap (λ (z : ℕ). cond (invokes k) z x) (returned-out j (workOf g) (spanOf g) x (h .1)),
+        same-either (invokes k) x,
+        gain-out D (suc d) j g (h .3) (h .1),
+        gain-out D d row r (h .4) w,
+      )
 
 -- the root is of no site's row
 not-its-own : (s x : ℕ) → cond (eqb 0 (suc s)) x 0 ≡ 0
@@ -195,16 +206,16 @@ module _ (m D d : ℕ) (b : Body) (w : Within m D d b) where
   root-out i h = returned-out m i h 0 (workOf b) (spanOf b) (gain 0 b i) (omega arith) ∙ gain-out m i h D d 0 b w (omega arith)
 
   -- columns 1 to 4 and 6 by the tree
-  pub root-cell : (s : ℕ) (k : Column) → (k ≡ Column.onSpan → ⊥) → (k ≡ Column.ionSpan → ⊥) → made 0 b (slot s k) ≡ cell b s k
-  root-cell zero Column.calls h i = omega (arith, root-own Column.calls, gain-calls 0 0 b, none-from-root (λ g. 1) m D d b w)
-  root-cell zero Column.work h i = root-own Column.work
-  root-cell zero Column.span h i = root-own Column.span
-  root-cell zero Column.local h i = omega (arith, root-own Column.local, gain-local 0 0 b, none-from-root localOf m D d b w)
-  root-cell zero Column.ilocal h i = omega (arith, root-own Column.ilocal, gain-ilocal 0 0 b, none-from-root ilocalOf m D d b w)
-  root-cell (suc s) Column.calls h i = root-site s Column.calls ∙ gain-calls 0 (suc s) b
-  root-cell (suc s) Column.work h i = root-site s Column.work ∙ gain-outer Column.work workOf (λ g x. refl) ((λ v. refl), (λ v. refl)) 0 (suc s) b
-  root-cell (suc s) Column.span h i = root-site s Column.span ∙ gain-outer Column.span spanOf (λ g x. refl) ((λ v. refl), (λ v. refl)) 0 (suc s) b
-  root-cell (suc s) Column.local h i = omega (arith, root-site s Column.local, gain-local 0 (suc s) b, not-its-own s (localOf b))
-  root-cell (suc s) Column.ilocal h i = omega (arith, root-site s Column.ilocal, gain-ilocal 0 (suc s) b, not-its-own s (ilocalOf b))
-  root-cell s Column.onSpan h i = absurd (h refl)
-  root-cell s Column.ionSpan h i = absurd (i refl)
+  pub root-cell : (y : Family) → Of y 0 b → (s : ℕ) (k : Column) → (k ≡ Column.onSpan → ⊥) → (k ≡ Column.ionSpan → ⊥) → made 0 b (slot s k) ≡ cell b s k
+  root-cell y o zero Column.calls h i = omega (arith, root-own Column.calls, gain-calls 0 0 b, none-from-root (λ g. 1) m D d b w)
+  root-cell y o zero Column.work h i = root-own Column.work
+  root-cell y o zero Column.span h i = root-own Column.span
+  root-cell y o zero Column.local h i = omega (arith, root-own Column.local, gain-local y 0 0 b o, none-from-root localOf m D d b w)
+  root-cell y o zero Column.ilocal h i = omega (arith, root-own Column.ilocal, gain-ilocal y 0 0 b o, none-from-root ilocalOf m D d b w)
+  root-cell y o (suc s) Column.calls h i = root-site s Column.calls ∙ gain-calls 0 (suc s) b
+  root-cell y o (suc s) Column.work h i = root-site s Column.work ∙ gain-outer Column.work workOf (λ g x. refl) ((λ v. refl), (λ v. refl)) 0 (suc s) b
+  root-cell y o (suc s) Column.span h i = root-site s Column.span ∙ gain-outer Column.span spanOf (λ g x. refl) ((λ v. refl), (λ v. refl)) 0 (suc s) b
+  root-cell y o (suc s) Column.local h i = omega (arith, root-site s Column.local, gain-local y 0 (suc s) b o, not-its-own s (localOf b))
+  root-cell y o (suc s) Column.ilocal h i = omega (arith, root-site s Column.ilocal, gain-ilocal y 0 (suc s) b o, not-its-own s (ilocalOf b))
+  root-cell y o s Column.onSpan h i = absurd (h refl)
+  root-cell y o s Column.ionSpan h i = absurd (i refl)

@@ -9,10 +9,11 @@ use native.Mathlib.Omega.{arith}
 use lib.Dec.{eqb}
 use lib.ListN.{length, getD}
 use borrow.Author.Tests.{ne-eqb}
+use Rattle.line.specs.declared.Family.{Family}
 use Rattle.line.specs.declared.Frame.{Frame}
 use Rattle.trace.specs.Shape.{sites}
 use Rattle.trace.specs.Rows.{columns}
-use Rattle.trace.specs.Refusals.{verdict, accepted}
+use Rattle.trace.specs.Refusals.{verdictOf, accepted}
 use Rattle.trace.specs.Tree.{spend, sync, note, Leaf, leafWork, leafInstructions, Body, done, leaf, child, ahead, size, Within, workOf, instructionsOf}
 use Rattle.trace.specs.Fold.{nothing}
 use Rattle.trace.proofs.Basics.{below}
@@ -37,7 +38,7 @@ module _ (w : Weigh) where
   ahead-weighed (leaf (spend v) r) n s = refl
   ahead-weighed (leaf sync r) n s = refl
   ahead-weighed (leaf (note x) r) n s = refl
-  ahead-weighed (child y i g r) n s = refl
+  ahead-weighed (child v i g r) n s = refl
 
   leaf-instructions : (l : Leaf) (r : Body) (n s : ℕ) → leafInstructions (weighedLeaf w n s l) (weighed w (suc n) s r) ≡ leafInstructions l r
   leaf-instructions (spend v) r n s = ahead-weighed r (suc n) s
@@ -47,7 +48,7 @@ module _ (w : Weigh) where
   pub instructions-weighed : (b : Body) (n s : ℕ) → instructionsOf (weighed w n s b) ≡ instructionsOf b
   instructions-weighed done n s = refl
   instructions-weighed (leaf l r) n s = omega (arith, leaf-instructions l r n s, instructions-weighed r (suc n) s)
-  instructions-weighed (child y i g r) n s = omega (arith, instructions-weighed g (suc n) i, instructions-weighed r (suc n + size g) s)
+  instructions-weighed (child v i g r) n s = omega (arith, instructions-weighed g (suc n) i, instructions-weighed r (suc n + size g) s)
 
 -- ── one line heavier: the work grows by no more than that line does ──
 
@@ -73,7 +74,7 @@ module _ (q d : ℕ) where
   work-other : (b : Body) (n s : ℕ) → ((j : ℕ) → n ≤ j → j < n + size b → j ≡ q → ⊥) → workOf (weighed w n s b) ≡ workOf b
   work-other done n s h = refl
   work-other (leaf l r) n s h = omega (arith, leaf-other l n s (h n (omega arith) (omega arith)), work-other r (suc n) s (λ j a e. h j (omega arith) (omega arith)))
-  work-other (child y i g r) n s h =
+  work-other (child v i g r) n s h =
       omega (arith, work-other g (suc n) i (λ j a e. h j (omega arith) (omega arith)), work-other r (suc n + size g) s (λ j a e. h j (omega arith) (omega arith)))
 
   work-most : (b : Body) (n s : ℕ) → workOf (weighed w n s b) ≤ workOf b + d
@@ -82,7 +83,7 @@ module _ (q d : ℕ) where
     | inl h ↦ omega (arith, leaf-most l n s, work-other r (suc n) s (λ j a e z. omega arith))
     | inr h ↦ omega (arith, leaf-other l n s (λ z. omega (arith, h .1)), work-most r (suc n) s)
   ]
-  work-most (child y i g r) n s = elim (below (suc n + size g) q) [
+  work-most (child v i g r) n s = elim (below (suc n + size g) q) [
     | inl h ↦ omega (arith, work-most g (suc n) i, work-other r (suc n + size g) s (λ j a e z. omega arith))
     | inr h ↦ omega (arith, work-other g (suc n) i (λ j a e z. omega (arith, h .1)), work-most r (suc n + size g) s)
   ]
@@ -98,7 +99,7 @@ module _ (w x : Weigh) (m D : ℕ) (same : (n s v : ℕ) → s ≤ m → w n s v
   weighed-same : (d : ℕ) (b : Body) (n s : ℕ) → s ≤ m → Within m D d b → weighed w n s b ≡ weighed x n s b
   weighed-same d done n s h k = refl
   weighed-same d (leaf l r) n s h k = rw (leaf-same l n s h, weighed-same d r (suc n) s h (k .1))
-  weighed-same d (child y i g r) n s h k = rw (weighed-same (suc d) g (suc n) i (k .1) (k .3), weighed-same d r (suc n + size g) s h (k .4))
+  weighed-same d (child v i g r) n s h k = rw (weighed-same (suc d) g (suc n) i (k .1) (k .3), weighed-same d r (suc n + size g) s h (k .4))
 
 -- ── line q of an accepted trace is asked heavier ──
 
@@ -119,7 +120,7 @@ module _ (asking : List ℕ) (q : ℕ) (long : length asking ≡ askedLine) (lin
     | inr b ↦ subst (λ (x : ℕ). 1 ≤ x) (sym (unasked asking n s v (omega (arith, b .1)))) l
   ]
 
-  module _ (D M : ℕ) (t : List Frame) (fine : Fine D M t) where
+  module _ {y : Family} (D M : ℕ) (t : List Frame) (fine : Fine y D M t) where
     few : sites t ≤ 255
     few = omega (arith, sites-le-M D M t fine, fine .sites-most)
 
@@ -143,7 +144,7 @@ module _ (asking : List ℕ) (q : ℕ) (long : length asking ≡ askedLine) (lin
         )
 
     -- LAW: what a reader asks for at the root, over row numbers that are zero
-    pub heavy-ready : (s : List ℕ) (room : Bool) → verdict s D M room ≡ accepted t → (rows : List ℕ) → columns * 256 ≤ length rows → ((i : ℕ) → getD rows i 0 ≡ 0)
-        → Ready (byAsking asking) s 0 (sites t) (D - 1) (numbers 0 0 nothing) rows
+    pub heavy-ready : (s : List ℕ) (room : Bool) → verdictOf y s D M room ≡ accepted t → (rows : List ℕ) → columns * 256 ≤ length rows → ((i : ℕ) → getD rows i 0 ≡ 0)
+        → Ready y (byAsking asking) s 0 (sites t) (D - 1) (numbers 0 0 nothing) rows
     heavy-ready s room acc rows room-is zeros =
         root-ready (byAsking asking) some D M t fine s room acc small (sites t) refl rows (omega (arith, room-is, few)) (λ i l. zeros i)

@@ -7,10 +7,11 @@ use Prim.Native.Nat.{ℕ, suc, _+_, _≤_, _<_}
 use native.Mathlib.Numerals.{add-one}
 use native.Mathlib.Omega.{arith}
 use lib.Dec.{ltb}
+use Rattle.line.specs.declared.Family.{Family}
 use Rattle.chain.specs.Plan.{CostLine, weight, choose}
 use Rattle.chain.proofs.Lists.{weight-append}
 use Rattle.chain.proofs.Choose.{choose-cases}
-use Rattle.trace.specs.Tree.{Way, call, spawn, Leaf, spend, sync, note, leafWork, leafCycles, leafInstructions, Body, done, leaf, child, ahead, size, allOf, workOf, instructionsOf}
+use Rattle.trace.specs.Tree.{Way, call, spawn, async, pass, finish, Leaf, spend, sync, note, leafWork, leafCycles, leafInstructions, Body, done, leaf, child, ahead, size, allOf, workOf, instructionsOf}
 use Rattle.trace.specs.Fold.{costAt, itsInstructions, Chains, nothing, joined, spawned, leafChains, ended, childChains, run, chainOf, onAll}
 use Rattle.trace.proofs.OnChain.{on-append}
 use Rattle.weigh.specs.Weighed.{Weigh}
@@ -19,7 +20,7 @@ use Rattle.walk.specs.Numbers.{loadBy, load, iload}
 use Rattle.walk.specs.Gain.{gain}
 use Rattle.walk.specs.Nested.{Nested}
 use Rattle.walk.specs.Item.{More, rest, itemSize, itemOf, itemWork, itemInstructions, itemGain, itemChains}
-use Rattle.walk.proofs.Return.{cost-gain-le, made-le}
+use Rattle.walk.proofs.Return.{cost-gain-le, child-gain-le}
 
 pub size-item : (b : Body) → More b → size b ≡ itemSize b + size (rest b)
 size-item done h = absurd h
@@ -55,7 +56,7 @@ gain-item (child w j g r) s i = refl
 pub item-gain-le : (s : ℕ) (b : Body) → More b → (i : ℕ) → itemGain s b i ≤ itemSize b + (itemWork b + itemInstructions b)
 item-gain-le s done h i = absurd h
 item-gain-le s (leaf l r) h i = omega (arith, cost-gain-le s (leafWork l) (leafInstructions l r) i)
-item-gain-le s (child w j g r) h i = omega (arith, made-le j g i)
+item-gain-le s (child w j g r) h i = omega (arith, child-gain-le w j g i)
 
 -- the line behind an item of one line and z more
 behind : (n z : ℕ) → n + (1 + z) ≡ suc n + z
@@ -91,16 +92,24 @@ module _ (m : List CostLine → ℕ) (of-leaf : Leaf → Body → ℕ) (m-none :
   leaf-load sync r n s k = omega (arith, join-load k)
   leaf-load (note x) r n s k = omega arith
 
-  child-load : (w : Way) (f : Chains → Chains) (k : Chains) → loadBy m (childChains w f k) ≤ loadBy m k + loadBy m (f nothing)
-  child-load call f k = omega (arith, m-append (k .c) (ended f), join-load (f nothing))
-  child-load spawn f k = omega (arith, spawn-load k (ended f), join-load (f nothing))
+  -- a child whose items add at most x to whatever chains they begin with
+  module _ (f : Chains → Chains) (x : ℕ) (most : (k : Chains) → loadBy m (f k) ≤ loadBy m k + x) where
+    ended-load : m (ended f) ≤ x
+    ended-load = omega (arith, join-load (f nothing), most nothing, m-none)
+
+    child-load : (w : Way) (k : Chains) → loadBy m (childChains w f k) ≤ loadBy m k + x
+    child-load call k = omega (arith, m-append (k .c) (ended f), ended-load)
+    child-load spawn k = omega (arith, spawn-load k (ended f), ended-load)
+    child-load async k = omega (arith, spawn-load k (ended f), ended-load)
+    child-load pass k = most k
+    child-load finish k = omega (arith, m-append (k .c) (ended f), ended-load)
 
   run-load : (b : Body) (n s : ℕ) (k : Chains) → loadBy m (run n s b k) ≤ loadBy m k + allOf of-leaf b
   run-load done n s k = omega arith
   run-load (leaf l r) n s k = omega (arith, run-load r (suc n) s (leafChains n s l (ahead r) k), leaf-load l r n s k)
   run-load (child w j g r) n s k =
       let f = run (suc n) j g in
-      omega (arith, run-load r (suc n + size g) s (childChains w f k), child-load w f k, run-load g (suc n) j nothing, m-none)
+      omega (arith, run-load r (suc n + size g) s (childChains w f k), child-load f (allOf of-leaf g) (run-load g (suc n) j) w k)
 
   chain-most : (b : Body) (n s : ℕ) → m (chainOf n s b) ≤ allOf of-leaf b
   chain-most b n s = omega (arith, join-load (run n s b nothing), run-load b n s nothing, m-none)
@@ -108,7 +117,7 @@ module _ (m : List CostLine → ℕ) (of-leaf : Leaf → Body → ℕ) (m-none :
   item-load : (b : Body) (n s : ℕ) (k : Chains) → loadBy m (itemChains n s b k) ≤ loadBy m k + itemOf of-leaf b
   item-load done n s k = omega arith
   item-load (leaf l r) n s k = leaf-load l r n s k
-  item-load (child w j g r) n s k = omega (arith, child-load w (run (n + 1) j g) k, run-load g (n + 1) j nothing, m-none)
+  item-load (child w j g r) n s k = child-load (run (n + 1) j g) (allOf of-leaf g) (run-load g (n + 1) j) w k
 
 -- what chains weigh
 pub chain-le : (b : Body) (n s : ℕ) → weight (chainOf n s b) ≤ workOf b
@@ -125,10 +134,10 @@ pub iload-item : (b : Body) (n s : ℕ) (k : Chains) → iload (itemChains n s b
 iload-item b n s k = item-load (onAll itsInstructions) leafInstructions refl (on-append itsInstructions) (λ n s v r. omega arith) b n s k
 
 -- the lines behind the first item
-pub reads-rest : (w : Weigh) (s : List ℕ) (n row : ℕ) (b : Body) → More b → Reads w s n row b → Reads w s (n + itemSize b) row (rest b)
-reads-rest w s n row done m h = absurd m
-reads-rest w s n row (leaf l r) m h = h .1
-reads-rest w s n row (child y j g r) m h = h .2
+pub reads-rest : (y : Family) (w : Weigh) (s : List ℕ) (n row : ℕ) (b : Body) → More b → Reads y w s n row b → Reads y w s (n + itemSize b) row (rest b)
+reads-rest y w s n row done m h = absurd m
+reads-rest y w s n row (leaf l r) m h = h .1
+reads-rest y w s n row (child v j g r) m h = h .2
 
 pub nested-rest : (m D d : ℕ) (b : Body) → Nested m D d b → Nested m D d (rest b)
 nested-rest m D d done h = tt

@@ -14,4 +14,5 @@ pub mod Child
 pub mod Room
 pub mod Heavier
 pub mod Accepted
+pub mod Own
 pub mod Profiled

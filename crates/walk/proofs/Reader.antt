@@ -4,6 +4,7 @@ use mathlib.Core.List.{List}
 use Prim.Native.Nat.{ℕ, _+_, _<_}
 use native.Mathlib.Omega.{arith}
 use lib.ListN.{length}
+use Rattle.line.specs.declared.Family.{Family}
 use Rattle.trace.specs.Tree.{Leaf, leafWork, leafInstructions, Body, done, leaf, ahead, size, workOf}
 use Rattle.trace.specs.Fold.{Chains, nothing, joined, leafChains, run}
 use Rattle.weigh.specs.Weighed.{Weigh}
@@ -34,7 +35,7 @@ weightless row f rows l b k r z y e =
       rows-are = λ i h. omega (arith, cost-gain-le row (leafWork l) (leafInstructions l b) i, z, y);
     }
 
-module _ (w : Weigh) (s : List ℕ) (row m deep : ℕ) (f : Open) (rows : List ℕ) (r : Ready w s row m deep f rows) (more : More (r .body))
+module _ (y : Family) (w : Weigh) (s : List ℕ) (row m deep : ℕ) (f : Open) (rows : List ℕ) (r : Ready y w s row m deep f rows) (more : More (r .body))
     (k : Chains) (weighs : f ≡ numbers (f .at) (f .work .0) k) (f′ : Open) (rows′ : List ℕ) (len : length rows′ ≡ length rows)
     (h : ItemDone row f rows (r .body) k f′ rows′) where
   at-is : f′ .at ≡ f .at + itemSize (r .body)
@@ -43,12 +44,12 @@ module _ (w : Weigh) (s : List ℕ) (row m deep : ℕ) (f : Open) (rows : List �
   pub farther : f .at < f′ .at
   farther = omega (arith, at-is, item-some (r .body) more)
 
-  pub ready-again : Ready w s row m deep f′ rows′
+  pub ready-again : Ready y w s row m deep f′ rows′
   ready-again =
       let b = r .body in
       record {
         body = rest b;
-        reads = subst (λ (n : ℕ). Reads w s n row (rest b)) (sym at-is) (reads-rest w s (f .at) row b more (r .reads));
+        reads = subst (λ (n : ℕ). Reads y w s n row (rest b)) (sym at-is) (reads-rest y w s (f .at) row b more (r .reads));
         D = r .D;
         d = r .d;
         nested = nested-rest m (r .D) (r .d) b (r .nested);
@@ -65,16 +66,16 @@ module _ (w : Weigh) (s : List ℕ) (row m deep : ℕ) (f : Open) (rows : List �
   unfolding ready-again
   again-body = refl
 
-module _ (w : Weigh) (s : List ℕ) (row : ℕ) (f₀ : Open) (rows₀ : List ℕ) (b : Body) (k₀ : Chains) where
-  pub turn-start : Reads w s (f₀ .at) row b → f₀ ≡ numbers (f₀ .at) (f₀ .work .0) k₀ → Turn w s row f₀ rows₀ b k₀ f₀ rows₀ b k₀
+module _ (y : Family) (w : Weigh) (s : List ℕ) (row : ℕ) (f₀ : Open) (rows₀ : List ℕ) (b : Body) (k₀ : Chains) where
+  pub turn-start : Reads y w s (f₀ .at) row b → f₀ ≡ numbers (f₀ .at) (f₀ .work .0) k₀ → Turn y w s row f₀ rows₀ b k₀ f₀ rows₀ b k₀
   turn-start h e = record { reads = h; weighs = e; same-end = refl; same-work = refl; same-chains = refl; same-rows = λ i l. refl }
 
-  module _ (f : Open) (rows : List ℕ) (l : Body) (k : Chains) (u : Turn w s row f₀ rows₀ b k₀ f rows l k) (len : length rows ≡ length rows₀) where
-    pub turn-again : (f′ : Open) (rows′ : List ℕ) → More l → ItemDone row f rows l k f′ rows′ → Turn w s row f₀ rows₀ b k₀ f′ rows′ (rest l) (itemChains (f .at) row l k)
+  module _ (f : Open) (rows : List ℕ) (l : Body) (k : Chains) (u : Turn y w s row f₀ rows₀ b k₀ f rows l k) (len : length rows ≡ length rows₀) where
+    pub turn-again : (f′ : Open) (rows′ : List ℕ) → More l → ItemDone row f rows l k f′ rows′ → Turn y w s row f₀ rows₀ b k₀ f′ rows′ (rest l) (itemChains (f .at) row l k)
     turn-again f′ rows′ more h =
         let at : f′ .at ≡ f .at + itemSize l = ap (λ (x : Open). x .at) (h .numbers-are) in
         record {
-          reads = subst (λ (j : ℕ). Reads w s j row (rest l)) (sym at) (reads-rest w s (f .at) row l more (u .reads));
+          reads = subst (λ (j : ℕ). Reads y w s j row (rest l)) (sym at) (reads-rest y w s (f .at) row l more (u .reads));
           weighs = own-numbers f′ (f .at + itemSize l) (f .work .0 + itemWork l) (itemChains (f .at) row l k) (h .numbers-are);
           same-end = omega (arith, at, size-item l more, u .same-end);
           same-work = omega (arith, ap (λ (x : Open). x .work .0) (h .numbers-are), work-item l, u .same-work);

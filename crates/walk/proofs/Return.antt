@@ -8,12 +8,12 @@ use lib.Dec.{eqb}
 use lib.ListN.{length, getD, set, length-set}
 use borrow.Author.Tests.{eqb-true}
 use Rattle.trace.specs.Column.{Column, slot}
-use Rattle.trace.specs.Tree.{leafWork, leafInstructions, Body, done, leaf, child, workOf, spanOf}
+use Rattle.trace.specs.Tree.{Way, leafWork, leafInstructions, Body, done, leaf, child, invokes, workOf, spanOf}
 use Rattle.trace.proofs.Basics.{cond-le}
 use Rattle.trace.proofs.Recurrence.{span-le, weight-chain}
 use Rattle.walk.specs.declared.Open.{Open}
 use Rattle.walk.specs.declared.Credit.{Credit}
-use Rattle.walk.specs.Gain.{creditOf, credited, ReturnFits, oneCall, returned, Returned, costGain, gain, made, mostGain, Grown}
+use Rattle.walk.specs.Gain.{creditOf, credited, ReturnFits, oneCall, returned, Returned, costGain, gain, made, childGain, mostGain, Grown}
 use Rattle.walk.specs.Reader.{BodyDone}
 use Rattle.walk.proofs.Rows.{written-at}
 
@@ -34,23 +34,27 @@ returned-le s work span x i y hw hs hx = go (eqb (slot s Column.span) i) (eqb (s
     go false true = omega arith
     go false false = omega (arith, cond-le (eqb (slot s Column.calls) i) 1)
 
-span-most : (g : Body) → spanOf g ≤ workOf g
+pub span-most : (g : Body) → spanOf g ≤ workOf g
 span-most g = omega (arith, span-le g 0 0 0)
 
 pub cost-gain-le : (s v j i : ℕ) → costGain s v j i ≤ v + j
 cost-gain-le s v j i = omega (arith, cond-le (eqb (slot s Column.local) i) v, cond-le (eqb (slot s Column.ilocal) i) j)
 
-made-most : (s : ℕ) (g : Body) (i : ℕ) → gain s g i ≤ mostGain g → made s g i ≤ 1 + mostGain g
-made-most s g i h = omega (arith, returned-le s (workOf g) (spanOf g) (gain s g i) i (mostGain g) (omega arith) (omega (arith, span-most g)) h)
+child-most : (w : Way) (s : ℕ) (g : Body) (i : ℕ) → gain s g i ≤ mostGain g → childGain w s g i ≤ 1 + mostGain g
+child-most w s g i h = go (invokes w)
+  where
+    go : (b : Bool) → cond b (made s g i) (gain s g i) ≤ 1 + mostGain g
+    go true = returned-le s (workOf g) (spanOf g) (gain s g i) i (mostGain g) (omega arith) (omega (arith, span-most g)) h
+    go false = omega arith
 
 -- LAW: no row number grows by more than the lines, the costs and the instructions of what is read
 pub gain-le : (s : ℕ) (b : Body) (i : ℕ) → gain s b i ≤ mostGain b
 gain-le s done i = omega arith
 gain-le s (leaf l r) i = omega (arith, cost-gain-le s (leafWork l) (leafInstructions l r) i, gain-le s r i)
-gain-le s (child w j g r) i = omega (arith, made-most j g i (gain-le j g i), gain-le s r i)
+gain-le s (child w j g r) i = omega (arith, child-most w j g i (gain-le j g i), gain-le s r i)
 
-pub made-le : (s : ℕ) (g : Body) (i : ℕ) → made s g i ≤ 1 + mostGain g
-made-le s g i = made-most s g i (gain-le s g i)
+pub child-gain-le : (w : Way) (s : ℕ) (g : Body) (i : ℕ) → childGain w s g i ≤ 1 + mostGain g
+child-gain-le w s g i = child-most w s g i (gain-le s g i)
 
 -- what columns 2 and 3 held before stays, and what any number held
 returned-more : (rows : List ℕ) (s work span x i : ℕ)

@@ -7,7 +7,7 @@ use mathlib.Core.List.{List}
 use lib.Dec.{eqb}
 use lib.ListN.{length, getD, set}
 use Rattle.trace.specs.Column.{Column, slot}
-use Rattle.trace.specs.Tree.{leafWork, leafInstructions, Body, done, leaf, child, size, workOf, instructionsOf, spanOf}
+use Rattle.trace.specs.Tree.{Way, leafWork, leafInstructions, Body, done, leaf, child, invokes, size, workOf, instructionsOf, spanOf}
 use Rattle.walk.specs.declared.Credit.{Credit}
 use Rattle.walk.specs.Measure.{cycles}
 
@@ -52,15 +52,19 @@ Returned before s work span rows rows′ = (i : ℕ) → i < length rows
 abbrev pub costGain : ℕ → ℕ → ℕ → ℕ → ℕ
 costGain s v j i = one (slot s Column.local) v i + one (slot s Column.ilocal) j i
 
--- s is the row of the invocation whose body is read
+-- s is the row of the invocation whose body is read; a finish is no invocation, and nothing is counted at its end
 abbrev pub gain : ℕ → Body → ℕ → ℕ
 gain s done i = 0
 gain s (leaf l r) i = costGain s (leafWork l) (leafInstructions l r) i + gain s r i
-gain s (child w j g r) i = returned j (workOf g) (spanOf g) (gain j g i) i + gain s r i
+gain s (child w j g r) i = cond (invokes w) (returned j (workOf g) (spanOf g) (gain j g i) i) (gain j g i) + gain s r i
 
 -- a whole invocation of row s with the body g
 abbrev pub made : ℕ → Body → ℕ → ℕ
 made s g i = returned s (workOf g) (spanOf g) (gain s g i) i
+
+-- a child of row s with the body g
+abbrev pub childGain : Way → ℕ → Body → ℕ → ℕ
+childGain w s g i = cond (invokes w) (made s g i) (gain s g i)
 
 -- no row number grows by more: lines, costs and instructions are each counted once
 abbrev pub mostGain : Body → ℕ

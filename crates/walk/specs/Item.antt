@@ -3,7 +3,7 @@
 use Prim.Native.Nat.{ℕ, _+_}
 use Rattle.trace.specs.Tree.{Leaf, leafWork, leafCycles, leafInstructions, Body, done, leaf, child, ahead, size, allOf}
 use Rattle.trace.specs.Fold.{Chains, leafChains, childChains, run}
-use Rattle.walk.specs.Gain.{costGain, made}
+use Rattle.walk.specs.Gain.{costGain, childGain}
 
 -- the body is not at its return
 abbrev pub More : Body → Type 0
@@ -39,7 +39,7 @@ itemInstructions b = itemOf leafInstructions b
 abbrev pub itemGain : ℕ → Body → ℕ → ℕ
 itemGain s done i = 0
 itemGain s (leaf l r) i = costGain s (leafWork l) (leafInstructions l r) i
-itemGain s (child w j g r) i = made j g i
+itemGain s (child w j g r) i = childGain w j g i
 
 -- the chains behind it; n is its first line
 abbrev pub itemChains : ℕ → ℕ → Body → Chains → Chains

@@ -6,5 +6,6 @@ pub mod Numbers
 pub mod Gain
 pub mod Item
 pub mod Nested
+pub mod Own
 pub mod Reader
 pub mod Profiled

@@ -5,6 +5,7 @@ use mathlib.Core.Path.{_≡_}
 use mathlib.Core.List.{List, []}
 use lib.ListN.{length, getD}
 use Rattle.chain.specs.Plan.{CostLine}
+use Rattle.line.specs.declared.Family.{Family}
 use Rattle.trace.specs.Rows.{columns}
 use Rattle.trace.specs.Tree.{Body, size, workOf}
 use Rattle.trace.specs.Fold.{Chains, run, chainOf}
@@ -16,12 +17,12 @@ use Rattle.walk.specs.Gain.{gain, mostGain}
 use Rattle.walk.specs.Item.{itemSize, itemWork, itemGain, itemChains}
 use Rattle.walk.specs.Nested.{Nested}
 
--- The lines of s from line f .at on are those of a body, as weighed by w. Its sites are at most m, at most deep
--- invocations open inside one another, and whatever number reading it comes to, from the invocation's numbers f and the
+-- The lines of s from line f .at on are those of a body of the family, as weighed by w. Its sites are at most m, at most
+-- deep things open inside one another, and whatever number reading it comes to, from the invocation's numbers f and the
 -- rows, fits: no row number grows by more than lines, costs and instructions are left.
-pub record Ready (w : Weigh) (s : List ℕ) (row m deep : ℕ) (f : Open) (rows : List ℕ) : Type 0 where
+pub record Ready (y : Family) (w : Weigh) (s : List ℕ) (row m deep : ℕ) (f : Open) (rows : List ℕ) : Type 0 where
   pub body : Body
-  pub reads : Reads w s (f .at) row body
+  pub reads : Reads y w s (f .at) row body
   pub D : ℕ
   pub d : ℕ
   pub nested : Nested m D d body
@@ -55,8 +56,8 @@ pub record BodyDone (n row : ℕ) (rows : List ℕ) (b : Body) (r : Open) (rows�
 
 -- Inside the body b, which is read from the numbers f₀ and the chains k₀ on: what is left of it, and that what b comes to
 -- is what this comes to from f and k on.
-pub record Turn (w : Weigh) (s : List ℕ) (row : ℕ) (f₀ : Open) (rows₀ : List ℕ) (b : Body) (k₀ : Chains) (f : Open) (rows : List ℕ) (left : Body) (k : Chains) : Type 0 where
-  pub reads : Reads w s (f .at) row left
+pub record Turn (y : Family) (w : Weigh) (s : List ℕ) (row : ℕ) (f₀ : Open) (rows₀ : List ℕ) (b : Body) (k₀ : Chains) (f : Open) (rows : List ℕ) (left : Body) (k : Chains) : Type 0 where
+  pub reads : Reads y w s (f .at) row left
   pub weighs : f ≡ numbers (f .at) (f .work .0) k
   pub same-end : f .at + size left ≡ f₀ .at + size b
   pub same-work : f .work .0 + workOf left ≡ f₀ .work .0 + workOf b

@@ -7,10 +7,11 @@ use trace::LOCAL;
 use trace::SPAN;
 use trace::WORK;
 ghost use mathlib.Core.Path.{_≡_};
-ghost use Prim.Native.Nat.{_+_, _*_, _^_, _≤_, _<_};
+ghost use Prim.Native.Nat.{_+_, _*_, _-_, _^_, _≤_, _<_};
 ghost use mathlib.Core.List.{_++_};
 ghost use lib.ListN.{length, getD, set, drop, replicate};
 ghost use Rattle.trace.specs.Column.{Column, slot};
+ghost use Rattle.trace.specs.Tree.{larger};
 ghost use Rattle.trace.specs.Fold.{nothing};
 ghost use Rattle.walk.specs.Measure.{cycles, instructions};
 ghost use Rattle.walk.specs.Weight.{askedLine, asked, weightAt, instructionsAt};
@@ -28,6 +29,24 @@ impl Cycles {
         ensures { λ r. ⌜ r ≡ cycles (self .0 + more .0) ⌝ }
     {
         Cycles(self.0 + more.0)
+    }
+
+    // Without a part of it.
+    pub fn minus(self, part: Cycles) -> Cycles
+        requires { ⌜ part .0 ≤ self .0 ⌝ }
+        ensures { λ r. ⌜ r ≡ cycles (self .0 - part .0) ⌝ }
+    {
+        Cycles(self.0 - part.0)
+    }
+
+    // The larger of the two.
+    pub fn larger(self, other: Cycles) -> Cycles
+        ensures { λ r. ⌜ r ≡ cycles (larger (self .0) (other .0)) ⌝ }
+    {
+        if self.0 < other.0 {
+            return other;
+        }
+        self
     }
 }
 
@@ -66,6 +85,15 @@ impl Open {
             longest: Cycles(0),
             since: Cycles(0),
         }
+    }
+
+    // What comes before the next item in series.
+    pub fn series(self) -> Cycles
+        requires { ⌜ self .prefix .0 + self .since .0 < 2 ^ 64 ⌝ }
+        ensures { λ r. ⌜ r ≡ cycles (self .prefix .0 + self .since .0) ⌝ }
+    {
+        let prefix = self.prefix;
+        prefix.plus(self.since)
     }
 
     // After a cost line.

@@ -5,11 +5,12 @@ use mathlib.Core.List.{List, [], _∷_}
 use Prim.Native.Nat.{ℕ, suc}
 use native.Mathlib.Omega.{arith}
 use lib.ListN.{length}
+use Rattle.line.specs.declared.Family.{Family}
 use Rattle.line.specs.declared.Frame.{Frame}
-use Rattle.line.specs.declared.Frame.the-variants.{Site, Call, Spawn, Sync, Return, Cost, Instructions}
+use Rattle.line.specs.declared.Frame.the-variants.{Site, Call, Spawn, Sync, Return, Cost, Instructions, Async, Finish}
 use Rattle.trace.specs.Shape.{sites}
 use Rattle.trace.specs.Refusals.{isCost}
-use Rattle.trace.specs.Tree.{Within, Parts}
+use Rattle.trace.specs.Tree.{Within, PartsOf}
 use Rattle.trace.proofs.Scan.{Fine}
 use Rattle.trace.proofs.Named.{Named, naming, sites-alike}
 use Rattle.trace.proofs.Owned.{Owned}
@@ -17,7 +18,7 @@ use Rattle.trace.proofs.Accept.{fine-is-trace, trace-is-fine}
 use Rattle.weigh.specs.Cost.{costing}
 use Rattle.weigh.specs.Weighed.{Weigh, Tabled, weighed, innermost, rowStep, reweighed}
 use Rattle.weigh.proofs.Alike.{bare, ButCosts, alike-length}
-use Rattle.weigh.proofs.Weighed.{weighed-within, reweighed-trace}
+use Rattle.weigh.proofs.Weighed.{weighed-within, weighed-of, reweighed-trace}
 
 pub costing-bare : (g : ℕ → ℕ) (f : Frame) → bare f ≡ bare (costing g f)
 costing-bare g (Site s p) = refl
@@ -27,6 +28,8 @@ costing-bare g Sync = refl
 costing-bare g Return = refl
 costing-bare g (Cost v) = refl
 costing-bare g (Instructions v) = refl
+costing-bare g (Async s) = refl
+costing-bare g Finish = refl
 
 -- LAW: the weighed trace differs only in what its cost lines weigh
 pub reweighed-alike : (w : Weigh) (t : List Frame) (n : ℕ) (o : List ℕ) → ButCosts t (reweighed w n o t)
@@ -41,6 +44,8 @@ costing-naming g Sync t u e = e
 costing-naming g Return t u e = e
 costing-naming g (Cost v) t u e = e
 costing-naming g (Instructions v) t u e = e
+costing-naming g (Async s) t u e = ap (λ (l : List Frame). Async s ∷ l) e
+costing-naming g Finish t u e = e
 
 -- its sites are named as they were
 reweighed-naming : (w : Weigh) (t : List Frame) (n : ℕ) (o : List ℕ) → naming (reweighed w n o t) ≡ naming t
@@ -59,6 +64,8 @@ costing-owned g c Sync t u h k = (h .0, k (h .1))
 costing-owned g c Return t u h k = (h .0, k (h .1))
 costing-owned g c (Cost v) t u h k = (h .0, k (h .1))
 costing-owned g c (Instructions v) t u h k = (h .0, k (h .1))
+costing-owned g c (Async s) t u h k = (h .0, k (h .1))
+costing-owned g c Finish t u h k = (h .0, k (h .1))
 
 reweighed-owned : (w : Weigh) (c : Bool) (t : List Frame) (n : ℕ) (o : List ℕ) → Owned c t → Owned c (reweighed w n o t)
 reweighed-owned w c [] n o h = tt
@@ -70,19 +77,20 @@ module _ (w : Weigh) (tabled : Tabled w) (D M : ℕ) (t : List Frame) where
   other = reweighed w 0 (0 ∷ []) t
 
   -- LAW: it is the weighed body
-  abbrev pub reweighed-parts : Parts D t → Parts D other
-  reweighed-parts p =
+  abbrev pub reweighed-parts : {f : Family} → PartsOf f D t → PartsOf f D other
+  reweighed-parts {f = f} p =
       record {
         body = weighed w 0 0 (p .body);
-        lines = ap (reweighed w 0 (0 ∷ [])) (p .lines) ∙ reweighed-trace w (p .body);
+        of = weighed-of f w (p .body) 0 0 (p .of);
+        lines = ap (reweighed w 0 (0 ∷ [])) (p .lines) ∙ reweighed-trace f w (p .body) (p .of);
         within = subst (λ (m : ℕ). Within m D 1 (weighed w 0 0 (p .body))) (sym (reweighed-sites w t 0 (0 ∷ []))) (weighed-within w tabled (sites t) D 1 (p .body) 0 0 (p .within));
       }
 
   -- LAW: it keeps the rules within the same limits
-  pub reweighed-fine : Fine D M t → Fine D M other
-  reweighed-fine f =
-      let x = fine-is-trace D M t f in
-      let p = reweighed-parts (record { body = x .body; lines = x .lines; within = x .within }) in
+  pub reweighed-fine : {f : Family} → Fine f D M t → Fine f D M other
+  reweighed-fine h =
+      let x = fine-is-trace D M t h in
+      let p = reweighed-parts (record { body = x .body; of = x .of; lines = x .lines; within = x .within }) in
       let lines : length other ≡ length t = sym (alike-length t other (reweighed-alike w t 0 (0 ∷ []))) in
-      trace-is-fine D M other (f .least) (f .most) (f .sites-most) (omega (arith, f .lines-most))
-      (record { body = p .body; lines = p .lines; named = subst (Named M []) (sym (reweighed-naming w t 0 (0 ∷ []))) (x .named); owned = reweighed-owned w false t 0 (0 ∷ []) (x .owned); within = p .within })
+      trace-is-fine D M other (h .least) (h .most) (h .sites-most) (omega (arith, h .lines-most))
+      (record { body = p .body; of = p .of; lines = p .lines; named = subst (Named M []) (sym (reweighed-naming w t 0 (0 ∷ []))) (x .named); owned = reweighed-owned w false t 0 (0 ∷ []) (x .owned); within = p .within })

@@ -5,7 +5,7 @@ use Prim.Native.Nat.{ℕ, zero, suc}
 use lib.Dec.{T}
 use lib.ListN.{length}
 use Rattle.line.specs.declared.Frame.{Frame}
-use Rattle.line.specs.declared.Frame.the-variants.{Site, Call, Spawn, Sync, Return, Cost, Instructions}
+use Rattle.line.specs.declared.Frame.the-variants.{Site, Call, Spawn, Sync, Return, Cost, Instructions, Async, Finish}
 use Rattle.trace.specs.Shape.{Is, step, walk, openAt, has, firstIs, Parallel}
 use Rattle.chain.specs.Over.{Each, EachTwo}
 use Rattle.trace.specs.Series.{Series, valueAt, CostIn, Chain}
@@ -20,6 +20,8 @@ bare Sync = Sync
 bare Return = Return
 bare (Cost v) = Cost 0
 bare (Instructions v) = Instructions v
+bare (Async s) = Async s
+bare Finish = Finish
 
 abbrev pub ButCosts : List Frame → List Frame → Type 0
 ButCosts [] [] = Unit {0}
@@ -53,6 +55,8 @@ step-bare n Sync o = refl
 step-bare n Return o = refl
 step-bare n (Cost v) o = refl
 step-bare n (Instructions v) o = refl
+step-bare n (Async s) o = refl
+step-bare n Finish o = refl
 
 pub step-alike : (n : ℕ) (e f : Frame) (o : List ℕ) → bare e ≡ bare f → step n e o ≡ step n f o
 step-alike n e f o h = step-bare n e o ∙ ap (λ (g : Frame). step n g o) h ∙ sym (step-bare n f o)
@@ -74,6 +78,8 @@ as-spawn s Sync h = h
 as-spawn s Return h = h
 as-spawn s (Cost v) h = clash (cc)
 as-spawn s (Instructions v) h = h
+as-spawn s (Async i) h = h
+as-spawn s Finish h = h
 
 as-sync : (f : Frame) → bare f ≡ Sync → f ≡ Sync
 as-sync (Site i p) h = h
@@ -83,6 +89,8 @@ as-sync Sync h = h
 as-sync Return h = h
 as-sync (Cost v) h = clash (cc)
 as-sync (Instructions v) h = h
+as-sync (Async i) h = h
+as-sync Finish h = h
 
 as-return : (f : Frame) → bare f ≡ Return → f ≡ Return
 as-return (Site i p) h = h
@@ -92,6 +100,8 @@ as-return Sync h = h
 as-return Return h = h
 as-return (Cost v) h = clash (cc)
 as-return (Instructions v) h = h
+as-return (Async i) h = h
+as-return Finish h = h
 
 -- the line of the other trace
 pub is-alike : (t u : List Frame) (k : ℕ) (e : Frame) → ButCosts t u → Is t k e → (f : Frame) × Is u k f × (bare e ≡ bare f)
@@ -117,6 +127,8 @@ own-cost Sync h = clash (cc)
 own-cost Return h = clash (cc)
 own-cost (Cost v) h = refl
 own-cost (Instructions v) h = clash (cc)
+own-cost (Async i) h = clash (cc)
+own-cost Finish h = clash (cc)
 
 -- a cost line is one in the other trace
 pub is-cost : (t u : List Frame) (k v : ℕ) → ButCosts t u → Is t k (Cost v) → Is u k (Cost (valueAt u k))

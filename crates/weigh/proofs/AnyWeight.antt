@@ -6,22 +6,24 @@ use mathlib.Core.List.{List, [], _∷_, _++_, append-nil}
 use Prim.Native.Nat.{ℕ, suc, _+_, _≤_}
 use native.Mathlib.Omega.{arith}
 use lib.Dec.{eqb}
+use Rattle.line.specs.declared.Family.{Family}
 use Rattle.line.specs.declared.Frame.{Frame}
 use Rattle.chain.specs.Over.{linesIn}
 use Rattle.trace.specs.Shape.{root, step}
-use Rattle.trace.specs.Series.{Span, Chosen}
-use Rattle.trace.specs.Tree.{spend, sync, note, Body, done, leaf, child, linesOf, size, Parts, spanOf}
+use Rattle.trace.specs.Series.{SpanOf, ChosenOf}
+use Rattle.trace.specs.Tree.{spend, sync, note, Body, done, leaf, child, Of, linesOf, size, PartsOf, spanOf}
 use Rattle.trace.specs.Fold.{chainOf}
 use Rattle.trace.proofs.Recurrence.{Paid}
 use Rattle.trace.proofs.Parallels.{Alive}
 use Rattle.trace.proofs.Context.{Ctx}
 use Rattle.trace.proofs.Chains.{chosen-of}
+use Rattle.trace.proofs.Fits.{fits-of}
 use Rattle.trace.proofs.Invocations.{Inv, whole, root-ctx, root-paid}
 use Rattle.trace.proofs.Stretches.{span-is}
 use Rattle.weigh.specs.Weighed.{Weigh, weighed, reweighed}
 use Rattle.weigh.specs.Raised.{raised}
 use Rattle.weigh.proofs.Alike.{ButCosts, step-alike}
-use Rattle.weigh.proofs.Weighed.{reweighed-trace}
+use Rattle.weigh.proofs.Weighed.{weighed-of, reweighed-trace}
 use Rattle.weigh.proofs.Accepted.{reweighed-alike}
 use Rattle.weigh.proofs.OneLine.{onLine, one-weighed}
 
@@ -45,15 +47,18 @@ alive-alike n [] (e ∷ t) (f ∷ u) h a = absurd a
 alive-alike n (c ∷ o) (e ∷ t) (f ∷ u) h a =
     alive-alike (suc n) (step n f (c ∷ o)) t u (h .1) (subst (λ (k : List ℕ). Alive (suc n) k t) (step-alike n e f (c ∷ o) (h .0)) a)
 
-module _ (w : Weigh) (one : AtLeastOne w) (D : ℕ) (t : List Frame) (p : Parts D t) where
+module _ {f : Family} (w : Weigh) (one : AtLeastOne w) (D : ℕ) (t : List Frame) (p : PartsOf f D t) where
   abbrev other : List Frame
   other = reweighed w 0 (0 ∷ []) t
 
   abbrev body : Body
   body = weighed w 0 0 (p .body)
 
+  of : Of f 0 body
+  of = weighed-of f w (p .body) 0 0 (p .of)
+
   lines : other ≡ linesOf body ++ []
-  lines = ap (reweighed w 0 (0 ∷ [])) (p .lines) ∙ reweighed-trace w (p .body) ∙ sym (append-nil (linesOf body))
+  lines = ap (reweighed w 0 (0 ∷ [])) (p .lines) ∙ reweighed-trace f w (p .body) (p .of) ∙ sym (append-nil (linesOf body))
 
   ctx : Ctx other root (root ∷ []) (linesOf body ++ [])
   ctx =
@@ -63,6 +68,7 @@ module _ (w : Weigh) (one : AtLeastOne w) (D : ℕ) (t : List Frame) (p : Parts 
         count = refl;
         opened = refl;
         low = root-ctx D t p .low;
+        rooted = root-ctx D t p .rooted;
         alive = subst (Alive root (root ∷ [])) lines (alive-alike root (root ∷ []) t other (reweighed-alike w t 0 (0 ∷ [])) (subst (Alive root (root ∷ [])) (sym (whole D t p)) (root-ctx D t p .alive)));
       }
 
@@ -70,16 +76,16 @@ module _ (w : Weigh) (one : AtLeastOne w) (D : ℕ) (t : List Frame) (p : Parts 
   paid = weighed-paid w one (p .body) 0 0 (root-paid D t p)
 
   -- LAW: the root is an invocation with the weighed body
-  pub weighed-inv : Inv (reweighed w 0 (0 ∷ []) t) root (weighed w 0 0 (p .body))
-  weighed-inv = record { around = []; post = []; ctx = ctx; paid = paid }
+  pub weighed-inv : Inv f (reweighed w 0 (0 ∷ []) t) root (weighed w 0 0 (p .body))
+  weighed-inv = record { row = 0; of = of; around = []; post = []; ctx = ctx; paid = paid }
 
   -- LAW
-  pub weighed-span : Span (reweighed w 0 (0 ∷ []) t) root (spanOf (weighed w 0 0 (p .body)))
+  pub weighed-span : SpanOf f (reweighed w 0 (0 ∷ []) t) root (spanOf (weighed w 0 0 (p .body)))
   weighed-span = span-is other root body weighed-inv
 
   -- LAW
-  pub weighed-chosen : Chosen (reweighed w 0 (0 ∷ []) t) (linesIn (chainOf 0 0 (weighed w 0 0 (p .body))))
-  weighed-chosen = chosen-of other 0 root [] body [] ctx paid refl
+  pub weighed-chosen : ChosenOf f (reweighed w 0 (0 ∷ []) t) (linesIn (chainOf 0 0 (weighed w 0 0 (p .body))))
+  weighed-chosen = chosen-of f other 0 root body (fits-of other 0 root [] body [] ctx f of) paid refl
 
 -- ── one line heavier, by whatever d ──
 
@@ -94,15 +100,15 @@ heavier-one q d n s v h = go (eqb n q)
     go true = omega arith
     go false = h
 
-module _ (D : ℕ) (t : List Frame) (p : Parts D t) (q d : ℕ) where
+module _ {f : Family} (D : ℕ) (t : List Frame) (p : PartsOf f D t) (q d : ℕ) where
   -- the root's body with that line heavier
   abbrev pub heavyBody : Body
   heavyBody = weighed (heavier q d) 0 0 (p .body)
 
   -- LAW
-  pub raised-span : Span (raised t q d) root (spanOf heavyBody)
-  raised-span = subst (λ (u : List Frame). Span u root (spanOf heavyBody)) (one-weighed (λ v. v + d) t q) (weighed-span (heavier q d) (heavier-one q d) D t p)
+  pub raised-span : SpanOf f (raised t q d) root (spanOf heavyBody)
+  raised-span = subst (λ (u : List Frame). SpanOf f u root (spanOf heavyBody)) (one-weighed (λ v. v + d) t q) (weighed-span (heavier q d) (heavier-one q d) D t p)
 
   -- LAW
-  pub raised-chosen : Chosen (raised t q d) (linesIn (chainOf 0 0 heavyBody))
-  raised-chosen = subst (λ (u : List Frame). Chosen u (linesIn (chainOf 0 0 heavyBody))) (one-weighed (λ v. v + d) t q) (weighed-chosen (heavier q d) (heavier-one q d) D t p)
+  pub raised-chosen : ChosenOf f (raised t q d) (linesIn (chainOf 0 0 heavyBody))
+  raised-chosen = subst (λ (u : List Frame). ChosenOf f u (linesIn (chainOf 0 0 heavyBody))) (one-weighed (λ v. v + d) t q) (weighed-chosen (heavier q d) (heavier-one q d) D t p)

@@ -5,13 +5,16 @@ use mathlib.Core.Bool.{Bool, true, false, cond, _&&_, _||_}
 use mathlib.Core.List.{List, [], _∷_}
 use Prim.Native.Nat.{ℕ, zero, suc, _+_, _-_, _≤_}
 use native.Mathlib.Omega.{arith}
+use lib.Dec.{eqb}
 use lib.ListN.{length}
 use Rattle.line.specs.declared.Frame.{Frame}
-use Rattle.line.specs.declared.Frame.the-variants.{Site, Call, Spawn, Sync, Return, Cost, Instructions}
+use Rattle.line.specs.declared.Frame.the-variants.{Site, Call, Spawn, Sync, Return, Cost, Instructions, Async, Finish}
 use Rattle.chain.specs.Over as Over
-use Rattle.trace.specs.Shape.{ifCost, ifInstructions, root, step, openAt, has, firstIs}
+use Rattle.trace.specs.Shape.{ifCost, ifInstructions, root, step, openAt, has}
+use Rattle.trace.specs.Async.{isFinish, finishLine, finish, ownerIs}
 use Rattle.trace.specs.Series.{value, valueAt, Chain, weight, Span}
 use Rattle.trace.specs.Rows.{makes, made, ofRow, hasOf, enclosed, unenclosed, counted, cycles, carried, instructions, sumOf, total, inside, direct, directOn, sum, Sum, calls, work, Spans, ilocal, ionSpan}
+use Rattle.trace.proofs.Sums.{sum-same, sum-le}
 use Rattle.weigh.proofs.Alike.{bare, ButCosts, alike-sym, step-alike, open-alike, chain-alike}
 
 -- ── the same invocations ──
@@ -24,6 +27,8 @@ makes-bare s Sync = refl
 makes-bare s Return = refl
 makes-bare s (Cost v) = refl
 makes-bare s (Instructions v) = refl
+makes-bare s (Async i) = refl
+makes-bare s Finish = refl
 
 made-alike : (n : ℕ) (t u : List Frame) (s : ℕ) → ButCosts t u → made n t s ≡ made n u s
 made-alike n [] [] s h = refl
@@ -59,6 +64,35 @@ module _ (t u : List Frame) (h : ButCosts t u) where
   pub counted-alike : (s : ℕ) → counted t s ≡ counted u s
   counted-alike s = unenclosed-alike s (ofRow t s) ∙ ap (unenclosed u s) (of-row-alike s)
 
+-- ── the same finishes ──
+
+finish-bare : (f : Frame) → isFinish f ≡ isFinish (bare f)
+finish-bare (Site s p) = refl
+finish-bare (Call s) = refl
+finish-bare (Spawn s) = refl
+finish-bare Sync = refl
+finish-bare Return = refl
+finish-bare (Cost v) = refl
+finish-bare (Instructions v) = refl
+finish-bare (Async s) = refl
+finish-bare Finish = refl
+
+finish-line : (t u : List Frame) → ButCosts t u → (k : ℕ) → finishLine t k ≡ finishLine u k
+finish-line [] [] h k = refl
+finish-line [] (f ∷ u) h k = absurd h
+finish-line (e ∷ t) [] h k = absurd h
+finish-line (e ∷ t) (f ∷ u) h zero = finish-bare e ∙ ap isFinish (h .0) ∙ sym (finish-bare f)
+finish-line (e ∷ t) (f ∷ u) h (suc k) = finish-line t u (h .1) k
+
+module _ (t u : List Frame) (h : ButCosts t u) where
+  finish-alike : (x : ℕ) → finish t x ≡ finish u x
+  finish-alike zero = refl
+  finish-alike (suc g) = finish-line t u h g
+
+  owner-alike : (F : ℕ) (o : List ℕ) → ownerIs t F o ≡ ownerIs u F o
+  owner-alike F [] = refl
+  owner-alike F (x ∷ o) = ap (λ (b : Bool). cond b (ownerIs t F o) (eqb F x)) (finish-alike x) ∙ ap (λ (b : Bool). cond (finish u x) b (eqb F x)) (owner-alike F o)
+
 -- ── the same instructions ──
 
 carried-bare : (f : Frame) → ifInstructions (λ v. v) 0 f ≡ ifInstructions (λ v. v) 0 (bare f)
@@ -69,6 +103,8 @@ carried-bare Sync = refl
 carried-bare Return = refl
 carried-bare (Cost v) = refl
 carried-bare (Instructions v) = refl
+carried-bare (Async s) = refl
+carried-bare Finish = refl
 
 carried-alike : (t u : List Frame) → ButCosts t u → carried t ≡ carried u
 carried-alike [] [] h = refl
@@ -84,33 +120,32 @@ cost-bare x Sync = refl
 cost-bare x Return = refl
 cost-bare x (Cost v) = refl
 cost-bare x (Instructions v) = refl
+cost-bare x (Async s) = refl
+cost-bare x Finish = refl
 
 instructions-alike : (e f : Frame) (t u : List Frame) → bare e ≡ bare f → ButCosts t u → instructions e t ≡ instructions f u
 instructions-alike e f t u h k =
     cost-bare (carried t) e ∙ ap (ifCost (λ v. carried t) 0) h ∙ sym (cost-bare (carried t) f) ∙ ap (λ (x : ℕ). ifCost (λ v. x) 0 f) (carried-alike t u k)
 
-sum-instructions : (p : ℕ → List ℕ → Bool) (n : ℕ) (o : List ℕ) (t u : List Frame) → ButCosts t u → sumOf instructions p n o t ≡ sumOf instructions p n o u
-sum-instructions p n o [] [] h = refl
-sum-instructions p n o [] (f ∷ u) h = absurd h
-sum-instructions p n o (e ∷ t) [] h = absurd h
-sum-instructions p n o (e ∷ t) (f ∷ u) h =
-    let first = ap (λ (x : ℕ). cond (p n o) x 0) (instructions-alike e f t u (h .0) (h .1)) in
-    let same = ap (λ (k : List ℕ). sumOf instructions p (suc n) k u) (step-alike n e f o (h .0)) in
-    omega (arith, first, sum-instructions p (suc n) (step n e o) t u (h .1), same)
-
-sums-same : (f g : ℕ → ℕ) → ((F : ℕ) → f F ≡ g F) → (l : List ℕ) → sum f l ≡ sum g l
-sums-same f g h [] = refl
-sums-same f g h (F ∷ l) = omega (arith, h F, sums-same f g h l)
+sum-instructions : (p q : ℕ → List ℕ → Bool) → ((n : ℕ) (o : List ℕ) → p n o ≡ q n o) → (n : ℕ) (o : List ℕ) (t u : List Frame) → ButCosts t u → sumOf instructions p n o t ≡ sumOf instructions q n o u
+sum-instructions p q e n o [] [] h = refl
+sum-instructions p q e n o [] (f ∷ u) h = absurd h
+sum-instructions p q e n o (x ∷ t) [] h = absurd h
+sum-instructions p q e n o (x ∷ t) (y ∷ u) h =
+    let picked = ap (λ (b : Bool). cond b (instructions x t) 0) (e n o) in
+    let first = ap (λ (v : ℕ). cond (q n o) v 0) (instructions-alike x y t u (h .0) (h .1)) in
+    let same = ap (λ (k : List ℕ). sumOf instructions q (suc n) k u) (step-alike n x y o (h .0)) in
+    omega (arith, picked, first, sum-instructions p q e (suc n) (step n x o) t u (h .1), same)
 
 -- LAW: instructions are those of the other, local and on whatever chain
 pub ilocal-alike : (t u : List Frame) (h : ButCosts t u) (s : ℕ) → ilocal t s ≡ ilocal u s
 ilocal-alike t u h s =
-    sums-same (direct instructions t) (direct instructions u) (λ F. sum-instructions (λ k o. firstIs F o) 0 (root ∷ []) t u h) (ofRow t s)
+    sum-same (direct instructions t) (direct instructions u) (λ F. sum-instructions (λ k o. ownerIs t F o) (λ k o. ownerIs u F o) (λ k o. owner-alike t u h F o) 0 (root ∷ []) t u h) (ofRow t s)
     ∙ ap (sum (direct instructions u)) (of-row-alike t u h s)
 
 pub ion-span-alike : (t u : List Frame) (h : ButCosts t u) (c : List ℕ) (s : ℕ) → ionSpan t c s ≡ ionSpan u c s
 ion-span-alike t u h c s =
-    sums-same (directOn instructions t c) (directOn instructions u c) (λ F. sum-instructions (λ k o. firstIs F o && has k c) 0 (root ∷ []) t u h) (ofRow t s)
+    sum-same (directOn instructions t c) (directOn instructions u c) (λ F. sum-instructions (λ k o. ownerIs t F o && has k c) (λ k o. ownerIs u F o && has k c) (λ k o. ap (λ (b : Bool). b && has k c) (owner-alike t u h F o)) 0 (root ∷ []) t u h) (ofRow t s)
     ∙ ap (sum (directOn instructions u c)) (of-row-alike t u h s)
 
 -- ── no number is above ──
@@ -141,10 +176,6 @@ sum-most p n o (e ∷ t) (f ∷ u) h m =
     let same = ap (λ (k : List ℕ). sumOf cycles p (suc n) k u) (step-alike n e f o (h .0)) in
     omega (arith, picked (p n o) (value f) (value e) (m .0), sum-most p (suc n) (step n e o) t u (h .1) (m .1), same)
 
-sums-most : (f g : ℕ → ℕ) → ((F : ℕ) → f F ≤ g F) → (l : List ℕ) → sum f l ≤ sum g l
-sums-most f g h [] = omega arith
-sums-most f g h (F ∷ l) = omega (arith, h F, sums-most f g h l)
-
 weight-most : (f g : ℕ → ℕ) → ((k : ℕ) → f k ≤ g k) → (c : List ℕ) → Over.weight f c ≤ Over.weight g c
 weight-most f g h [] = omega arith
 weight-most f g h (k ∷ c) = omega (arith, h k, weight-most f g h c)
@@ -158,7 +189,7 @@ module _ (t u : List Frame) (h : ButCosts t u) (m : AtMost t u) where
   pub work-most : (s : ℕ) → work u s ≤ work t s
   work-most s =
       let same = ap (sum (inside u)) (counted-alike t u h s) in
-      omega (arith, sums-most (inside u) (inside t) (λ F. sum-most (λ k o. has F o) 0 (root ∷ []) t u h m) (counted t s), same)
+      omega (arith, sum-le (inside u) (inside t) (λ F. sum-most (λ k o. has F o) 0 (root ∷ []) t u h m) (counted t s), same)
 
   pub chain-most : (c : List ℕ) → weight u c ≤ weight t c
   chain-most c = weight-most (valueAt u) (valueAt t) (value-most t u m) c

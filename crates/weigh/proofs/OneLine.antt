@@ -8,6 +8,7 @@ use native.Mathlib.Omega.{arith}
 use lib.Dec.{eqb}
 use lib.ListN.{length}
 use borrow.Author.Tests.{eq-eqb, ne-eqb}
+use Rattle.line.specs.declared.Family.{Family}
 use Rattle.line.specs.declared.Frame.{Frame}
 use Rattle.line.specs.declared.Frame.the-variants.{Cost}
 use Rattle.trace.specs.Shape.{Is, root, step, walk, openAt, has, sites}
@@ -100,9 +101,9 @@ pub one-sites : (g : ℕ → ℕ) (t : List Frame) (k : ℕ) → sites (costingA
 one-sites g t k = ap sites (sym (one-weighed g t k)) ∙ reweighed-sites (onLine k g) t 0 (0 ∷ [])
 
 -- LAW: and keeps the rules within the same limits, where the new weight is in the table
-pub one-fine : (g : ℕ → ℕ) (D M : ℕ) (t : List Frame) (k v : ℕ) → Fine D M t → Is t k (Cost v) → 1 ≤ g v → g v ≤ 4294967295 → Fine D M (costingAt g t k)
-one-fine g D M t k v f i low high =
-    subst (Fine D M) (one-weighed (λ x. g v) t k ∙ one-same (λ x. g v) g t k v i refl) (reweighed-fine (onLine k (λ x. g v)) tabled D M t f)
+pub one-fine : {f : Family} (g : ℕ → ℕ) (D M : ℕ) (t : List Frame) (k v : ℕ) → Fine f D M t → Is t k (Cost v) → 1 ≤ g v → g v ≤ 4294967295 → Fine f D M (costingAt g t k)
+one-fine {f = f} g D M t k v h i low high =
+    subst (Fine f D M) (one-weighed (λ x. g v) t k ∙ one-same (λ x. g v) g t k v i refl) (reweighed-fine (onLine k (λ x. g v)) tabled D M t h)
   where
     tabled : Tabled (onLine k (λ x. g v))
     tabled n s x a b = go (eqb n k)

@@ -3,9 +3,11 @@ use mathlib.Core.Path.{_≡_, refl, sym, _∙_, ap}
 use mathlib.Core.List.{List, [], _∷_, _++_, append-assoc, append-nil}
 use Prim.Native.Nat.{ℕ, suc, _+_}
 use native.Mathlib.Omega.{arith}
+use Rattle.line.specs.declared.Family.{Family}
+use Rattle.line.specs.declared.Family.the-variants.{Base, Finishes}
 use Rattle.line.specs.declared.Frame.{Frame}
-use Rattle.line.specs.declared.Frame.the-variants.{Site, Call, Spawn, Sync, Return, Cost, Instructions}
-use Rattle.trace.specs.Tree.{Way, call, spawn, opening, site, carry, Leaf, spend, sync, note, lineOf, LeafWithin, Body, done, leaf, child, linesOf, size, Within}
+use Rattle.line.specs.declared.Frame.the-variants.{Site, Call, Spawn, Sync, Return, Cost, Instructions, Async, Finish}
+use Rattle.trace.specs.Tree.{Way, call, spawn, async, pass, finish, opening, site, carry, Leaf, spend, sync, note, lineOf, LeafWithin, Body, done, leaf, child, LeafOf, WayOf, Of, linesOf, size, Within}
 use Rattle.weigh.specs.Cost.{costing}
 use Rattle.weigh.specs.Weighed.{Weigh, plainly, Tabled, weighedLeaf, weighed, innermost, rowStep, reweighed}
 
@@ -37,6 +39,18 @@ weighed-within w h m D d (leaf l r) n s k = (within-leaf w h l n s (k .0), weigh
 weighed-within w h m D d (child y i g r) n s k =
     (k .0, k .1, k .2, weighed-within w h m D (suc d) g (suc n) i (k .3), weighed-within w h m D d r (suc n + size g) s (k .4))
 
+of-leaf : (f : Family) (w : Weigh) (l : Leaf) (n s : ℕ) → LeafOf f l → LeafOf f (weighedLeaf w n s l)
+of-leaf Base w l n s h = tt
+of-leaf Finishes w (spend v) n s h = tt
+of-leaf Finishes w sync n s h = h
+of-leaf Finishes w (note x) n s h = tt
+
+-- LAW: it is of the same family
+pub weighed-of : (f : Family) (w : Weigh) (b : Body) (n s : ℕ) → Of f s b → Of f s (weighed w n s b)
+weighed-of f w done n s h = tt
+weighed-of f w (leaf l r) n s h = (of-leaf f w l n s (h .0), weighed-of f w r (suc n) s (h .1))
+weighed-of f w (child y i g r) n s h = (h .0, weighed-of f w g (suc n) i (h .1), weighed-of f w r (suc n + size g) s (h .2))
+
 -- ── its lines ──
 
 pub leaf-costing : (w : Weigh) (l : Leaf) (n s : ℕ) → costing (w n s) (lineOf l) ≡ lineOf (weighedLeaf w n s l)
@@ -54,36 +68,43 @@ leaf-rows (note (carry v)) o = refl
 pub opening-costing : (g : ℕ → ℕ) (y : Way) (i : ℕ) → costing g (opening y i) ≡ opening y i
 opening-costing g call i = refl
 opening-costing g spawn i = refl
+opening-costing g async i = refl
+opening-costing g pass i = refl
+opening-costing g finish i = refl
 
-opening-rows : (y : Way) (i : ℕ) (o : List ℕ) → rowStep (opening y i) o ≡ i ∷ o
-opening-rows call i o = refl
-opening-rows spawn i o = refl
+opening-rows : (f : Family) (s : ℕ) (y : Way) (i : ℕ) (o : List ℕ) → WayOf f s y i → rowStep (opening y i) (s ∷ o) ≡ i ∷ s ∷ o
+opening-rows f s call i o h = refl
+opening-rows f s spawn i o h = refl
+opening-rows f s async i o h = refl
+opening-rows f s pass i o h = refl
+opening-rows Base s finish i o h = absurd h
+opening-rows Finishes s finish i o h = ap (λ (r : ℕ). r ∷ s ∷ o) (sym h)
 
-module _ (w : Weigh) where
+module _ (f : Family) (w : Weigh) where
   -- LAW: the lines of a weighed body are the lines weighed
-  pub reweighed-lines : (b : Body) (n s : ℕ) (o : List ℕ) (u : List Frame) → reweighed w n (s ∷ o) (linesOf b ++ u) ≡ linesOf (weighed w n s b) ++ reweighed w (n + size b) o u
-  reweighed-lines done n s o u = let e : suc n ≡ n + 1 = omega arith in ap (λ (k : ℕ). Return ∷ reweighed w k o u) e
-  reweighed-lines (leaf l r) n s o u =
+  pub reweighed-lines : (b : Body) (n s : ℕ) (o : List ℕ) (u : List Frame) → Of f s b → reweighed w n (s ∷ o) (linesOf b ++ u) ≡ linesOf (weighed w n s b) ++ reweighed w (n + size b) o u
+  reweighed-lines done n s o u h = let e : suc n ≡ n + 1 = omega arith in ap (λ (k : ℕ). Return ∷ reweighed w k o u) e
+  reweighed-lines (leaf l r) n s o u h =
       let e : suc n + size r ≡ n + suc (size r) = omega arith in
       ap (λ (f : Frame). f ∷ reweighed w (suc n) (rowStep (lineOf l) (s ∷ o)) (linesOf r ++ u)) (leaf-costing w l n s)
       ∙ ap (λ (p : List ℕ). lineOf (weighedLeaf w n s l) ∷ reweighed w (suc n) p (linesOf r ++ u)) (leaf-rows l (s ∷ o))
-      ∙ ap (λ (k : List Frame). lineOf (weighedLeaf w n s l) ∷ k) (reweighed-lines r (suc n) s o u)
+      ∙ ap (λ (k : List Frame). lineOf (weighedLeaf w n s l) ∷ k) (reweighed-lines r (suc n) s o u (h .1))
       ∙ ap (λ (k : ℕ). lineOf (weighedLeaf w n s l) ∷ (linesOf (weighed w (suc n) s r) ++ reweighed w k o u)) e
-  reweighed-lines (child y i g r) n s o u =
+  reweighed-lines (child y i g r) n s o u h =
       let e : suc n + size g + size r ≡ n + suc (size g + size r) = omega arith in
       ap (λ (f : Frame). f ∷ reweighed w (suc n) (rowStep (opening y i) (s ∷ o)) ((linesOf g ++ linesOf r) ++ u)) (opening-costing (w n s) y i)
-      ∙ ap (λ (p : List ℕ). opening y i ∷ reweighed w (suc n) p ((linesOf g ++ linesOf r) ++ u)) (opening-rows y i (s ∷ o))
+      ∙ ap (λ (p : List ℕ). opening y i ∷ reweighed w (suc n) p ((linesOf g ++ linesOf r) ++ u)) (opening-rows f s y i o (h .0))
       ∙ ap (λ (k : List Frame). opening y i ∷ reweighed w (suc n) (i ∷ s ∷ o) k) (append-assoc (linesOf g) (linesOf r) u)
-      ∙ ap (λ (k : List Frame). opening y i ∷ k) (reweighed-lines g (suc n) i (s ∷ o) (linesOf r ++ u))
-      ∙ ap (λ (k : List Frame). opening y i ∷ (linesOf (weighed w (suc n) i g) ++ k)) (reweighed-lines r (suc n + size g) s o u)
+      ∙ ap (λ (k : List Frame). opening y i ∷ k) (reweighed-lines g (suc n) i (s ∷ o) (linesOf r ++ u) (h .1))
+      ∙ ap (λ (k : List Frame). opening y i ∷ (linesOf (weighed w (suc n) i g) ++ k)) (reweighed-lines r (suc n + size g) s o u (h .2))
       ∙ ap (λ (k : ℕ). opening y i ∷ (linesOf (weighed w (suc n) i g) ++ (linesOf (weighed w (suc n + size g) s r) ++ reweighed w k o u))) e
       ∙ ap (λ (k : List Frame). opening y i ∷ k)
       (sym (append-assoc (linesOf (weighed w (suc n) i g)) (linesOf (weighed w (suc n + size g) s r)) (reweighed w (n + suc (size g + size r)) o u)))
 
   -- LAW: so of a whole trace
-  pub reweighed-trace : (b : Body) → reweighed w 0 (0 ∷ []) (linesOf b) ≡ linesOf (weighed w 0 0 b)
-  reweighed-trace b =
-      ap (reweighed w 0 (0 ∷ [])) (sym (append-nil (linesOf b))) ∙ reweighed-lines b 0 0 [] [] ∙ append-nil (linesOf (weighed w 0 0 b))
+  pub reweighed-trace : (b : Body) → Of f 0 b → reweighed w 0 (0 ∷ []) (linesOf b) ≡ linesOf (weighed w 0 0 b)
+  reweighed-trace b h =
+      ap (reweighed w 0 (0 ∷ [])) (sym (append-nil (linesOf b))) ∙ reweighed-lines b 0 0 [] [] h ∙ append-nil (linesOf (weighed w 0 0 b))
 
 -- ── by what else the lines are weighed ──
 
@@ -95,6 +116,8 @@ same-costing g h k Sync = refl
 same-costing g h k Return = refl
 same-costing g h k (Cost v) = ap Cost (k v)
 same-costing g h k (Instructions v) = refl
+same-costing g h k (Async s) = refl
+same-costing g h k Finish = refl
 
 -- LAW: the weighed trace is one where each line weighs the same
 pub reweighed-same : (w x : Weigh) → ((n s v : ℕ) → w n s v ≡ x n s v) → (t : List Frame) (n : ℕ) (o : List ℕ) → reweighed w n o t ≡ reweighed x n o t
@@ -111,6 +134,8 @@ plain-costing Sync = refl
 plain-costing Return = refl
 plain-costing (Cost v) = refl
 plain-costing (Instructions v) = refl
+plain-costing (Async s) = refl
+plain-costing Finish = refl
 
 -- LAW: weighed as it stands, a trace is as it was
 pub reweighed-plainly : (t : List Frame) (n : ℕ) (o : List ℕ) → reweighed plainly n o t ≡ t

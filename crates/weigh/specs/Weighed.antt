@@ -2,7 +2,7 @@
 use Prim.Native.Nat.{ℕ, suc, _+_, _≤_}
 use mathlib.Core.List.{List, [], _∷_}
 use Rattle.line.specs.declared.Frame.{Frame}
-use Rattle.line.specs.declared.Frame.the-variants.{Site, Call, Spawn, Sync, Return, Cost, Instructions}
+use Rattle.line.specs.declared.Frame.the-variants.{Site, Call, Spawn, Sync, Return, Cost, Instructions, Async, Finish}
 use Rattle.trace.specs.Shape.{closed}
 use Rattle.trace.specs.Tree.{Leaf, spend, sync, note, Body, done, leaf, child, size}
 use Rattle.weigh.specs.Cost.{costing}
@@ -31,12 +31,12 @@ weighed w n s done = done
 weighed w n s (leaf l r) = leaf (weighedLeaf w n s l) (weighed w (suc n) s r)
 weighed w n s (child y i g r) = child y i (weighed w (suc n) i g) (weighed w (suc n + size g) s r)
 
--- the row of the innermost open invocation; o: the rows of those that are open, innermost first
+-- the row of the innermost open thing; o: the rows of those that are open, innermost first
 abbrev pub innermost : List ℕ → ℕ
 innermost [] = 0
 innermost (s ∷ o) = s
 
--- what a line does to the rows of the open invocations
+-- what a line does to the rows of what is open: the lines of a finish are of the row around it
 abbrev pub rowStep : Frame → List ℕ → List ℕ
 rowStep (Site s p) o = o
 rowStep (Call s) o = s ∷ o
@@ -45,8 +45,10 @@ rowStep Sync o = o
 rowStep Return o = closed o
 rowStep (Cost v) o = o
 rowStep (Instructions v) o = o
+rowStep (Async s) o = s ∷ o
+rowStep Finish o = innermost o ∷ o
 
--- The trace so weighed, over its lines: t begins at line n, where invocations of the rows o are open, innermost first.
+-- The trace so weighed, over its lines: t begins at line n, where things of the rows o are open, innermost first.
 abbrev pub reweighed : Weigh → ℕ → List ℕ → List Frame → List Frame
 reweighed w n o [] = []
 reweighed w n o (e ∷ t) = costing (w n (innermost o)) e ∷ reweighed w (suc n) (rowStep e o) t

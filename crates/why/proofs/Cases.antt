@@ -4,12 +4,13 @@ use mathlib.Core.Bool.{true}
 use mathlib.Core.List.{List, [], _∷_, map}
 use Prim.Native.Nat.{ℕ}
 use lib.ListN.{getD}
+use Rattle.line.specs.declared.Family.the-variants.{Base}
 use Rattle.line.specs.declared.Frame.{Frame}
 use Rattle.chain.specs.Plan.{choose}
 use Rattle.trace.specs.Refusals.{accepted, verdict}
 use Rattle.trace.specs.Tree.{Body, done, linesOf}
 use Rattle.trace.proofs.Scan.{accepted-is, accepted-same}
-use Rattle.trace.proofs.Tree.{body-one}
+use Rattle.trace.proofs.Tree.{body-one, is-of}
 use Rattle.trace.proofs.Parse.{accepted-parts}
 use Rattle.trace.proofs.Twelve.{trees, sited}
 use Rattle.moves.specs.Cases.{G}
@@ -35,7 +36,7 @@ is-accepted = refl
 true-of : (q : ℕ) → True (linesOf body) q (answerBy body q) × Shown (linesOf body) q (answerBy body q) (linesBy body q)
 true-of q =
     let p = accepted-parts G 4 2 true (linesOf body) is-accepted in
-    subst (λ (b : Body). True (linesOf body) q (answerBy b q) × Shown (linesOf body) q (answerBy b q) (linesBy b q)) (body-one (p .body) body (sym (p .lines)))
+    subst (λ (b : Body). True (linesOf body) q (answerBy b q) × Shown (linesOf body) q (answerBy b q) (linesBy b q)) (body-one Base 0 (p .body) body (p .of) (is-of Base 0 body refl) (sym (p .lines)))
     (answer-true 4 (linesOf body) p (accepted-is G 4 2 true (linesOf body) is-accepted .1 .fine .lines-most) q)
 
 all-answered : (l : List Case) → map computed l ≡ l → AllAnswered (linesOf body) l

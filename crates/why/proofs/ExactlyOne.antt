@@ -6,7 +6,7 @@ use Prim.Native.Nat.{ℕ, zero, suc, _-_, _≤_, _<_}
 use native.Mathlib.Omega.{arith}
 use lib.ListN.{length}
 use Rattle.line.specs.declared.Frame.{Frame}
-use Rattle.line.specs.declared.Frame.the-variants.{Site, Call, Spawn, Sync, Return, Cost, Instructions}
+use Rattle.line.specs.declared.Frame.the-variants.{Site, Call, Spawn, Sync, Return, Cost, Instructions, Async, Finish}
 use Rattle.chain.specs.Over.{linesIn}
 use Rattle.trace.specs.Shape.{Is, has}
 use Rattle.trace.specs.Series.{value, valueAt}
@@ -41,6 +41,8 @@ cost-frame Sync h = no-way h
 cost-frame Return h = no-way h
 cost-frame (Cost v) h = refl
 cost-frame (Instructions v) h = no-way h
+cost-frame (Async s) h = no-way h
+cost-frame Finish h = no-way h
 
 cost-there : (t : List Frame) (q : ℕ) → costAt t q ≡ true → Is t q (Cost (valueAt t q))
 cost-there [] q h = no-way h

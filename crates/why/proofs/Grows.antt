@@ -6,7 +6,7 @@ use mathlib.Core.List.{List, [], _∷_}
 use Prim.Native.Nat.{ℕ, zero, suc, _+_, _-_, _≤_}
 use native.Mathlib.Omega.{arith}
 use Rattle.line.specs.declared.Frame.{Frame}
-use Rattle.line.specs.declared.Frame.the-variants.{Site, Call, Spawn, Sync, Return, Cost, Instructions}
+use Rattle.line.specs.declared.Frame.the-variants.{Site, Call, Spawn, Sync, Return, Cost, Instructions, Async, Finish}
 use Rattle.trace.specs.Shape.{root, has}
 use Rattle.trace.specs.Series.{valueAt, CostIn, Chain, weight, Span}
 use Rattle.trace.proofs.Unique.{span-unique}
@@ -30,6 +30,8 @@ costing-other g Sync h = refl
 costing-other g Return h = refl
 costing-other g (Cost v) h = absurd (h v refl)
 costing-other g (Instructions v) h = refl
+costing-other g (Async s) h = refl
+costing-other g Finish h = refl
 
 pub raised-other : (t : List Frame) (q d : ℕ) → IsNoCost t q → raised t q d ≡ t
 raised-other [] q d h = refl

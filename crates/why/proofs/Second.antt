@@ -8,14 +8,15 @@ use native.Mathlib.Numerals.{add-one}
 use native.Mathlib.Omega.{arith}
 use lib.Dec.{ltb}
 use lib.ListN.{length}
+use Rattle.line.specs.declared.Family.the-variants.{Base}
 use Rattle.line.specs.At.{kindAt, siteAt, valueAt}
-use Rattle.trace.specs.Tree.{call, spawn, spend, sync, note, Body, done, leaf, child, size, workOf}
+use Rattle.trace.specs.Tree.{Way, call, spawn, async, pass, finish, Leaf, spend, sync, note, leafWork, Body, done, leaf, child, size, workOf}
 use Rattle.weigh.specs.Weighed.{plainly}
 use Rattle.walk.specs.Stands.{Says, kindOf, siteOf}
 use Rattle.walk.specs.Reads.{Reads}
 use Rattle.walk.specs.Nested.{Nested}
 use Rattle.walk.specs.Item.{More, rest, itemSize, itemWork}
-use Rattle.walk.proofs.Items.{size-item, size-some, item-some, work-item, chain-le, reads-rest, nested-rest}
+use Rattle.walk.proofs.Items.{size-item, size-some, item-some, work-item, reads-rest, nested-rest}
 use Rattle.walk.proofs.Lines.{is-more, is-done, is-sync, is-note}
 use Rattle.walk.proofs.Says.{kind-says, site-says, value-says}
 use Rattle.walk.proofs.Child.{cost-is, call-is, spawn-is, Child, child-is, nested-child}
@@ -23,9 +24,8 @@ use Rattle.why.specs.declared.Seen.{Seen}
 use Rattle.why.specs.declared.Sought.{Sought}
 use Rattle.why.specs.declared.Reached.{Reached}
 use Rattle.why.specs.declared.Returned.{Returned}
-use Rattle.why.specs.Seek.{inSeries, heavierOf, unseen, start, joinedSeen, calledSeen, spawnedSeen, leafSeen, seek, sought}
+use Rattle.why.specs.Seek.{inSeries, heavierOf, unseen, start, joinedSeen, calledSeen, spawnedSeen, leafSeen, endedSeen, childSeen, seek, sought}
 use Rattle.why.specs.Second.{markedIn, lineSeen, reached, returned, itemSeen, loadSeen, Asks, ItemAsks, ItemLeaves, ItemsLeave, BodyAsks, BodyLeaves}
-use Rattle.why.proofs.Seek.{seek-is}
 
 -- ── what is seen weighs no more than what is read ──
 
@@ -37,24 +37,45 @@ heavier-le a b = go (ltb (a .weighs .0) (b .weighs .0))
     go true = omega arith
     go false = omega arith
 
-module _ (marked : ℕ → Bool) where
-  sought-le : (b : Body) (n : ℕ) → sought marked n b .weighs .0 ≤ workOf b
-  sought-le b n = omega (arith, ap (λ (x : Seen). x .weighs .0) (seek-is marked b n 0), chain-le b n 0)
+spawned-load : (g : Seen) (k : Sought) → loadSeen (spawnedSeen g k) ≤ loadSeen k + g .weighs .0
+spawned-load g k = go (ltb (k .l .weighs .0) (k .c .weighs .0 + g .weighs .0))
+  where
+    go : (t : Bool) → loadSeen (cond t (record { p = inSeries (k .p) (k .c); l = g; c = unseen }) k) ≤ loadSeen k + g .weighs .0
+    go true = omega arith
+    go false = omega arith
 
-  spawned-load : (g : Seen) (k : Sought) → loadSeen (spawnedSeen g k) ≤ loadSeen k + g .weighs .0
-  spawned-load g k = go (ltb (k .l .weighs .0) (k .c .weighs .0 + g .weighs .0))
-    where
-      go : (t : Bool) → loadSeen (cond t (record { p = inSeries (k .p) (k .c); l = g; c = unseen }) k) ≤ loadSeen k + g .weighs .0
-      go true = omega arith
-      go false = omega arith
+-- a child whose items add at most x to whatever is seen where they begin
+module _ (f : Sought → Sought) (x : ℕ) (most : (k : Sought) → loadSeen (f k) ≤ loadSeen k + x) where
+  ended-load : endedSeen f .weighs .0 ≤ x
+  ended-load = omega (arith, heavier-le (f start .l) (f start .c), most start)
+
+  child-load : (w : Way) (k : Sought) → loadSeen (childSeen w f k) ≤ loadSeen k + x
+  child-load call k = omega (arith, ended-load)
+  child-load spawn k = omega (arith, spawned-load (endedSeen f) k, ended-load)
+  child-load async k = omega (arith, spawned-load (endedSeen f) k, ended-load)
+  child-load pass k = most k
+  child-load finish k = omega (arith, ended-load)
+
+module _ (marked : ℕ → Bool) where
+  leaf-load : (l : Leaf) (n : ℕ) (k : Sought) → loadSeen (leafSeen marked n l k) ≤ loadSeen k + leafWork l
+  leaf-load (spend v) n k = omega arith
+  leaf-load sync n k = omega (arith, heavier-le (k .l) (k .c))
+  leaf-load (note x) n k = omega arith
+
+  seek-load : (b : Body) (n : ℕ) (k : Sought) → loadSeen (seek marked n b k) ≤ loadSeen k + workOf b
+  seek-load done n k = omega arith
+  seek-load (leaf l r) n k = omega (arith, seek-load r (suc n) (leafSeen marked n l k), leaf-load l n k)
+  seek-load (child w i g r) n k =
+      let f = seek marked (suc n) g in
+      omega (arith, seek-load r (suc n + size g) (childSeen w f k), child-load f (workOf g) (seek-load g (suc n)) w k)
+
+  sought-le : (b : Body) (n : ℕ) → sought marked n b .weighs .0 ≤ workOf b
+  sought-le b n = ended-load (seek marked n b) (workOf b) (seek-load b n)
 
   item-load : (b : Body) (n : ℕ) (k : Sought) → loadSeen (itemSeen marked n b k) ≤ loadSeen k + itemWork b
   item-load done n k = omega arith
-  item-load (leaf (spend v) r) n k = omega arith
-  item-load (leaf sync r) n k = omega (arith, heavier-le (k .l) (k .c))
-  item-load (leaf (note x) r) n k = omega arith
-  item-load (child call i g r) n k = omega (arith, sought-le g (n + 1))
-  item-load (child spawn i g r) n k = omega (arith, spawned-load (sought marked (n + 1) g) k, sought-le g (n + 1))
+  item-load (leaf l r) n k = leaf-load l n k
+  item-load (child w i g r) n k = child-load (seek marked (n + 1) g) (workOf g) (seek-load g (n + 1)) w k
 
   -- ── a body is its first item and the rest ──
 
@@ -82,24 +103,24 @@ module _ {s m : List ℕ} {deep : ℕ} {f : Reached} (l : Asks s m deep f) where
   join-asks = omega (arith, l .fits)
 
   module _ (kind : ℕ) (reads : kind ≡ kindAt s (f .at)) where
-    says : Says kindOf s (f .at) kind
-    says = kind-says s (f .at) (f .at) kind refl reads
+    says : Says Base kindOf s (f .at) kind
+    says = kind-says Base s (f .at) (f .at) kind refl reads
 
     pub sync-leaves : kind ≡ 4 → (k : Sought) → k ≡ joinedSeen (f .sought) → ItemLeaves s m f (reached (f .at + 1) k)
     sync-leaves k4 k e row b more h =
-        let q = is-sync plainly s (f .at) row kind says b h k4 in
+        let q = is-sync Base plainly s (f .at) row kind says b h k4 in
         ap (reached (f .at + 1)) e ∙ ap (λ (x : Body). reached (f .at + itemSize x) (itemSeen (markedIn m) (f .at) x (f .sought))) (sym (q .1))
 
     -- a line that weighs nothing and joins nothing
     pub note-leaves : (kind ≡ 1) ⊎ (kind ≡ 7) → ItemLeaves s m f (reached (f .at + 1) (f .sought))
     note-leaves k17 row b more h =
-        let q = is-note plainly s (f .at) row kind says b h k17 in
+        let q = is-note Base plainly s (f .at) row kind says b h k17 in
         ap (λ (x : Body). reached (f .at + itemSize x) (itemSeen (markedIn m) (f .at) x (f .sought))) (sym (q .2))
 
     -- a cost
     module _ (k6 : kind ≡ 6) where
-      cost-here : (row : ℕ) (b : Body) → Reads plainly s (f .at) row b → (r : Body) × (b ≡ leaf (spend (valueAt s (f .at))) r)
-      cost-here row = cost-is plainly s (f .at) row kind says (valueAt s (f .at)) (valueAt s (f .at)) (value-says s (f .at) (f .at) (valueAt s (f .at)) refl refl) refl k6
+      cost-here : (row : ℕ) (b : Body) → Reads Base plainly s (f .at) row b → (r : Body) × (b ≡ leaf (spend (valueAt s (f .at))) r)
+      cost-here row = cost-is Base plainly s (f .at) row kind says (valueAt s (f .at)) (valueAt s (f .at)) (value-says Base s (f .at) (f .at) (valueAt s (f .at)) refl refl) refl k6
 
       pub cost-asks : (x : Seen) → x ≡ lineSeen s m (f .at) → f .sought .c .weighs .0 + x .weighs .0 < 2 ^ 64
       cost-asks x e = let q = cost-here (l .row) (l .body) (l .reads) in omega (arith, l .fits, ap workOf (q .1), ap (λ (y : Seen). y .weighs .0) e)
@@ -125,17 +146,17 @@ module _ {s m : List ℕ} {kind deep : ℕ} {f : Reached} (h : Calls s m kind de
   abbrev site : ℕ
   site = siteAt s (f .at)
 
-  kinded : Says kindOf s (f .at) kind
-  kinded = kind-says s (f .at) (f .at) kind refl (h .asks .kind-is)
+  kinded : Says Base kindOf s (f .at) kind
+  kinded = kind-says Base s (f .at) (f .at) kind refl (h .asks .kind-is)
 
-  sited : Says siteOf s (f .at) site
-  sited = site-says s (f .at) (f .at) site refl refl
+  sited : Says Base siteOf s (f .at) site
+  sited = site-says Base s (f .at) (f .at) site refl refl
 
-  abbrev made : Child plainly s (f .at) site (l .body)
+  abbrev made : Child Base plainly s (f .at) site (l .body)
   made = child-is plainly s (f .at) (l .row) kind site kinded sited (h .no-cost) (h .no-sync) (h .no-note) (h .no-instructions) (l .body) (l .reads) (h .asks .more)
 
   in-it : (site ≤ l .sites) × (suc (l .d) ≤ l .D) × Nested (l .sites) (l .D) (suc (l .d)) (made .g) × (1 + size (made .g) ≤ size (l .body))
-  in-it = nested-child plainly s (f .at) site (l .sites) (l .D) (l .d) (l .body) made (l .nested)
+  in-it = nested-child Base plainly s (f .at) site (l .sites) (l .D) (l .d) (l .body) made (l .nested)
 
   pub deeper : 1 ≤ deep
   deeper = omega (arith, in-it .1, l .depth)
@@ -169,7 +190,7 @@ module _ {s m : List ℕ} {kind deep : ℕ} {f : Reached} (h : Calls s m kind de
     spawned-asks = (called-asks, omega (arith, child-fits))
 
     -- its body is g: what is seen behind it
-    child-leaves : (y : Seen → Sought → Sought) (i : ℕ) (g : Body) → Reads plainly s (f .at + 1) i g → (k : Sought) → k ≡ y (c .seen) (f .sought)
+    child-leaves : (y : Seen → Sought → Sought) (i : ℕ) (g : Body) → Reads Base plainly s (f .at + 1) i g → (k : Sought) → k ≡ y (c .seen) (f .sought)
         → reached (c .at) k ≡ reached (f .at + (1 + size g)) (y (sought (markedIn m) (f .at + 1) g) (f .sought))
     child-leaves y i g r k e =
         let q = leaves i g r in
@@ -192,18 +213,18 @@ module _ {s m : List ℕ} {kind deep : ℕ} {f : Reached} (h : Calls s m kind de
 pub record Loop (s m : List ℕ) (deep : ℕ) (f₀ f : Reached) (kind : ℕ) : Type 0 where
   pub kind-is : kind ≡ kindAt s (f .at)
   pub asks : Asks s m deep f
-  pub turns : (row : ℕ) (b : Body) → Reads plainly s (f₀ .at) row b
-      → (l : Body) × Reads plainly s (f .at) row l × (f .at + size l ≡ f₀ .at + size b) × (seek (markedIn m) (f .at) l (f .sought) ≡ seek (markedIn m) (f₀ .at) b (f₀ .sought))
+  pub turns : (row : ℕ) (b : Body) → Reads Base plainly s (f₀ .at) row b
+      → (l : Body) × Reads Base plainly s (f .at) row l × (f .at + size l ≡ f₀ .at + size b) × (seek (markedIn m) (f .at) l (f .sought) ≡ seek (markedIn m) (f₀ .at) b (f₀ .sought))
 
 pub loop-start : {s m : List ℕ} {deep : ℕ} {f : Reached} → Asks s m deep f → (kind : ℕ) → kind ≡ kindAt s (f .at) → Loop s m deep f f kind
 loop-start asks kind k = record { kind-is = k; asks = asks; turns = λ row b h. (b, h, refl, refl) }
 
 module _ {s m : List ℕ} {deep : ℕ} {f₀ f : Reached} {kind : ℕ} (o : Loop s m deep f₀ f kind) where
-  told : Says kindOf s (f .at) kind
-  told = kind-says s (f .at) (f .at) kind refl (o .kind-is)
+  told : Says Base kindOf s (f .at) kind
+  told = kind-says Base s (f .at) (f .at) kind refl (o .kind-is)
 
-  more-of : (kind ≡ 5 → ⊥) → (row : ℕ) (b : Body) → Reads plainly s (f .at) row b → More b
-  more-of k5 row b h = is-more plainly s (f .at) row kind told b h k5
+  more-of : (kind ≡ 5 → ⊥) → (row : ℕ) (b : Body) → Reads Base plainly s (f .at) row b → More b
+  more-of k5 row b h = is-more Base plainly s (f .at) row kind told b h k5
 
   pub loop-asks : (kind ≡ 5 → ⊥) → ItemAsks s m kind deep f
   loop-asks k5 = record { asks = o .asks; kind-is = o .kind-is; more = more-of k5 (o .asks .row) (o .asks .body) (o .asks .reads) }
@@ -226,7 +247,7 @@ module _ {s m : List ℕ} {deep : ℕ} {f₀ f : Reached} {kind : ℕ} (o : Loop
         record {
           row = o .asks .row;
           body = rest b;
-          reads = subst (λ (n : ℕ). Reads plainly s n (o .asks .row) (rest b)) (sym at-is) (reads-rest plainly s (f .at) (o .asks .row) b more (o .asks .reads));
+          reads = subst (λ (n : ℕ). Reads Base plainly s n (o .asks .row) (rest b)) (sym at-is) (reads-rest Base plainly s (f .at) (o .asks .row) b more (o .asks .reads));
           sites = o .asks .sites;
           D = o .asks .D;
           d = o .asks .d;
@@ -248,7 +269,7 @@ module _ {s m : List ℕ} {deep : ℕ} {f₀ f : Reached} {kind : ℕ} (o : Loop
               let e = leaves row (u .0) x (u .1) in
               let at : r .at ≡ f .at + itemSize (u .0) = ap (λ (y : Reached). y .at) e in (
                 rest (u .0),
-                subst (λ (n : ℕ). Reads plainly s n row (rest (u .0))) (sym at) (reads-rest plainly s (f .at) row (u .0) x (u .1)),
+                subst (λ (n : ℕ). Reads Base plainly s n row (rest (u .0))) (sym at) (reads-rest Base plainly s (f .at) row (u .0) x (u .1)),
                 omega (arith, at, size-item (u .0) x, u .2),
                 ap (λ (y : Reached). seek (markedIn m) (y .at) (rest (u .0)) (y .sought)) e ∙ sym (seek-item (markedIn m) (u .0) (f .at) (f .sought) x) ∙ u .3,
               );
@@ -261,7 +282,7 @@ module _ {s m : List ℕ} {deep : ℕ} {f₀ f : Reached} {kind : ℕ} (o : Loop
         asks = o .asks;
         leaves = λ row c h.
             let u = o .turns row c h in
-            let e = is-done plainly s (f .at) row kind told (u .0) (u .1) k5 in
+            let e = is-done Base plainly s (f .at) row kind told (u .0) (u .1) k5 in
             (omega (arith, u .2, ap size e), sym (ap (λ (y : Body). seek (markedIn m) (f .at) y (f .sought)) e) ∙ u .3);
       }
 

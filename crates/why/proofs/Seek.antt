@@ -11,7 +11,7 @@ use Rattle.chain.specs.Over.{Each, linesIn}
 use Rattle.chain.proofs.Lists.{weight-append}
 use Rattle.chain.proofs.Choose.{test, choose-cases}
 use Rattle.trace.specs.Refusals.{mostLines}
-use Rattle.trace.specs.Tree.{Way, call, spawn, Leaf, spend, sync, note, Body, done, leaf, child, ahead, size}
+use Rattle.trace.specs.Tree.{Way, call, spawn, async, pass, finish, Leaf, spend, sync, note, Body, done, leaf, child, ahead, size}
 use Rattle.trace.specs.Fold.{costAt, Chains, nothing, joined, called, spawned, leafChains, ended, childChains, run, chainOf}
 use Rattle.trace.proofs.Open.{has-cases, has-here, has-later}
 use Rattle.moves.specs.Moves.{On}
@@ -132,16 +132,27 @@ module _ (marked : ℕ → Bool) where
   of-ended : (f : Chains → Chains) (e : Sought → Sought) → allOf (f nothing) ≡ e start → of (ended f) ≡ endedSeen e
   of-ended f e h = ap (λ (x : Sought). x .p) (of-joined (f nothing)) ∙ ap (λ (x : Sought). joinedSeen x .p) h
 
-  of-child : (w : Way) (f : Chains → Chains) (e : Sought → Sought) (k : Chains) → allOf (f nothing) ≡ e start → allOf (childChains w f k) ≡ childSeen w e (allOf k)
-  of-child call f e k h = of-called (ended f) k ∙ ap (λ (g : Seen). calledSeen g (allOf k)) (of-ended f e h)
-  of-child spawn f e k h = of-spawned (ended f) k ∙ ap (λ (g : Seen). spawnedSeen g (allOf k)) (of-ended f e h)
+  -- a child whose items make this of whatever chains they begin with
+  module _ (f : Chains → Chains) (e : Sought → Sought) (h : (k : Chains) → allOf (f k) ≡ e (allOf k)) where
+    of-call : (k : Chains) → allOf (called (ended f) k) ≡ calledSeen (endedSeen e) (allOf k)
+    of-call k = of-called (ended f) k ∙ ap (λ (g : Seen). calledSeen g (allOf k)) (of-ended f e (h nothing))
+
+    of-spawn : (k : Chains) → allOf (spawned (ended f) k) ≡ spawnedSeen (endedSeen e) (allOf k)
+    of-spawn k = of-spawned (ended f) k ∙ ap (λ (g : Seen). spawnedSeen g (allOf k)) (of-ended f e (h nothing))
+
+    of-child : (w : Way) (k : Chains) → allOf (childChains w f k) ≡ childSeen w e (allOf k)
+    of-child call k = of-call k
+    of-child spawn k = of-spawn k
+    of-child async k = of-spawn k
+    of-child pass k = h k
+    of-child finish k = of-call k
 
   -- LAW: what is seen of the chains that the items of a body come to
   pub seek-run : (b : Body) (n s : ℕ) (k : Chains) → seek marked n b (allOf k) ≡ allOf (run n s b k)
   seek-run done n s k = refl
   seek-run (leaf l r) n s k = ap (seek marked (suc n) r) (sym (of-leaf n s l (ahead r) k)) ∙ seek-run r (suc n) s (leafChains n s l (ahead r) k)
   seek-run (child w i g r) n s k =
-      ap (seek marked (suc n + size g) r) (sym (of-child w (run (suc n) i g) (seek marked (suc n) g) k (sym (seek-run g (suc n) i nothing))))
+      ap (seek marked (suc n + size g) r) (sym (of-child (run (suc n) i g) (seek marked (suc n) g) (λ z. sym (seek-run g (suc n) i z)) w k))
       ∙ seek-run r (suc n + size g) s (childChains w (run (suc n) i g) k)
 
   -- LAW: and of the chain of the whole invocation

@@ -7,8 +7,9 @@ use native.Mathlib.Omega.{arith}
 use lib.Dec.{eqb, leb}
 use lib.ListN.{length, getD, replicate}
 use borrow.Author.Tests.{leb-true, lt-ltb, le-ltb}
+use Rattle.line.specs.declared.Family.the-variants.{Base}
 use Rattle.line.specs.declared.Frame.{Frame}
-use Rattle.line.specs.declared.Frame.the-variants.{Site, Call, Spawn, Sync, Return, Cost, Instructions}
+use Rattle.line.specs.declared.Frame.the-variants.{Site, Call, Spawn, Sync, Return, Cost, Instructions, Async, Finish}
 use Rattle.line.specs.At.{kindAt}
 use Rattle.trace.specs.Shape.{Is, has, sites}
 use Rattle.trace.specs.Rows.{total}
@@ -61,17 +62,19 @@ cost-frame Sync h = absurd (omega arith)
 cost-frame Return h = absurd (omega arith)
 cost-frame (Cost v) h = (v, refl)
 cost-frame (Instructions v) h = absurd (omega arith)
+cost-frame (Async s) h = absurd (omega arith)
+cost-frame Finish h = absurd (omega arith)
 
 -- the text s is an accepted trace
 module _ (s : List ℕ) (D M : ℕ) (t : List Frame) (is : verdict s D M true ≡ accepted t) where
-  fine : Fine D M t
+  fine : Fine Base D M t
   fine = accepted-is s D M true t is .1 .fine
 
   abbrev tree : Parts D t
   tree = parts D M t fine
 
   kind-of : (q : ℕ) (f : Frame) → Is t q f → kindAt s q ≡ kindOf f
-  kind-of q f i = kind-says s q q (kindAt s q) refl refl f (accepted-reads s D M true t is q f i)
+  kind-of q f i = kind-says Base s q q (kindAt s q) refl refl f (accepted-reads s D M true t is q f i)
 
   cost-at : (q : ℕ) → q < lineCount s → kindAt s q ≡ 6 → (v : ℕ) × Is t q (Cost v)
   cost-at q l k6 =
@@ -81,8 +84,8 @@ module _ (s : List ℕ) (D M : ℕ) (t : List Frame) (is : verdict s D M true �
 
   -- ── the second reading ──
 
-  reads : Reads plainly s 0 0 (tree .body)
-  reads = subst (Reads plainly s 0 0) (weighed-plainly (tree .body) 0 0) (root-reads plainly (λ n k v l h. l) D M t fine s true is)
+  reads : Reads Base plainly s 0 0 (tree .body)
+  reads = subst (Reads Base plainly s 0 0) (weighed-plainly (tree .body) 0 0) (root-reads plainly (λ n k v l h. l) D M t fine s true is)
 
   nested : Nested (sites t) D 1 (tree .body)
   nested = subst (Nested (sites t) D 1) (weighed-plainly (tree .body) 0 0) (weighed-nested plainly (λ n k v l h. l) (sites t) D 1 (tree .body) 0 0 (tree .within))

@@ -6,6 +6,7 @@ use mathlib.Core.Bool.{Bool}
 use mathlib.Core.List.{List}
 use lib.Dec.{eqb}
 use lib.ListN.{length, getD}
+use Rattle.line.specs.declared.Family.the-variants.{Base}
 use Rattle.line.specs.At.{kindAt, valueAt}
 use Rattle.trace.specs.Refusals.{mostLines}
 use Rattle.trace.specs.Tree.{Body, done, leaf, child, size, workOf}
@@ -48,7 +49,7 @@ loadSeen k = k .p .weighs .0 + (k .l .weighs .0 + k .c .weighs .0)
 pub record Asks (s m : List ℕ) (deep : ℕ) (f : Reached) : Type 0 where
   pub row : ℕ
   pub body : Body
-  pub reads : Reads plainly s (f .at) row body
+  pub reads : Reads Base plainly s (f .at) row body
   pub sites : ℕ
   pub D : ℕ
   pub d : ℕ
@@ -66,16 +67,16 @@ pub record ItemAsks (s m : List ℕ) (kind deep : ℕ) (f : Reached) : Type 0 wh
 
 -- whatever body stands here
 abbrev pub ItemLeaves : (s m : List ℕ) (f r : Reached) → Type 0
-ItemLeaves s m f r = (row : ℕ) (b : Body) → More b → Reads plainly s (f .at) row b → r ≡ reached (f .at + itemSize b) (itemSeen (markedIn m) (f .at) b (f .sought))
+ItemLeaves s m f r = (row : ℕ) (b : Body) → More b → Reads Base plainly s (f .at) row b → r ≡ reached (f .at + itemSize b) (itemSeen (markedIn m) (f .at) b (f .sought))
 
 -- the reader of an invocation's items up to its return, at which a join may follow
 pub record ItemsLeave (s m : List ℕ) (deep : ℕ) (f r : Reached) : Type 0 where
   pub asks : Asks s m deep r
-  pub leaves : (row : ℕ) (b : Body) → Reads plainly s (f .at) row b → (r .at + 1 ≡ f .at + size b) × (r .sought ≡ seek (markedIn m) (f .at) b (f .sought))
+  pub leaves : (row : ℕ) (b : Body) → Reads Base plainly s (f .at) row b → (r .at + 1 ≡ f .at + size b) × (r .sought ≡ seek (markedIn m) (f .at) b (f .sought))
 
 -- the body reader
 abbrev pub BodyAsks : (s m : List ℕ) (deep from : ℕ) → Type 0
 BodyAsks s m deep from = Asks s m deep (reached from start)
 
 abbrev pub BodyLeaves : (s m : List ℕ) (from : ℕ) (r : Returned) → Type 0
-BodyLeaves s m from r = (row : ℕ) (b : Body) → Reads plainly s from row b → r ≡ returned (from + size b) (sought (markedIn m) from b)
+BodyLeaves s m from r = (row : ℕ) (b : Body) → Reads Base plainly s from row b → r ≡ returned (from + size b) (sought (markedIn m) from b)

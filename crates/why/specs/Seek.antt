@@ -5,7 +5,7 @@ use mathlib.Core.Bool.{Bool, cond}
 use mathlib.Core.List.{List, [], _∷_}
 use lib.Dec.{ltb}
 use Rattle.trace.specs.Refusals.{mostLines}
-use Rattle.trace.specs.Tree.{Way, call, spawn, Leaf, spend, sync, note, Body, done, leaf, child, size}
+use Rattle.trace.specs.Tree.{Way, call, spawn, async, pass, finish, Leaf, spend, sync, note, Body, done, leaf, child, size}
 use Rattle.walk.specs.Measure.{cycles}
 use Rattle.why.specs.declared.Why.{Why}
 use Rattle.why.specs.declared.Why.the-variants.{OnChain, Slack, Tied}
@@ -57,9 +57,13 @@ spawnedSeen g k = cond (ltb (k .l .weighs .0) (k .c .weighs .0 + g .weighs .0)) 
 abbrev pub endedSeen : (Sought → Sought) → Seen
 endedSeen f = joinedSeen (f start) .p
 
+-- behind a child whose items make this of it
 abbrev pub childSeen : Way → (Sought → Sought) → Sought → Sought
 childSeen call f k = calledSeen (endedSeen f) k
 childSeen spawn f k = spawnedSeen (endedSeen f) k
+childSeen async f k = spawnedSeen (endedSeen f) k
+childSeen pass f k = f k
+childSeen finish f k = calledSeen (endedSeen f) k
 
 module _ (marked : ℕ → Bool) where
   -- behind a leaf line, which is line n

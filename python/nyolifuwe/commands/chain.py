@@ -7,7 +7,7 @@ from itertools import accumulate, groupby
 from typing import Any, Dict, Iterator, List, NamedTuple
 
 from .. import api, arguments, show, streams
-from ..model import CALL, RETURN, SPAWN, Profile
+from ..model import ASYNC, BASE, CALL, FINISH, RETURN, SPAWN, Profile
 from ..names import Names
 from ..show import number, percent, ratio, share
 
@@ -41,6 +41,7 @@ def add(subparsers: Any) -> None:
         "examples/proxy.trace",
     )
     arguments.add_trace(parser)
+    arguments.add_family(parser)
     arguments.add_names(parser)
     arguments.add_format(parser)
     parser.set_defaults(run=run)
@@ -49,8 +50,8 @@ def add(subparsers: Any) -> None:
 def run(args: argparse.Namespace) -> int:
     """Prints the headline and the stretches."""
     trace, names = arguments.trace(args), arguments.names(args)
-    profile = api.profile(trace, **arguments.limits(args))
-    found = stretches(list(marked(trace, profile.marks or b"")))
+    profile = api.profile(trace, **arguments.reading(args))
+    found = stretches(list(marked(trace, profile.marks or b"", args.family)))
     if args.format == "json":
         chain = [fields(stretch, profile, names) for stretch in found]
         show.emit_json({**show.totals(profile), "chain": chain})
@@ -63,13 +64,15 @@ def run(args: argparse.Namespace) -> int:
     return 0
 
 
-def marked(trace: bytes, marks: bytes) -> Iterator[Cost]:
-    """The cost lines that are marked, in order."""
+def marked(trace: bytes, marks: bytes, family: str = BASE) -> Iterator[Cost]:
+    """The cost lines that are marked, in order; those directly in a finish are of the row around it."""
     open_rows = [0]
     for line, mark in enumerate(marks):
         kind = api.kind_at(trace, line)
-        if kind in (CALL, SPAWN):
-            open_rows.append(api.line_at(trace, line).site)
+        if kind in (CALL, SPAWN, ASYNC):
+            open_rows.append(api.line_at(trace, line, family).site)
+        elif kind == FINISH:
+            open_rows.append(open_rows[-1])
         elif kind == RETURN:
             open_rows.pop()
         elif mark:

@@ -7,7 +7,7 @@ from typing import Any, Dict, List, NamedTuple, Optional
 
 from .. import api, arguments, show, streams
 from ..errors import Refused
-from ..faults import Fault, below, fault, shown
+from ..faults import Fault, below, fault, remedy, shown
 from ..model import Profile
 from ..show import counted
 
@@ -15,12 +15,13 @@ GOOD, REFUSED, FAILED = 0, 1, 3
 
 
 class Verdict(NamedTuple):
-    """What came of a trace: its profile, or a refusal with the place of the fault, or why it cannot be read."""
+    """What came of a trace: its profile; or a refusal, where it is wrong and what to do; or why it cannot be read."""
 
     trace: str
     profile: Optional[Profile] = None
     refused: Optional[Refused] = None
     fault: Optional[Fault] = None
+    to_do: str = ""
     unread: Optional[str] = None
 
 
@@ -35,6 +36,7 @@ def add(subparsers: Any) -> None:
     )
     parser.add_argument("traces", nargs="+", metavar="TRACE", help="a file or pipe; - is standard input")
     arguments.add_limits(parser)
+    arguments.add_family(parser)
     arguments.add_format(parser)
     parser.set_defaults(run=run, late="traces")
 
@@ -62,9 +64,10 @@ def verdict(name: str, args: argparse.Namespace) -> Verdict:
     except OSError as error:
         return Verdict(name, unread=error.strerror)
     try:
-        return Verdict(name, profile=api.profile(trace, **arguments.limits(args)))
+        return Verdict(name, profile=api.profile(trace, **arguments.reading(args)))
     except Refused as refused:
-        return Verdict(name, refused=refused, fault=fault(trace, refused))
+        found, to_do = fault(trace, refused, args.family), remedy(trace, refused, args.family)
+        return Verdict(name, refused=refused, fault=found, to_do=to_do)
 
 
 def status(one: Verdict) -> int:
@@ -78,7 +81,7 @@ def text(one: Verdict) -> str:
         size = f"{counted(one.profile.lines, 'line')}, {counted(one.profile.sites, 'site')}"
         return f"{one.trace}: {show.paint('accepted', show.GREEN)}, {size}\n"
     if one.refused:
-        return f"{one.trace}: {show.paint(str(one.refused), show.YELLOW)}\n{below(one.fault, one.refused)}"
+        return f"{one.trace}: {show.paint(str(one.refused), show.YELLOW)}\n{below(one.fault, one.to_do)}"
     return f"{one.trace}: {one.unread}\n"
 
 
@@ -94,7 +97,7 @@ def fields(one: Verdict) -> Dict[str, Any]:
         "number": refused.number if refused else None,
         "line": refused.line if refused else None,
         "sentence": refused.sentence if refused else one.unread,
-        "what_to_do": refused.remedy if refused else None,
+        "what_to_do": one.to_do if refused else None,
         "text": shown(one.fault.text) if one.fault else None,
         "column": part.column if part else None,
         "width": part.width if part else None,

@@ -63,6 +63,7 @@ def add(subparsers: Any) -> None:
     parser.add_argument("--all", action="store_true", help="places too that have on the span what they had")
     parser.add_argument("-n", type=arguments.at_least_one, metavar="ROWS", help="so many places at most")
     arguments.add_limits(parser)
+    arguments.add_family(parser)
     arguments.add_format(parser)
     parser.set_defaults(run=run)
 
@@ -76,7 +77,7 @@ def allowance(word: str) -> Fraction:
 
 def run(args: argparse.Namespace) -> int:
     """Prints what changed; the status says whether it is within what is allowed."""
-    old, new = (side(file, **arguments.limits(args)) for file in (args.old, args.new))
+    old, new = (side(file, **arguments.reading(args)) for file in (args.old, args.new))
     if old is None or new is None:
         return REFUSED
     if (old.traces is None) != (new.traces is None):
@@ -88,16 +89,16 @@ def run(args: argparse.Namespace) -> int:
     return OVER
 
 
-def side(file: str, **limits: Any) -> Optional[Side]:
+def side(file: str, *, family: str, **limits: Any) -> Optional[Side]:
     """What a trace or a night has on its span; None where the trace is refused, which is told."""
     if store.is_database(file):
         with store.read(file) as night:
             return night_side(night)
     trace = streams.read(file)
     try:
-        profile = api.profile(trace, **limits)
+        profile = api.profile(trace, family=family, **limits)
     except Refused as refused:
-        streams.say(told(file, trace, refused))
+        streams.say(told(file, trace, refused, family))
         return None
     on_span = {row.place: Fraction(row.on_span) for row in profile.rows}
     ion_span = {row.place: Fraction(row.ion_span) for row in profile.rows}

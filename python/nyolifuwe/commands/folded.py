@@ -20,6 +20,7 @@ def add(subparsers: Any) -> None:
         "examples/proxy.trace --stock examples/stock.names",
     )
     arguments.add_trace(parser)
+    arguments.add_spawns_alone(parser)
     arguments.add_names(parser)
     parser.set_defaults(run=run)
 

@@ -29,6 +29,7 @@ def add(subparsers: Any) -> None:
         "examples/proxy.trace 6=2 2:23:13=4",
     )
     arguments.add_trace(parser)
+    arguments.add_spawns_alone(parser)
     said = "a row, name or place, and by what its own cost is divided, 2 to 1000"
     parser.add_argument("entries", nargs="*", metavar="SITE=FACTOR", help=said)
     parser.add_argument("--sweep", action="store_true", help="every site alone at 2, 4, 8 and 1,000")

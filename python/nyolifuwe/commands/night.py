@@ -5,10 +5,11 @@ from __future__ import annotations
 import argparse
 import fnmatch
 import os
-from typing import Any, Dict, Iterable, List, Optional, Set, Tuple
+from typing import Any, Dict, Iterable, List, Set, Tuple
 
 from .. import arguments, library, show, store, streams
 from ..crew import CrewLost, cluster, machine, outcomes
+from ..judge import File
 from ..library import COLUMNS
 from ..model import Place
 from ..names import ROOT, place_text
@@ -40,6 +41,7 @@ def add(subparsers: Any) -> None:
     parser.add_argument("-n", type=arguments.at_least_one, default=10, metavar="ROWS", help="rows of each table (default: 10)")
     parser.add_argument("--workers", type=arguments.at_least_one, metavar="N", help="processes (default: one a core)")
     parser.add_argument("--scheduler", metavar="ADDRESS", help="a Dask scheduler whose workers see the same files")
+    arguments.add_family(parser)
     arguments.add_format(parser)
     parser.set_defaults(run=run, late="folders")
 
@@ -55,7 +57,7 @@ def run(args: argparse.Namespace) -> int:
         failed.append(f"no file matches {args.match}")
     with store.written(args.db) as night:
         try:
-            failed += taken_in(night, parts) + judge_all(night, paths, args.workers, args.scheduler)
+            failed += taken_in(night, parts) + judge_all(night, paths, args)
         except CrewLost as lost:
             failed.append(f"{lost}; what is finished is in {args.db}: start again to go on")
         emit(night, args.format, args.n)
@@ -95,18 +97,18 @@ def taken_in(night: Night, parts: List[str]) -> List[str]:
     return failed
 
 
-def judge_all(night: Night, paths: List[str], workers: Optional[int], scheduler: Optional[str]) -> List[str]:
+def judge_all(night: Night, paths: List[str], args: argparse.Namespace) -> List[str]:
     """Stores what comes of each file, in their order; answers a sentence for each that could not be read."""
-    digests, failed = night.digests(), []
-    known = [(path, digests.get(store.kept_as(path), "")) for path in paths]
-    if not known:
+    digests, failed = night.digests(args.family), []
+    files = [File(path, digests.get(store.kept_as(path), ""), args.family) for path in paths]
+    if not files:
         return []
-    with cluster(scheduler) if scheduler else machine(workers) as crew, Progress(len(paths)) as progress:
-        for outcome in outcomes(crew, known):
+    with cluster(args.scheduler) if args.scheduler else machine(args.workers) as crew, Progress(len(paths)) as progress:
+        for outcome in outcomes(crew, files):
             if outcome.unread:
                 failed.append(f"{store.shown(store.kept_as(outcome.path))}: {outcome.unread}")
             elif not outcome.kept:
-                night.write(outcome)
+                night.write(outcome, args.family)
             progress.step(bool(outcome.refusal))
     return failed
 
@@ -167,12 +169,18 @@ def place_fields(one: PlaceTotals, totals: Totals) -> Dict[str, Any]:
     return dict(zip(FIELDS, [*(one.place or (None,) * 3), one.traces, *one.numbers.values(), percentage]))
 
 
+def nearby(path: str) -> str:
+    """A path as it is shown, from the current folder on where it is in that folder."""
+    return path.removeprefix(store.shown(store.kept_as(os.path.join(os.getcwd(), ""))))
+
+
 def worst_cells(one: Worst) -> Dict[str, str]:
     """A trace with a large span for people."""
     numbers = {name: number(getattr(one, name)) for name in ("span", "work", "lines")}
-    return {**numbers, "parallelism": ratio(one.work, one.span), show.TRACE: one.path}
+    return {**numbers, "parallelism": ratio(one.work, one.span), show.TRACE: nearby(one.path)}
 
 
 def refusal_cells(one: RefusalCount) -> Dict[str, str]:
     """A refusal for people."""
-    return {"refusal": str(one.number), "traces": number(one.traces), show.NOTE: one.sentence, show.TRACE: one.path}
+    counts = {"refusal": str(one.number), "traces": number(one.traces)}
+    return {**counts, show.NOTE: one.sentence, show.TRACE: nearby(one.path)}

@@ -5,11 +5,11 @@ from __future__ import annotations
 import argparse
 import os
 from pathlib import Path
-from typing import Any, Sequence
+from typing import Any, Dict, List, Optional, Sequence
 
 from .. import api, arguments, flame, streams
 from ..gains import gains
-from ..model import Row
+from ..model import BASE, Profile, Row
 from ..names import Names, unnamed
 from ..page import page
 from ..store import kept_as, shown
@@ -27,6 +27,7 @@ def add(subparsers: Any) -> None:
         "examples/proxy.trace -o proxy.html",
     )
     arguments.add_trace(parser)
+    arguments.add_family(parser)
     arguments.add_names(parser)
     parser.add_argument("-o", "--output", required=True, metavar="FILE", help="the page to write; - is standard output")
     parser.set_defaults(run=run)
@@ -34,13 +35,22 @@ def add(subparsers: Any) -> None:
 
 def run(args: argparse.Namespace) -> int:
     """Writes the page."""
-    trace, lists, limits = arguments.trace(args), arguments.lists(args), arguments.limits(args)
-    profile = api.profile(trace, **limits)
-    folded = api.folded(trace, lists["project"], filled(lists["stock"], profile.rows), **limits)
-    boxes = flame.boxes(trace, profile.marks or b"", folded)
+    trace, lists, reading = arguments.trace(args), arguments.lists(args), arguments.reading(args)
+    profile = api.profile(trace, **reading)
+    boxes = flame_boxes(trace, profile, lists, **reading)
     title = "standard input" if args.trace == streams.STANDARD_INPUT else shown(kept_as(os.path.basename(args.trace)))
-    write(args.output, page(title, profile, gains(trace, profile, **limits), boxes, Names(**lists)).encode())
+    write(args.output, page(title, profile, gains(trace, profile, **reading), boxes, Names(**lists)).encode())
     return 0
+
+
+def flame_boxes(
+    trace: bytes, profile: Profile, lists: Dict[str, bytes], *, family: str, **limits: Any
+) -> Optional[List[flame.Box]]:
+    """The boxes of the flame view; None for a family without folded stacks."""
+    if family != BASE:
+        return None
+    folded = api.folded(trace, lists["project"], filled(lists["stock"], profile.rows), **limits)
+    return flame.boxes(trace, profile.marks or b"", folded)
 
 
 def filled(stock: bytes, rows: Sequence[Row]) -> bytes:

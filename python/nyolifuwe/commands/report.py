@@ -19,6 +19,7 @@ def add(subparsers: Any) -> None:
         "examples/case-i.trace",
     )
     arguments.add_trace(parser)
+    arguments.add_family(parser)
     parser.add_argument("--called", action="store_true", help="leave idle rows off")
     parser.set_defaults(run=run)
 
@@ -26,7 +27,7 @@ def add(subparsers: Any) -> None:
 def run(args: argparse.Namespace) -> int:
     """Prints the report; or the line of the refusal, which then goes on to be said in words."""
     try:
-        profile = api.profile(arguments.trace(args), **arguments.limits(args))
+        profile = api.profile(arguments.trace(args), **arguments.reading(args))
     except Refused as refused:
         streams.emit(api.refusal_line(refused.number, refused.line))
         raise

@@ -50,6 +50,7 @@ def add(subparsers: Any) -> None:
         "examples/proxy.trace 56",
     )
     arguments.add_trace(parser)
+    arguments.add_spawns_alone(parser)
     parser.add_argument("line", type=line_number, metavar="LINE", help="the number of a line of the trace; the first is 0")
     arguments.add_names(parser)
     arguments.add_format(parser)

@@ -5,7 +5,7 @@ use super::timing::{medians, Run};
 use super::traces::{DEPTH, SHAPES};
 use crate::check::Limits;
 use crate::library::Library;
-use crate::line::CHARS;
+use crate::line::{Family::Base, CHARS};
 use crate::plain;
 use crate::why::{Why, ANSWER};
 use std::hint::black_box;
@@ -121,7 +121,7 @@ fn time_line(
     let mut runs: [Run; 3] = [
         Box::new(|| {
             let Room { scratch, marks, rows, totals, .. } = &mut plain_room;
-            assert_eq!(library.marks(black_box(trace), LIMITS, scratch, marks, rows, totals), 0, "accepted");
+            assert_eq!(library.marks(Base, black_box(trace), LIMITS, scratch, marks, rows, totals), 0, "accepted");
         }),
         Box::new(|| {
             let Room { scratch, marks, answer, .. } = &mut room;

@@ -6,8 +6,8 @@ use super::timing::{medians, Run};
 use super::traces::{DEPTH, SHAPES};
 use crate::check::Limits;
 use crate::compare::sites::moved;
-use crate::library::Library;
-use crate::line::CHARS;
+use crate::library::{Asked, Library};
+use crate::line::{Family::Base, CHARS};
 use crate::plain;
 use std::fmt::Write;
 use std::hint::black_box;
@@ -81,13 +81,13 @@ fn time(library: &dyn Library, shape: &'static str, first: &[u8], limits: Limits
     let plainly = |trace| -> Run { Box::new(move || _ = black_box(plain::profile(black_box(trace), limits, &lent))) };
     let mut all: Vec<Run> = vec![];
     for (trace, rooms) in [(first, &mut at_first), (&met, &mut on_the_way)] {
-        all.extend(runs(library, trace, limits, None, rooms));
+        all.extend(runs(library, trace, limits, Asked::Family(Base), rooms));
         all.push(plainly(trace));
     }
     let seconds = medians(&mut all, samples, |_| ());
     drop(all);
     for (trace, rooms) in [(first, &at_first), (&met, &on_the_way)] {
-        check(trace, limits, rooms, shape);
+        check(Base, trace, limits, rooms, shape);
     }
     let [first, met] = [0, ENGINES.len()].map(|from| std::array::from_fn(|engine| seconds[from + engine]));
     Declared { shape, lines, sites: limits.sites, first, met }

@@ -2,8 +2,8 @@
 
 use super::timing::Run;
 use crate::check::Limits;
-use crate::forecast::Entry;
-use crate::library::Library;
+use crate::library::{Asked, Library};
+use crate::line::Family;
 use crate::plain;
 use std::hint::black_box;
 
@@ -25,39 +25,32 @@ pub fn rooms(limits: Limits, lines: usize) -> [Room; 2] {
     })
 }
 
-/// The runs of both engines in their rooms; with entries, where there are some to lend.
+/// The runs of both engines that are asked, in their rooms.
 pub fn runs<'a>(
     library: &'a dyn Library,
     trace: &'a [u8],
     limits: Limits,
-    entries: Option<&'a [Entry]>,
+    asked: Asked<'a>,
     [tables, marked]: &'a mut [Room; 2],
 ) -> [Run<'a>; 2] {
     [
         Box::new(move || {
             let Room { scratch, rows, answer, .. } = &mut *tables;
-            let trace = black_box(trace);
-            let given = match entries {
-                None => library.tables(trace, limits, scratch, rows, answer),
-                Some(entries) => library.forecast_tables(trace, limits, entries, scratch, rows, answer),
-            };
+            let given = asked.tables(library, black_box(trace), limits, scratch, rows, answer);
             assert_eq!(given, 0, "accepted");
         }),
         Box::new(move || {
             let Room { scratch, marks, rows, answer } = &mut *marked;
-            let trace = black_box(trace);
-            let given = match entries {
-                None => library.marks(trace, limits, scratch, marks, rows, answer),
-                Some(entries) => library.forecast_marks(trace, limits, entries, scratch, marks, rows, answer),
-            };
+            let given = asked.marks(library, black_box(trace), limits, scratch, marks, rows, answer);
             assert_eq!(given, 0, "accepted");
         }),
     ]
 }
 
-/// Holds what the engines have left of a trace against what the plain one gives.
-pub fn check(trace: &[u8], limits: Limits, [tables, marked]: &[Room; 2], shape: &str) {
-    let right = plain::profile(trace, limits, &limits.for_marks(marked.marks.len())).expect("a good trace");
+/// Holds what the engines have left of a trace of a family against what the plain one gives.
+pub fn check(family: Family, trace: &[u8], limits: Limits, [tables, marked]: &[Room; 2], shape: &str) {
+    let lent = limits.for_marks(marked.marks.len());
+    let right = plain::profile_of(family, trace, limits, &lent).expect("a good trace");
     let rows = right.rows.concat();
     assert!(tables.rows == rows && tables.answer == right.answer, "the table engine on {shape}");
     assert!(marked.rows == rows && marked.answer == right.answer, "the marks engine on {shape}");

@@ -6,7 +6,8 @@ use super::timing::{medians, Run};
 use super::traces::{DEPTH, SHAPES};
 use crate::check::Limits;
 use crate::forecast::{Entry, MOST_ENTRIES};
-use crate::library::Library;
+use crate::library::{Asked, Library};
+use crate::line::Family::Base;
 use crate::plain;
 use std::hint::black_box;
 
@@ -84,9 +85,9 @@ fn time(library: &dyn Library, shape: &'static str, trace: &[u8], samples: usize
     let rooms = || rooms(LIMITS, LINES);
     let (lists, lent) = (COUNTS.map(entries), LIMITS.for_marks(LINES));
     let (mut plain_rooms, mut all_rooms) = (rooms(), [rooms(), rooms(), rooms()]);
-    let mut runs: Vec<Run> = engines::runs(library, trace, LIMITS, None, &mut plain_rooms).into();
+    let mut runs: Vec<Run> = engines::runs(library, trace, LIMITS, Asked::Family(Base), &mut plain_rooms).into();
     for (list, rooms) in lists.iter().zip(&mut all_rooms) {
-        runs.extend(engines::runs(library, trace, LIMITS, Some(list), rooms));
+        runs.extend(engines::runs(library, trace, LIMITS, Asked::Forecast(list), rooms));
         runs.push(Box::new(|| _ = black_box(plain::forecast(black_box(trace), LIMITS, list, &lent))));
     }
     let seconds = medians(&mut runs, samples, |_| ());

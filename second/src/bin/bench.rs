@@ -1,7 +1,7 @@
-//! `bench DIR [SAMPLES]`: times the proved engines against the plain one, the script and a pass that only sums the bytes; the
-//! proved writer of folded stacks, the proved forecasts and the proved compactor against plain ones; sites declared on the way
-//! against sites at the start; traces with instructions behind every cost against the same without; and why lines are not on the
-//! span against plain Rust.
+//! `bench DIR [SAMPLES]`: times the proved engines against the plain one, the script and a pass that only sums the
+//! bytes; the proved writer of folded stacks, the proved forecasts and the proved compactor against plain ones; sites
+//! declared on the way against sites at the start; traces with instructions behind every cost against the same without;
+//! why lines are not on the span against plain Rust; and the proved engines of asyncs and finishes against a plain one.
 //!
 //! Writes the traces and `bench.csv` to DIR, tells its progress, and prints the table and the goals. The numbers are
 //! medians of SAMPLES samples (101 if not said; the script's, of 3) of processor time. Each sample goes over all traces and
@@ -11,9 +11,10 @@
 use second::bench::table::{csv, goals, head, Measured};
 use second::bench::timing::{medians, Run};
 use second::bench::traces::{Shape, DEPTH, SHAPES};
-use second::bench::{asking, carrying, compacting, declaring, folding, forecasting};
+use second::bench::{asking, carrying, compacting, declaring, finishing, folding, forecasting};
 use second::check::{Lent, Limits};
 use second::library::{proved, Library};
+use second::line::Family::Base;
 use second::plain;
 use second::rows::Profile;
 use std::env::args;
@@ -88,6 +89,10 @@ fn measure(folder: &Path, samples: usize) -> Result<(), Box<dyn Error>> {
     println!("{}", asking::head());
     answered.iter().for_each(|measured| println!("{}", measured.line()));
     println!("{}", asking::goal(&answered));
+    let finished = finishing::measure(library, samples);
+    println!("{}", finishing::head());
+    finished.iter().for_each(|measured| println!("{}", measured.line()));
+    println!("{}", finishing::goal(&finished));
     Ok(())
 }
 
@@ -145,11 +150,11 @@ impl Case {
             Box::new(move || _ = black_box(black_box(trace).iter().map(|&byte| u64::from(byte)).sum::<u64>())),
             Box::new(move || {
                 let Room { scratch, rows, answer } = &mut *tables;
-                assert_eq!(library.tables(black_box(trace), limits, scratch, rows, answer), 0, "accepted");
+                assert_eq!(library.tables(Base, black_box(trace), limits, scratch, rows, answer), 0, "accepted");
             }),
             Box::new(move || {
                 let Room { scratch, rows, answer } = &mut *marked;
-                assert_eq!(library.marks(black_box(trace), limits, scratch, marks, rows, answer), 0, "accepted");
+                assert_eq!(library.marks(Base, black_box(trace), limits, scratch, marks, rows, answer), 0, "accepted");
             }),
             Box::new(move || _ = black_box(plain::profile(black_box(trace), limits, lent))),
         ]

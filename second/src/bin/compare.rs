@@ -1,13 +1,14 @@
 //! `compare [CASES [SEED]] [--every LINES]`: holds the proved library against the second program.
 //!
 //! Compares the traces that the rules name, every trace of up to LINES lines of eight kinds after a site line (6 if not
-//! said), with both engines, the compactor and every line asked, then CASES generated cases (10,000 if not said) of SEED (1 if not
-//! said), and tells its progress. At the first difference it prints the smallest case that shows it and ends with
-//! status 1. With `--stand-in` it needs no library: it holds the second program's own way for long traces against its
-//! way by pairs.
+//! said), with both engines, the compactor and every line asked, and of the other family with both engines, then CASES
+//! generated cases (10,000 if not said) of SEED (1 if not said), and tells its progress and how many traces were tied
+//! to the other family. At the first difference it prints the smallest case that shows it and ends with status 1. With
+//! `--stand-in` it needs no library: it holds the second program's own way for long traces against its way by pairs.
 
 use second::compare::case::Case;
 use second::compare::generate::{KINDS, QUESTIONS};
+use second::compare::tie::Tally;
 use second::compare::{compare, fixed, generate};
 use second::library::{proved, Library, Second};
 use std::env::args;
@@ -74,14 +75,16 @@ impl Asked {
             fixed.len() as u64 + (0..=self.every).map(|lines| QUESTIONS * KINDS.pow(lines)).sum::<u64>() + self.cases;
         let every = (0..=self.every).flat_map(generate::every);
         let generated = (0..self.cases).map(|number| generate::case(self.seed, number));
-        let mut progress = Progress::new();
+        let (mut progress, mut tally) = (Progress::new(), Tally::default());
         for (passed, case) in (0..).zip(fixed.into_iter().chain(every).chain(generated)) {
             progress.tell(passed, all);
             if differs(&case, others) {
                 println!("{passed} passed, 1 failed");
                 return ExitCode::FAILURE;
             }
+            tally.count(&case, &Second::by_paths());
         }
+        println!("{tally}");
         println!("{all} passed, 0 failed");
         ExitCode::SUCCESS
     }

@@ -1,12 +1,13 @@
 //! Traces with 07 lines, with what comes of them worked out by hand: answer, rows and chosen chain, or the refusal; what a
 //! forecast makes of such a trace, and what the compactor leaves of it.
 
-use super::case::{Case, Question};
+use super::case::{Case, Question, Spare};
 use super::compacts::{self, of, same, Compacted, Long};
 use super::forecasts;
 use super::on_the_way::{met, names, Given, Met};
 use crate::check::{Limits, MOST_LINES};
 use crate::forecast::Entry;
+use crate::line::Family;
 use crate::rows::Row;
 use crate::trace::Trace;
 
@@ -384,7 +385,11 @@ pub fn cases() -> Vec<Case> {
     let names = names();
     let rooms = |met: &Met| {
         let (trace, limits) = (met.trace.chars.clone(), met.limits);
-        forecasts::ROOMS[1..].iter().map(move |spare| Question::Engines { trace: trace.clone(), limits, spare: *spare })
+        let of = move |spare: &Spare| {
+            let (family, trace) = (Family::Base, trace.clone());
+            Question::Engines { family, trace, limits, spare: *spare }
+        };
+        forecasts::ROOMS[1..].iter().map(of)
     };
     let asked = traces().into_iter().flat_map(|met| rooms(&met).chain(met.questions(&names)).collect::<Vec<_>>());
     let forecast = FORECASTS.iter().flat_map(|(_, events, entries, _)| {

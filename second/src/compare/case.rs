@@ -6,8 +6,8 @@ use crate::check::{Lent, Limits};
 use crate::compact;
 use crate::folded;
 use crate::forecast::Entry;
-use crate::library::Library;
-use crate::line::CHARS;
+use crate::library::{Asked, Library};
+use crate::line::{Family, CHARS};
 
 /// Something to ask a program, and the seed of the rubbish that fills the lent room before.
 #[derive(Clone, Debug, PartialEq, Eq)]
@@ -19,16 +19,16 @@ pub struct Case {
 /// What is asked, and how long the lent room is.
 #[derive(Clone, Debug, PartialEq, Eq)]
 pub enum Question {
-    /// A trace, for both engines.
-    Engines { trace: Vec<u8>, limits: Limits, spare: Spare },
+    /// A trace of a family, for both engines.
+    Engines { family: Family, trace: Vec<u8>, limits: Limits, spare: Spare },
     /// A trace and forecast entries, for both engines.
     Forecast { trace: Vec<u8>, limits: Limits, entries: Vec<Entry>, spare: Spare },
     /// A trace, one of whose costs, counted from 0, has another value, for both engines.
     Moved { trace: Vec<u8>, limits: Limits, cost: usize, value: u64, spare: Spare },
-    /// Characters, for the line reader.
-    ReadLine { line: Vec<u8>, frame: usize },
-    /// A frame, for the line writer.
-    WriteLine { frame: Vec<u64>, out: usize, written: usize },
+    /// Characters, for the line reader of a family.
+    ReadLine { family: Family, line: Vec<u8>, frame: usize },
+    /// A frame, for the line writer of a family.
+    WriteLine { family: Family, frame: Vec<u64>, out: usize, written: usize },
     /// Rows, for the report writer, or for the writer of the full report.
     Report { rows: Vec<u64>, count: u64, full: bool, out: usize, written: usize },
     /// A number and a line, for the writer of a refusal.
@@ -88,20 +88,34 @@ pub struct Room<T> {
 pub const STRIP: usize = 4;
 
 impl Case {
+    /// The family of what is asked.
+    pub fn family(&self) -> Family {
+        match self.question {
+            Question::Engines { family, .. }
+            | Question::ReadLine { family, .. }
+            | Question::WriteLine { family, .. } => family,
+            _ => Family::Base,
+        }
+    }
+
     /// What a program makes of this case.
     pub fn ask(&self, library: &dyn Library) -> Outcome {
         let mut lender = Lender(Rng::new(self.rubbish));
         match &self.question {
-            Question::Engines { trace, limits, spare } => lender.engines(library, trace, None, *limits, *spare),
+            Question::Engines { family, trace, limits, spare } => {
+                lender.engines(library, Asked::Family(*family), trace, *limits, *spare)
+            }
             Question::Forecast { trace, limits, entries, spare } => {
-                lender.engines(library, trace, Some(entries), *limits, *spare)
+                lender.engines(library, Asked::Forecast(entries), trace, *limits, *spare)
             }
             Question::Moved { trace, limits, cost, value, spare } => {
                 let trace = moves::rewritten(library, trace, *cost, *value);
-                lender.engines(library, &trace, None, *limits, *spare)
+                lender.engines(library, Asked::Family(Family::Base), &trace, *limits, *spare)
             }
-            Question::ReadLine { line, frame } => lender.read_line(library, line, *frame),
-            Question::WriteLine { frame, out, written } => lender.write_line(library, frame, [*out, *written]),
+            Question::ReadLine { family, line, frame } => lender.read_line(library, *family, line, *frame),
+            Question::WriteLine { family, frame, out, written } => {
+                lender.write_line(library, *family, frame, [*out, *written])
+            }
             Question::Report { rows, count, full, out, written } => {
                 lender.report(library, rows, *count, *full, [*out, *written])
             }
@@ -135,85 +149,61 @@ impl Outcome {
 struct Lender(Rng);
 
 impl Lender {
-    /// Both engines on a trace; with forecast entries, where there are some.
-    fn engines(
-        &mut self,
-        library: &dyn Library,
-        trace: &[u8],
-        entries: Option<&[Entry]>,
-        limits: Limits,
-        spare: Spare,
-    ) -> Outcome {
+    /// Both engines on a trace.
+    fn engines(&mut self, library: &dyn Library, asked: Asked, trace: &[u8], limits: Limits, spare: Spare) -> Outcome {
         let near = limits.nearest();
-        let mut outcome = self.tables(library, trace, entries, limits, spare.over(near.for_tables()));
-        let marks = self.marks(library, trace, entries, limits, spare.over(near.for_marks(trace.len() / CHARS)));
+        let mut outcome = self.tables(library, asked, trace, limits, spare.over(near.for_tables()));
+        let marks = self.marks(library, asked, trace, limits, spare.over(near.for_marks(trace.len() / CHARS)));
         outcome.codes.extend(marks.codes);
         outcome.bytes.extend(marks.bytes);
         outcome.numbers.extend(marks.numbers);
         outcome
     }
 
-    fn tables(
-        &mut self,
-        library: &dyn Library,
-        trace: &[u8],
-        entries: Option<&[Entry]>,
-        limits: Limits,
-        lent: Lent,
-    ) -> Outcome {
+    fn tables(&mut self, library: &dyn Library, asked: Asked, trace: &[u8], limits: Limits, lent: Lent) -> Outcome {
         let mut trace = self.bytes("table engine's trace", trace.len()).holding(trace);
         let mut scratch = self.numbers("table engine's scratch", lent.scratch);
         let mut rows = self.numbers("table engine's rows", lent.rows);
         let mut answer = self.numbers("table engine's answer", lent.answer);
-        let mut listed = entries.map(|entries| Listed::holding("table engine's entries", entries));
-        let code = match &mut listed {
-            None => library.tables(trace.lent(), limits, scratch.lent(), rows.lent(), answer.lent()),
-            Some(listed) => {
-                let entries = listed.lent();
-                library.forecast_tables(trace.lent(), limits, entries, scratch.lent(), rows.lent(), answer.lent())
-            }
-        };
+        let listed = asked.entries().map(|entries| Listed::holding("table engine's entries", entries));
+        let asked = listed.as_ref().map_or(asked, |listed| Asked::Forecast(listed.lent()));
+        let code = asked.tables(library, trace.lent(), limits, scratch.lent(), rows.lent(), answer.lent());
         let numbers = [answer, rows, scratch].into_iter().chain(listed.map(Listed::seen)).collect();
         Outcome { codes: vec![("table engine", code)], bytes: vec![trace], numbers }
     }
 
-    fn marks(
-        &mut self,
-        library: &dyn Library,
-        trace: &[u8],
-        entries: Option<&[Entry]>,
-        limits: Limits,
-        lent: Lent,
-    ) -> Outcome {
+    fn marks(&mut self, library: &dyn Library, asked: Asked, trace: &[u8], limits: Limits, lent: Lent) -> Outcome {
         let mut trace = self.bytes("marks engine's trace", trace.len()).holding(trace);
         let mut scratch = self.numbers("marks engine's scratch", lent.scratch);
         let mut marks = self.bytes("marks engine's marks", lent.marks.unwrap_or(0));
         let mut rows = self.numbers("marks engine's rows", lent.rows);
         let mut answer = self.numbers("marks engine's answer", lent.answer);
-        let mut listed = entries.map(|entries| Listed::holding("marks engine's entries", entries));
-        let code = match &mut listed {
-            None => library.marks(trace.lent(), limits, scratch.lent(), marks.lent(), rows.lent(), answer.lent()),
-            Some(listed) => {
-                let (entries, scratch, marks) = (listed.lent(), scratch.lent(), marks.lent());
-                library.forecast_marks(trace.lent(), limits, entries, scratch, marks, rows.lent(), answer.lent())
-            }
-        };
+        let listed = asked.entries().map(|entries| Listed::holding("marks engine's entries", entries));
+        let asked = listed.as_ref().map_or(asked, |listed| Asked::Forecast(listed.lent()));
+        let (scratch_lent, marks_lent) = (scratch.lent(), marks.lent());
+        let code = asked.marks(library, trace.lent(), limits, scratch_lent, marks_lent, rows.lent(), answer.lent());
         let numbers = [answer, rows, scratch].into_iter().chain(listed.map(Listed::seen)).collect();
         Outcome { codes: vec![("marks engine", code)], bytes: vec![trace, marks], numbers }
     }
 
-    fn read_line(&mut self, library: &dyn Library, line: &[u8], frame: usize) -> Outcome {
+    fn read_line(&mut self, library: &dyn Library, family: Family, line: &[u8], frame: usize) -> Outcome {
         let mut line = self.bytes("line", line.len()).holding(line);
         let mut frame = self.numbers("frame", frame);
-        let code = library.read_line(line.lent(), frame.lent());
+        let code = library.read_line(family, line.lent(), frame.lent());
         Outcome { codes: vec![("line reader", code)], bytes: vec![line], numbers: vec![frame] }
     }
 
-    fn write_line(&mut self, library: &dyn Library, frame: &[u64], [out, written]: [usize; 2]) -> Outcome {
+    fn write_line(
+        &mut self,
+        library: &dyn Library,
+        family: Family,
+        frame: &[u64],
+        [out, written]: [usize; 2],
+    ) -> Outcome {
         let mut frame = self.numbers("frame", frame.len()).holding(frame);
         let mut out = self.bytes("output", out);
         let mut written = self.numbers("count of characters", written);
-        let code = library.write_line(frame.lent(), out.lent(), written.lent());
+        let code = library.write_line(family, frame.lent(), out.lent(), written.lent());
         Outcome { codes: vec![("line writer", code)], bytes: vec![out], numbers: vec![frame, written] }
     }
 

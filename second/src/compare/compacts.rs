@@ -6,7 +6,7 @@ use super::rng::Rng;
 use super::{fixed, generate, stacks};
 use crate::check::{Limits, MOST_LINES};
 use crate::library::Library;
-use crate::line::{CHARS, WIDTHS};
+use crate::line::{Family, CHARS, WIDTHS};
 use crate::trace::Trace;
 
 /// A trace of two sites in the notation of the twelve, and what is left of it by hand.
@@ -187,10 +187,10 @@ impl Engines {
     fn ask(library: &dyn Library, trace: &[u8], limits: Limits) -> Engines {
         let lines = trace.len() / CHARS;
         let tables = Said::by(limits, limits.table_scratch(), |scratch, rows, answer| {
-            library.tables(trace, limits, scratch, rows, answer)
+            library.tables(Family::Base, trace, limits, scratch, rows, answer)
         });
         let marks = Said::by(limits, limits.marks_scratch(), |scratch, rows, answer| {
-            library.marks(trace, limits, scratch, &mut vec![0; lines], rows, answer)
+            library.marks(Family::Base, trace, limits, scratch, &mut vec![0; lines], rows, answer)
         });
         Engines { said: [tables, marks] }
     }
@@ -224,6 +224,9 @@ fn compacted(library: &dyn Library, trace: &[u8], limits: Limits) -> Option<Vec<
 /// A line as a program reads and writes it.
 fn rewritten(library: &dyn Library, line: &[u8]) -> Option<Vec<u8>> {
     let (mut frame, mut out) = ([0; WIDTHS.len()], vec![0; CHARS]);
-    let codes = [library.read_line(line, &mut frame), library.write_line(&frame, &mut out, &mut [0])];
+    let codes = [
+        library.read_line(Family::Base, line, &mut frame),
+        library.write_line(Family::Base, &frame, &mut out, &mut [0]),
+    ];
     (codes == [0, 0]).then_some(out)
 }

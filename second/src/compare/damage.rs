@@ -110,7 +110,7 @@ fn wrong_character(rng: &mut Rng, trace: &mut [u8]) {
 /// Another kind for a line, known or not.
 fn wrong_kind(rng: &mut Rng, trace: &mut [u8]) {
     if let Some(line) = any_line(rng, trace) {
-        let kind = rng.pick(&[b"00", b"01", b"02", b"03", b"04", b"05", b"06", b"07", b"08", b"12", b"ff"]);
+        let kind = rng.pick(&[b"00", b"01", b"02", b"03", b"04", b"05", b"06", b"07", b"08", b"12", b"13", b"ff"]);
         trace[line][..2].copy_from_slice(kind);
     }
 }
@@ -165,5 +165,7 @@ fn good_line(rng: &mut Rng) -> &'static str {
         "0500000000000000000000\n",
         "0600000000000100000000\n",
         "0700000000000100000000\n",
+        "1200010000000000000000\n",
+        "1300000000000000000000\n",
     ])
 }

@@ -1,11 +1,13 @@
-//! The traces that the rules name: the twelve, and the further ones that are to be run and compared; traces whose sites call
-//! themselves; the texts that tell good comma-separated text from any other; the lists that tell a name from none; the
-//! forecast entries that tell a good list from any other; traces whose lines say nothing; costs that move the span; traces
-//! with site lines on the way; traces with 07 lines; rows with and without calls; and lines on the span and off it.
+//! The traces that the rules name: the twelve, and the further ones that are to be run and compared; traces whose sites
+//! call themselves; the texts that tell good comma-separated text from any other; the lists that tell a name from none;
+//! the forecast entries that tell a good list from any other; traces whose lines say nothing; costs that move the span;
+//! traces with site lines on the way; traces with 07 lines; rows with and without calls; lines on the span and off it;
+//! and traces of asyncs and finishes, and their lines.
 
 use super::case::{Case, Question, Spare};
-use super::{carried, compacts, forecasts, moves, on_the_way, reports, sheets, stacks, whys};
+use super::{carried, compacts, finishes, forecasts, moves, on_the_way, reports, sheets, stacks, whys};
 use crate::check::{Limits, MOST_LINES};
+use crate::line::Family;
 use crate::refusal::{Ground, Refusal};
 use crate::rows::Cycles;
 use crate::trace::Trace;
@@ -215,8 +217,10 @@ pub fn cases() -> Vec<Case> {
     let twelve = TWELVE.iter().map(|named| (named.trace(), TWELVE_LIMITS));
     let further = further().into_iter().map(|further| (further.trace, further.limits));
     let recursive = recursive().into_iter().map(|recursive| (recursive.trace, recursive.limits));
-    let question =
-        |(trace, limits): (Trace, Limits)| Question::Engines { trace: trace.chars, limits, spare: Spare::default() };
+    let question = |(trace, limits): (Trace, Limits)| {
+        let (family, trace) = (Family::Base, trace.chars);
+        Question::Engines { family, trace, limits, spare: Spare::default() }
+    };
     let traces = twelve.chain(further).chain(recursive).map(|pair| Case { question: question(pair), rubbish: 1 });
     let asked = [
         sheets::cases(),
@@ -228,6 +232,7 @@ pub fn cases() -> Vec<Case> {
         carried::cases(),
         reports::cases(),
         whys::cases(),
+        finishes::cases(),
     ];
     traces.chain(asked.into_iter().flatten()).collect()
 }

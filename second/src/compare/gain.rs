@@ -5,14 +5,14 @@ use super::case::{Case, Outcome, Question};
 use crate::check::{self, Limits};
 use crate::forecast::{rewritten, Entry};
 use crate::library::Library;
-use crate::line::Line;
+use crate::line::{Family, Line};
 use crate::rows::{CALLS, COLUMNS, ILOCAL, LOCAL, ON_SPAN, SPAN, WORK};
 
 /// The laws that a program does not keep on a case; none where the case is no forecast.
 pub fn broken(case: &Case, library: &dyn Library) -> Vec<&'static str> {
     let Question::Forecast { trace, limits, entries, spare } = &case.question else { return vec![] };
     let profile = |trace: Vec<u8>| {
-        let question = Question::Engines { trace, limits: *limits, spare: *spare };
+        let question = Question::Engines { family: Family::Base, trace, limits: *limits, spare: *spare };
         Case { question, rubbish: case.rubbish }.ask(library)
     };
     let (plain, forecast) = (profile(trace.clone()), case.ask(library));

@@ -4,7 +4,7 @@ use super::case::{Case, CompactSpare, Question, Spare};
 use super::rng::Rng;
 use super::{compacts, damage, forecasts, moves, reports, shapes, sheets, sites, stacks, whys};
 use crate::check::Limits;
-use crate::line::{chars, Fields, CHARS, WIDTHS};
+use crate::line::{chars, read_any, Family, Fields, Kind, CHARS, WIDTHS};
 use crate::report::REFUSAL_CHARS;
 use crate::trace::Trace;
 
@@ -23,7 +23,8 @@ pub fn case(seed: u64, number: u64) -> Case {
         18..=22 => compacts::write(&mut rng),
         23..=26 => moves::write(&mut rng),
         27..=29 => whys::write(&mut rng),
-        _ => engines(&mut rng),
+        30..=32 => engines(&mut rng, Family::Finishes),
+        _ => engines(&mut rng, Family::Base),
     };
     Case { question, rubbish: rng.number() }
 }
@@ -32,21 +33,25 @@ pub fn case(seed: u64, number: u64) -> Case {
 pub const KINDS: u64 = 8;
 
 /// How many questions it asks of each trace.
-pub const QUESTIONS: u64 = 3;
+pub const QUESTIONS: u64 = 4;
 
-/// Every trace that begins with a site line and has so many lines after it, each one of eight: costs of 1 and 2, a sync, a
-/// call, a spawn, a return, the next site line and a 07 line of 3; for the engines, for the compactor, and with every line and
-/// the one past the end asked.
+/// Every trace that begins with a site line and has so many lines after it, each one of eight: costs of 1 and 2, a
+/// sync, a call, a spawn, a return, the next site line and a 07 line of 3; for the engines, for the compactor, and with
+/// every line and the one past the end asked; and, with an async for the spawn and a finish for the sync, for the
+/// engines of that family.
 pub fn every(lines: u32) -> impl Iterator<Item = Case> {
     let of = move |number: u64| {
-        let mut trace = Trace::with_sites(1);
-        (0..lines).for_each(|place| one_of_eight(&mut trace, number / KINDS.pow(place) % KINDS));
-        let trace = trace.chars;
+        let [trace, finishes] = Family::BOTH.map(|family| {
+            let mut trace = Trace::with_sites(1);
+            (0..lines).for_each(|place| one_of_eight(family, &mut trace, number / KINDS.pow(place) % KINDS));
+            trace.chars
+        });
         let compact = Question::Compact { trace: trace.clone(), limits: SMALL, spare: CompactSpare::default() };
         let (asked, spare) = (whys::every_line(&trace), Spare::default());
         let why = Question::Why { trace: trace.clone(), limits: SMALL, lines: asked, spare };
-        let engines = Question::Engines { trace, limits: SMALL, spare };
-        [engines, compact, why].map(|question| Case { question, rubbish: number })
+        let engines = |family, trace| Question::Engines { family, trace, limits: SMALL, spare };
+        let (base, other) = (engines(Family::Base, trace), engines(Family::Finishes, finishes));
+        [base, compact, why, other].map(|question| Case { question, rubbish: number })
     };
     (0..KINDS.pow(lines)).flat_map(of)
 }
@@ -54,27 +59,35 @@ pub fn every(lines: u32) -> impl Iterator<Item = Case> {
 /// Limits that some of those traces break.
 const SMALL: Limits = Limits { depth: 3, sites: 2 };
 
-fn one_of_eight(trace: &mut Trace, which: u64) {
-    match which {
-        0 | 1 => trace.cost(which + 1),
-        2 => trace.sync(),
-        3 => trace.call(1),
-        4 => trace.spawn(1),
-        5 => trace.leave(),
-        6 => trace.carry(3),
+fn one_of_eight(family: Family, trace: &mut Trace, which: u64) {
+    match (which, family) {
+        (0 | 1, _) => trace.cost(which + 1),
+        (2, Family::Base) => trace.sync(),
+        (2, Family::Finishes) => trace.finish(),
+        (3, _) => trace.call(1),
+        (4, Family::Base) => trace.spawn(1),
+        (4, Family::Finishes) => trace.begin(1),
+        (5, _) => trace.leave(),
+        (6, _) => trace.carry(3),
         _ => trace.declare(sites::declared(&trace.chars) + 1),
     };
 }
 
-/// A trace for the engines.
-fn engines(rng: &mut Rng) -> Question {
-    let (trace, limits, spare) = trace(rng);
-    Question::Engines { trace, limits, spare }
+/// A trace for the engines of a family.
+fn engines(rng: &mut Rng, family: Family) -> Question {
+    let (trace, limits, spare) = trace_of(family, rng);
+    Question::Engines { family, trace, limits, spare }
 }
 
-/// A trace with its limits and what is lent for it: as often good with enough room as damaged in some way.
+/// A trace of the base family with its limits and what is lent for it: as often good with enough room as damaged in
+/// some way.
 pub fn trace(rng: &mut Rng) -> (Vec<u8>, Limits, Spare) {
-    let mut trace = shapes::trace(rng);
+    trace_of(Family::Base, rng)
+}
+
+/// The same of either family.
+fn trace_of(family: Family, rng: &mut Rng) -> (Vec<u8>, Limits, Spare) {
+    let mut trace = shapes::trace_of(family, rng);
     let mut limits = limits(rng, &trace);
     let mut spare = spare(rng);
     if rng.once_in(4) {
@@ -97,15 +110,12 @@ fn limits(rng: &mut Rng, trace: &Trace) -> Limits {
 
 /// The open depth and the sites of a good trace.
 fn used(trace: &Trace) -> (u64, u64) {
-    let kinds = trace.chars.chunks(CHARS).map(|line| line[1]);
+    let kinds = trace.chars.chunks(CHARS).map(|line| read_any(line).expect("a good line").kind);
     let (mut open, mut depth, mut sites) = (1, 1, 0);
     for kind in kinds {
-        match kind {
-            b'1' => sites += 1,
-            b'2' | b'3' => open += 1,
-            b'5' => open -= 1,
-            _ => (),
-        }
+        open += u64::from(kind.opens());
+        open -= u64::from(kind == Kind::Return);
+        sites += u64::from(kind == Kind::Site);
         depth = depth.max(open);
     }
     (depth, sites)
@@ -117,8 +127,9 @@ fn spare(rng: &mut Rng) -> Spare {
     Spare { scratch: more(), rows: more(), answer: more(), marks: more() }
 }
 
-/// Characters for the line reader: a good line, a damaged one, or nothing like one.
+/// Characters for a line reader: a good line, a damaged one, or nothing like one.
 fn read_line(rng: &mut Rng) -> Question {
+    let family = rng.pick(&Family::BOTH);
     let mut line = chars(&fields(rng));
     if rng.once_in(3) {
         damage::capitals(rng, &mut line);
@@ -128,21 +139,22 @@ fn read_line(rng: &mut Rng) -> Question {
         1 => line.resize(rng.index(2 * CHARS), b'0'),
         _ => (),
     }
-    Question::ReadLine { line, frame: near(rng, WIDTHS.len()) }
+    Question::ReadLine { family, line, frame: near(rng, WIDTHS.len()) }
 }
 
-/// A frame for the line writer, its fields often at an edge of the table or past it.
+/// A frame for a line writer, its fields often at an edge of the table or past it.
 fn write_line(rng: &mut Rng) -> Question {
+    let family = rng.pick(&Family::BOTH);
     let mut frame = fields(rng).to_vec();
     if rng.once_in(3) {
         let field = rng.index(WIDTHS.len());
         frame[field] = rng.pick(&[0, 1, 0xff, 0x100, 0xffff, 0x1_0000, 0xffff_ffff, 0x1_0000_0000, u64::MAX]);
     }
     frame.resize(near(rng, WIDTHS.len()), 0);
-    Question::WriteLine { frame, out: near(rng, CHARS), written: near(rng, 1) }
+    Question::WriteLine { family, frame, out: near(rng, CHARS), written: near(rng, 1) }
 }
 
-/// Fields that mostly keep to the table.
+/// Fields that mostly keep to the table of some family.
 fn fields(rng: &mut Rng) -> Fields {
     let site = rng.pick(&[0, 1, 2, 0xff, 0x100, 0xffff]);
     let value = rng.pick(&[1, 9, 0x1234_5678, 0xffff_ffff]);
@@ -155,6 +167,8 @@ fn fields(rng: &mut Rng) -> Fields {
         [5, 0, 0, 0, 0],
         [6, 0, value, 0, 0],
         [7, 0, value, 0, 0],
+        [0x12, site, 0, 0, 0],
+        [0x13, 0, 0, 0, 0],
     ];
     let mut fields = rng.pick(&good);
     if rng.once_in(4) {

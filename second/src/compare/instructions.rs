@@ -49,9 +49,9 @@ pub fn damage(rng: &mut Rng, trace: &mut Vec<u8>) {
 
 /// The laws that a program does not keep on a case; none where the case is no trace for the engines, or is refused.
 pub fn broken(case: &Case, library: &dyn Library) -> Vec<&'static str> {
-    let Question::Engines { trace, limits, .. } = &case.question else { return vec![] };
+    let Question::Engines { family, trace, limits, .. } = &case.question else { return vec![] };
     let outcome = case.ask(library);
-    let shape = check::trace(trace, *limits, &limits.for_tables()).ok();
+    let shape = check::trace_of(*family, trace, *limits, &limits.for_tables()).ok();
     let Some(shape) = shape.filter(|_| outcome.codes.iter().all(|(_, code)| *code == 0)) else { return vec![] };
     let mut laws = sums(&shape, &outcome).unwrap_or(vec![("rows and marks are there", false)]);
     laws.extend(beside(case, library, &outcome).unwrap_or_default());
@@ -86,13 +86,13 @@ fn sums(shape: &Shape, outcome: &Outcome) -> Option<Vec<(&'static str, bool)>> {
 /// The trace beside the same without its 07 lines; where it has none, beside the same with one behind each cost, unless that
 /// is too long.
 fn beside(case: &Case, library: &dyn Library, outcome: &Outcome) -> Option<Vec<(&'static str, bool)>> {
-    let Question::Engines { trace, limits, spare } = &case.question else { return None };
+    let Question::Engines { family, trace, limits, spare } = &case.question else { return None };
     let without = left_out(trace);
     let other = if without == *trace { put_in(trace, |line| Some(line as u64 + 1)) } else { without };
     if other.len() > MOST_LINES * CHARS {
         return None;
     }
-    let question = Question::Engines { trace: other.clone(), limits: *limits, spare: *spare };
+    let question = Question::Engines { family: *family, trace: other.clone(), limits: *limits, spare: *spare };
     let found = Case { question, rubbish: case.rubbish }.ask(library);
     let (own, others) = (Seen::all(trace, outcome), Seen::all(&other, &found));
     let bare = if other.len() < trace.len() { &others } else { &own };

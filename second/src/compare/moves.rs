@@ -7,7 +7,7 @@ use super::rng::Rng;
 use crate::check::{self, Limits};
 use crate::heaviest;
 use crate::library::{Library, Second};
-use crate::line::{chars, read, Fields, Kind, CHARS};
+use crate::line::{chars, read, Family, Fields, Kind, CHARS};
 use crate::trace::Trace;
 
 /// The greatest value of a cost line.
@@ -153,7 +153,7 @@ pub fn costs(trace: &[u8]) -> Vec<(usize, u64)> {
 pub fn rewritten(library: &dyn Library, trace: &[u8], cost: usize, value: u64) -> Vec<u8> {
     let mut text = trace.to_vec();
     if let Some(&(line, _)) = costs(trace).get(cost) {
-        library.write_line(&cost_fields(value), &mut text[line * CHARS..][..CHARS], &mut [0]);
+        library.write_line(Family::Base, &cost_fields(value), &mut text[line * CHARS..][..CHARS], &mut [0]);
     }
     text
 }
@@ -162,7 +162,7 @@ pub fn rewritten(library: &dyn Library, trace: &[u8], cost: usize, value: u64) -
 pub fn broken(case: &Case, library: &dyn Library) -> Vec<&'static str> {
     let Question::Moved { trace, limits, cost, value, spare } = &case.question else { return vec![] };
     let Some(&(line, old)) = costs(trace).get(*cost).filter(|(_, old)| old != value) else { return vec![] };
-    let plain = Question::Engines { trace: trace.clone(), limits: *limits, spare: *spare };
+    let plain = Question::Engines { family: Family::Base, trace: trace.clone(), limits: *limits, spare: *spare };
     let before = Case { question: plain, rubbish: case.rubbish }.ask(library);
     let after = case.ask(library);
     let mut laws = vec![("what is refused is refused alike", before.codes == after.codes)];

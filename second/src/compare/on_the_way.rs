@@ -6,6 +6,7 @@ use super::compacts::{of, same, Compacted, ROOMS};
 use crate::check::{Limits, MOST_LINES};
 use crate::forecast::Entry;
 use crate::library::Second;
+use crate::line::Family;
 use crate::rows::{all_cycles_alone, Cycles, Row};
 use crate::trace::Trace;
 
@@ -261,7 +262,7 @@ impl Met {
         let (limits, trace) = (self.limits, || self.trace.chars.clone());
         let entries = vec![Entry { row: 0, factor: 2 }, Entry { row: 1, factor: 3 }];
         [
-            Question::Engines { trace: trace(), limits, spare: Spare::default() },
+            Question::Engines { family: Family::Base, trace: trace(), limits, spare: Spare::default() },
             Question::Forecast { trace: trace(), limits, entries, spare: Spare::default() },
             Question::Folded { trace: trace(), limits, lists: [names.to_vec(), vec![]], spare: FoldedSpare::default() },
             Question::Compact { trace: trace(), limits, spare: CompactSpare::default() },

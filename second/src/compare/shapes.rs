@@ -1,15 +1,32 @@
 //! Good traces of many shapes.
 
 use super::rng::Rng;
+use super::tie::{self, Tied};
 use super::{instructions, sites};
 use crate::check::MOST_LINES;
+use crate::line::Family;
 use crate::trace::Trace;
 
-/// A good trace of some shape and length, its site lines at the start or on the way, half of them without 07 lines.
+/// A good trace of the base family of some shape and length, its site lines at the start or on the way, half of them
+/// without 07 lines.
 pub fn trace(rng: &mut Rng) -> Trace {
+    trace_of(Family::Base, rng)
+}
+
+/// The same of either family; one in four of asyncs and finishes is a base trace in that family's words, if it fits.
+pub fn trace_of(family: Family, rng: &mut Rng) -> Trace {
+    if family == Family::Finishes && rng.once_in(4) {
+        if let Tied::Text(chars) = tie::tied(&shaped(Family::Base, rng).chars) {
+            return Trace { chars };
+        }
+    }
+    shaped(family, rng)
+}
+
+fn shaped(family: Family, rng: &mut Rng) -> Trace {
     let lines = length(rng);
     let shape = rng.pick(&SHAPES);
-    let mut trace = shape(rng, lines);
+    let mut trace = shape(rng, family, lines);
     carry(rng, &mut trace);
     sites::scatter(rng, &mut trace);
     trace
@@ -40,8 +57,8 @@ fn length(rng: &mut Rng) -> usize {
     rng.index(most) + 1
 }
 
-/// A way to make a good trace of at most so many lines, give or take what its sites and returns need.
-type Make = fn(&mut Rng, usize) -> Trace;
+/// A way to make a good trace of a family of at most so many lines, give or take what its sites and returns need.
+type Make = fn(&mut Rng, Family, usize) -> Trace;
 
 const SHAPES: [Make; 10] = [mixed, mixed, deep, wide, recursive, idle, empty, fib, pipeline, wordy];
 
@@ -74,27 +91,30 @@ impl Costs {
     }
 }
 
-/// A trace in the making that never grows past a number of lines, its open invocations counted.
+/// A trace in the making that never grows past a number of lines, its open invocations and finishes counted.
 struct Maker {
+    family: Family,
     trace: Trace,
     open: usize,
+    /// How many are open with each open finish.
+    finishes: Vec<usize>,
     lines: usize,
     sites: u64,
     costs: Costs,
 }
 
 impl Maker {
-    fn new(rng: &mut Rng, sites: u64, lines: usize) -> Maker {
+    fn new(rng: &mut Rng, family: Family, sites: u64, lines: usize) -> Maker {
         let mut trace = Trace::default();
         let odd = rng.below(1000);
         for site in 1..=sites {
             let place = rng.pick(&[[1, site + odd, 1], [site, 1 + odd, 9], [999, 7, site]]);
             trace.site(site, place);
         }
-        Maker { trace, open: 1, lines, sites, costs: Costs::any(rng) }
+        Maker { family, trace, open: 1, finishes: vec![], lines, sites, costs: Costs::any(rng) }
     }
 
-    /// Whether so many lines more, and a return for each open invocation, still fit.
+    /// Whether so many lines more, and a return for each open thing, still fit.
     fn fits(&self, more: usize) -> bool {
         self.trace.lines() + more + self.open <= self.lines
     }
@@ -105,27 +125,41 @@ impl Maker {
         }
     }
 
+    /// A sync; in the other family a finish begins, or the one that nothing else is open in ends.
     fn sync(&mut self) {
-        if self.fits(1) {
-            self.trace.sync();
+        match self.family {
+            Family::Base if self.fits(1) => _ = self.trace.sync(),
+            Family::Base => (),
+            Family::Finishes if self.finishes.last() == Some(&self.open) => self.leave(),
+            Family::Finishes => self.finish(),
+        }
+    }
+
+    fn finish(&mut self) {
+        if self.fits(2) && self.open < 64 {
+            self.trace.finish();
+            self.open += 1;
+            self.finishes.push(self.open);
         }
     }
 
     /// Calls or spawns a site, and tells whether it did; the most that may be open is 64.
     fn enter(&mut self, spawn: bool, site: u64) -> bool {
         let enters = self.fits(2) && self.open < 64 && self.sites > 0;
-        if enters && spawn {
-            self.trace.spawn(site);
-        } else if enters {
-            self.trace.call(site);
-        }
-        self.open += usize::from(enters);
-        enters
+        match (spawn, self.family) {
+            _ if !enters => return false,
+            (false, _) => self.trace.call(site),
+            (true, Family::Base) => self.trace.spawn(site),
+            (true, Family::Finishes) => self.trace.begin(site),
+        };
+        self.open += 1;
+        true
     }
 
-    /// Returns from what was entered.
+    /// Returns from what was entered last.
     fn leave(&mut self) {
         if self.open > 1 {
+            self.finishes.retain(|open| *open < self.open);
             self.open -= 1;
             self.trace.leave();
         }
@@ -137,7 +171,7 @@ impl Maker {
     }
 
     /// Returns from everything, the root last.
-    fn finish(mut self) -> Trace {
+    fn whole(mut self) -> Trace {
         for _ in 0..self.open {
             self.trace.leave();
         }
@@ -146,9 +180,9 @@ impl Maker {
 }
 
 /// Any items in any order, some kinds likelier than others from trace to trace.
-fn mixed(rng: &mut Rng, lines: usize) -> Trace {
+fn mixed(rng: &mut Rng, family: Family, lines: usize) -> Trace {
     let sites = rng.between(0, 4);
-    let mut maker = Maker::new(rng, sites, lines);
+    let mut maker = Maker::new(rng, family, sites, lines);
     let odds: Vec<u64> = (0..5).map(|_| rng.between(1, 6)).collect();
     let deepest = rng.pick(&[2, 3, 5, 64]);
     while maker.fits(1) {
@@ -160,7 +194,7 @@ fn mixed(rng: &mut Rng, lines: usize) -> Trace {
             _ => maker.cost(rng),
         }
     }
-    maker.finish()
+    maker.whole()
 }
 
 /// An index, each as likely as its share of the odds.
@@ -175,9 +209,9 @@ fn weighted(rng: &mut Rng, odds: &[u64]) -> usize {
 }
 
 /// Invocation in invocation, down to the deepest there may be, with costs and syncs on the way down and up.
-fn deep(rng: &mut Rng, lines: usize) -> Trace {
+fn deep(rng: &mut Rng, family: Family, lines: usize) -> Trace {
     let sites = rng.between(1, 3);
-    let mut maker = Maker::new(rng, sites, lines);
+    let mut maker = Maker::new(rng, family, sites, lines);
     around(rng, &mut maker);
     let mut spawn = rng.once_in(2);
     while maker.enter_any(rng, spawn) {
@@ -189,7 +223,7 @@ fn deep(rng: &mut Rng, lines: usize) -> Trace {
         maker.leave();
     }
     around(rng, &mut maker);
-    maker.finish()
+    maker.whole()
 }
 
 /// A cost, a sync, both or neither.
@@ -203,9 +237,9 @@ fn around(rng: &mut Rng, maker: &mut Maker) {
 }
 
 /// The root spawns one short child after another.
-fn wide(rng: &mut Rng, lines: usize) -> Trace {
+fn wide(rng: &mut Rng, family: Family, lines: usize) -> Trace {
     let sites = rng.between(1, 40);
-    let mut maker = Maker::new(rng, sites, lines.max(sites as usize + 4));
+    let mut maker = Maker::new(rng, family, sites, lines.max(sites as usize + 4));
     let syncs = rng.between(2, 50);
     while maker.fits(3) {
         let spawn = !rng.once_in(20);
@@ -219,13 +253,13 @@ fn wide(rng: &mut Rng, lines: usize) -> Trace {
             maker.sync();
         }
     }
-    maker.finish()
+    maker.whole()
 }
 
 /// Up to three sites that call and spawn themselves and one another.
-fn recursive(rng: &mut Rng, lines: usize) -> Trace {
+fn recursive(rng: &mut Rng, family: Family, lines: usize) -> Trace {
     let sites = rng.between(1, 3);
-    let mut maker = Maker::new(rng, sites, lines);
+    let mut maker = Maker::new(rng, family, sites, lines);
     while maker.fits(2) {
         match rng.below(5) {
             which @ (0 | 1) => _ = maker.enter_any(rng, which == 0),
@@ -234,23 +268,23 @@ fn recursive(rng: &mut Rng, lines: usize) -> Trace {
             _ => maker.cost(rng),
         }
     }
-    maker.finish()
+    maker.whole()
 }
 
 /// Many sites and none of them called.
-fn idle(rng: &mut Rng, lines: usize) -> Trace {
+fn idle(rng: &mut Rng, family: Family, lines: usize) -> Trace {
     let sites = rng.below(lines.min(255) as u64 + 1);
-    let mut maker = Maker::new(rng, sites, (lines + sites as usize).min(MOST_LINES));
+    let mut maker = Maker::new(rng, family, sites, (lines + sites as usize).min(MOST_LINES));
     while maker.fits(1) {
         maker.cost(rng);
     }
-    maker.finish()
+    maker.whole()
 }
 
 /// No cost at all.
-fn empty(rng: &mut Rng, lines: usize) -> Trace {
+fn empty(rng: &mut Rng, family: Family, lines: usize) -> Trace {
     let sites = rng.below(4);
-    let mut maker = Maker::new(rng, sites, lines);
+    let mut maker = Maker::new(rng, family, sites, lines);
     while maker.fits(2) {
         match rng.below(4) {
             0 => maker.sync(),
@@ -258,14 +292,14 @@ fn empty(rng: &mut Rng, lines: usize) -> Trace {
             which => _ = maker.enter_any(rng, which == 2),
         }
     }
-    maker.finish()
+    maker.whole()
 }
 
 /// Fibonacci as Cilk writes it: spawn one, call the other, sync, add.
-fn fib(rng: &mut Rng, lines: usize) -> Trace {
-    let mut maker = Maker::new(rng, 2, lines);
+fn fib(rng: &mut Rng, family: Family, lines: usize) -> Trace {
+    let mut maker = Maker::new(rng, family, 2, lines);
     fib_of(rng, &mut maker, 20);
-    maker.finish()
+    maker.whole()
 }
 
 fn fib_of(rng: &mut Rng, maker: &mut Maker, n: u64) {
@@ -284,9 +318,9 @@ fn fib_of(rng: &mut Rng, maker: &mut Maker, n: u64) {
 }
 
 /// Segment after segment: a spawned worker that calls its stages in turn, and a stage of the root between them.
-fn pipeline(rng: &mut Rng, lines: usize) -> Trace {
+fn pipeline(rng: &mut Rng, family: Family, lines: usize) -> Trace {
     let stages = rng.between(1, 5);
-    let mut maker = Maker::new(rng, stages + 1, lines.max(16));
+    let mut maker = Maker::new(rng, family, stages + 1, lines.max(16));
     while maker.fits(3 * stages as usize + 4) {
         maker.cost(rng);
         maker.enter(true, stages + 1);
@@ -301,13 +335,13 @@ fn pipeline(rng: &mut Rng, lines: usize) -> Trace {
             maker.sync();
         }
     }
-    maker.finish()
+    maker.whole()
 }
 
 /// Runs of syncs and of costs, in the root and in short children.
-fn wordy(rng: &mut Rng, lines: usize) -> Trace {
+fn wordy(rng: &mut Rng, family: Family, lines: usize) -> Trace {
     let sites = rng.between(1, 3);
-    let mut maker = Maker::new(rng, sites, lines);
+    let mut maker = Maker::new(rng, family, sites, lines);
     while maker.fits(1) {
         match rng.below(8) {
             0 | 1 => (0..rng.between(1, 4)).for_each(|_| maker.sync()),
@@ -316,5 +350,5 @@ fn wordy(rng: &mut Rng, lines: usize) -> Trace {
             _ => maker.leave(),
         }
     }
-    maker.finish()
+    maker.whole()
 }

@@ -4,7 +4,7 @@ use super::case::{Case, CompactSpare, FoldedSpare, Question, Spare};
 use super::moves::costs;
 use crate::check::Limits;
 use crate::forecast::Entry;
-use crate::line::{chars, read, Fields, Kind, Line, CHARS};
+use crate::line::{chars, read_any, Fields, Kind, Line, CHARS};
 use std::ops::Range;
 
 /// How much is tried for one case, counted in lines of all smaller cases together; a case counts as no less than 100.
@@ -195,12 +195,12 @@ fn items(trace: &[u8], line: usize, run: usize) -> Option<Range<usize>> {
     Some(line..end)
 }
 
-/// The line after an item: after its own return for a call or spawn that has one, otherwise the next.
+/// The line after an item: after its own return for what opens something and has one, otherwise the next.
 fn item_end(trace: &[u8], line: usize) -> usize {
     let mut open = 0_usize;
     for (number, chars) in trace.chunks(CHARS).enumerate().skip(line) {
-        match read(chars).map(|line| line.kind) {
-            Ok(Kind::Call | Kind::Spawn) => open += 1,
+        match read_any(chars).map(|line| line.kind) {
+            Ok(kind) if kind.opens() => open += 1,
             Ok(Kind::Return) => open = open.saturating_sub(1),
             _ => (),
         }
@@ -219,8 +219,8 @@ fn without(trace: &[u8], lines: Range<usize>) -> Vec<u8> {
 
 /// A trace without a site line, the higher sites of its good lines one lower.
 fn without_site(trace: &[u8], line: usize) -> Option<Vec<u8>> {
-    let own = read(&trace[line * CHARS..(line + 1) * CHARS]).ok().filter(|own| own.kind == Kind::Site)?;
-    let lower = |chars_of: &[u8]| match read(chars_of) {
+    let own = read_any(&trace[line * CHARS..(line + 1) * CHARS]).ok().filter(|own| own.kind == Kind::Site)?;
+    let lower = |chars_of: &[u8]| match read_any(chars_of) {
         Ok(line) if line.site > own.site => chars(&Line { site: line.site - 1, ..line }.fields()),
         _ => chars_of.to_vec(),
     };
@@ -231,7 +231,7 @@ fn without_site(trace: &[u8], line: usize) -> Option<Vec<u8>> {
 fn lower_lines(trace: &[u8], line: usize) -> Vec<Vec<u8>> {
     let range = line * CHARS..(line + 1) * CHARS;
     let old = &trace[range.clone()];
-    let Ok(read) = read(old) else { return vec![] };
+    let Ok(read) = read_any(old) else { return vec![] };
     let mut lower = vec![];
     for fields in lower_fields(read.fields()) {
         let (mut one, mut all) = (trace.to_vec(), trace.to_vec());
@@ -256,10 +256,10 @@ fn lower_pair(trace: &[u8], one: (usize, u64), other: (usize, u64)) -> Vec<u8> {
     (0..lines.len()).filter(|&number| !carries(number)).flat_map(lower).collect()
 }
 
-/// Fields with one of them lower and not zero; of kinds only a spawn becomes a call.
+/// Fields with one of them lower and not zero; of kinds only a spawn or an async becomes a call.
 fn lower_fields(fields: Fields) -> Vec<Fields> {
     let mut lower = vec![];
-    if fields[0] == Kind::Spawn.number() {
+    if [Kind::Spawn, Kind::Async].map(Kind::number).contains(&fields[0]) {
         lower.push([Kind::Call.number(), fields[1], fields[2], fields[3], fields[4]]);
     }
     for (field, &old) in fields.iter().enumerate().skip(1) {
@@ -275,8 +275,8 @@ fn lower_fields(fields: Fields) -> Vec<Fields> {
 /// The question with lower limits, less room or fewer numbers, in each way that is tried.
 fn lower_questions(question: &Question) -> Vec<Question> {
     match question {
-        Question::Engines { trace, limits, spare } => {
-            let of = |limits, spare| Question::Engines { trace: trace.clone(), limits, spare };
+        Question::Engines { family, trace, limits, spare } => {
+            let of = |limits, spare| Question::Engines { family: *family, trace: trace.clone(), limits, spare };
             let lower = lower_limits(*limits).map(|limits| of(limits, *spare));
             lower.chain(lower_spares(*spare).map(|spare| of(*limits, spare))).collect()
         }

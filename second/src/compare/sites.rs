@@ -2,7 +2,7 @@
 
 use super::rng::Rng;
 use crate::check::Limits;
-use crate::line::{chars, read, Kind, Line, CHARS};
+use crate::line::{chars, read, read_any, Kind, Line, CHARS};
 use crate::trace::Trace;
 
 /// Leaves the site lines of a good trace as they stand, puts each directly before its first call, or puts them anywhere.
@@ -31,13 +31,13 @@ pub fn moved(trace: &[u8], mut before: impl FnMut(usize, usize) -> usize) -> Vec
     moved
 }
 
-/// For each site line the last of the other lines before which it may stand: the first call or spawn of its site or of a
-/// later one, or the root's return.
+/// For each site line the last of the other lines before which it may stand: the first call, spawn or async of its site
+/// or of a later one, or the root's return.
 fn last(others: &[&[u8]], sites: usize) -> Vec<usize> {
     let mut last = vec![others.len() - 1; sites];
     for (number, line) in others.iter().enumerate().rev() {
-        if let Ok(Line { kind: Kind::Call | Kind::Spawn, site, .. }) = read(line) {
-            last[site as usize - 1] = number;
+        if let Some(maker) = read_any(line).ok().filter(|line| line.kind.makes()) {
+            last[maker.site as usize - 1] = number;
         }
     }
     for site in (1..sites).rev() {
@@ -77,7 +77,7 @@ fn any_site_line(rng: &mut Rng, trace: &[u8]) -> Option<usize> {
 fn behind_its_call(rng: &mut Rng, trace: &mut [u8]) {
     let Some(line) = any_site_line(rng, trace) else { return };
     let site = trace[line * CHARS + 2..line * CHARS + 6].to_vec();
-    let calls = |line: &[u8]| (line.starts_with(b"02") || line.starts_with(b"03")) && line[2..6] == site;
+    let calls = |line: &[u8]| [b"02", b"03", b"12"].contains(&&[line[0], line[1]]) && line[2..6] == site;
     if let Some(later) = trace.chunks_exact(CHARS).skip(line).position(calls) {
         trace[line * CHARS..(line + later + 1) * CHARS].rotate_left(CHARS);
     }

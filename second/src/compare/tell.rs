@@ -3,7 +3,7 @@
 use super::case::{Case, CompactSpare, FoldedSpare, Outcome, Question, Room, Spare, STRIP};
 use super::{moves, Difference};
 use crate::forecast::Entry;
-use crate::line::CHARS;
+use crate::line::{Family, CHARS};
 use crate::trace::events;
 use std::fmt::{Display, Formatter, Result};
 
@@ -22,8 +22,8 @@ impl Display for Difference {
 impl Display for Case {
     fn fmt(&self, f: &mut Formatter) -> Result {
         match &self.question {
-            Question::Engines { trace, limits, spare } => {
-                writeln!(f, "D = {}, M = {}{spare}", limits.depth, limits.sites)?;
+            Question::Engines { family, trace, limits, spare } => {
+                writeln!(f, "{family}D = {}, M = {}{spare}", limits.depth, limits.sites)?;
                 told_trace(f, trace)
             }
             Question::Forecast { trace, limits, entries, spare } => {
@@ -35,9 +35,11 @@ impl Display for Case {
                 writeln!(f, "{}, D = {}, M = {}{spare}", told_move(trace, *cost, *value), limits.depth, limits.sites)?;
                 told_trace(f, trace)
             }
-            Question::ReadLine { line, frame } => writeln!(f, "read {}; frame of {frame}", shown(line)),
-            Question::WriteLine { frame, out, written } => {
-                writeln!(f, "write {frame:x?}; output of {out}, count of {written}")
+            Question::ReadLine { family, line, frame } => {
+                writeln!(f, "{family}read {}; frame of {frame}", shown(line))
+            }
+            Question::WriteLine { family, frame, out, written } => {
+                writeln!(f, "{family}write {frame:x?}; output of {out}, count of {written}")
             }
             Question::Report { rows, count, full, out, written } => {
                 let (given, room) = (rows.len(), format!("output of {out}, count of {written}"));
@@ -68,6 +70,16 @@ impl Display for Case {
                 told_trace(f, trace)
             }
         }
+    }
+}
+
+/// What comes before a question of the family.
+impl Display for Family {
+    fn fmt(&self, f: &mut Formatter) -> Result {
+        f.write_str(match self {
+            Family::Base => "",
+            Family::Finishes => "asyncs and finishes: ",
+        })
     }
 }
 

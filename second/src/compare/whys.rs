@@ -6,7 +6,7 @@ use super::rng::Rng;
 use super::{damage, fixed, generate, instructions, moves};
 use crate::check::{self, Limits, MOST_LINES};
 use crate::library::Library;
-use crate::line::{Line, CHARS};
+use crate::line::{Family, Line, CHARS};
 use crate::shape::Shape;
 use crate::trace::Trace;
 use crate::why::Why::{self, OnChain, Slack, Tied};
@@ -295,7 +295,7 @@ impl Profiled {
     fn of(library: &dyn Library, trace: &[u8], limits: Limits) -> Option<Profiled> {
         let (mut scratch, mut rows) = (vec![0; limits.marks_scratch()], vec![0; limits.rows()]);
         let (mut marks, mut answer) = (vec![0; trace.len() / CHARS], [0; 4]);
-        let code = library.marks(trace, limits, &mut scratch, &mut marks, &mut rows, &mut answer);
+        let code = library.marks(Family::Base, trace, limits, &mut scratch, &mut marks, &mut rows, &mut answer);
         (code == 0).then_some(Profiled { span: answer[1], marks })
     }
 }

@@ -1,13 +1,25 @@
 //! The checks of a trace line by line, for the plain writers.
 
-use super::{Fields, CALL, COST, INSTRUCTIONS, RETURN, SITE, SPAWN};
+use super::{Fields, ASYNC, CALL, COST, FINISH, INSTRUCTIONS, RETURN, SITE, SPAWN};
 use crate::check::{before_lines, Limits};
-use crate::line::CHARS;
+use crate::line::{Family, CHARS};
 use crate::refusal::{Ground, Refusal};
 
-/// Hands each line of a trace to `take`, and gives how many sites there are, or the refusal. Whether too little is
-/// lent, `short` says.
+/// Hands each line of a trace of the base family to `take`, and gives how many sites there are, or the refusal. Whether
+/// too little is lent, `short` says.
 pub fn each_line(
+    trace: &[u8],
+    limits: Limits,
+    short: impl Fn(usize) -> bool,
+    take: impl FnMut(&Fields),
+) -> Result<usize, Refusal> {
+    each_line_of(Family::Base, trace, limits, short, take)
+}
+
+/// The same of either family.
+#[inline(always)]
+pub fn each_line_of(
+    family: Family,
     trace: &[u8],
     limits: Limits,
     short: impl Fn(usize) -> bool,
@@ -17,7 +29,7 @@ pub fn each_line(
     let mut checks = Checks { limits, places: vec![], open: 1, before: SITE };
     for (number, chars) in trace.chunks_exact(CHARS).enumerate() {
         let chars = chars.try_into().expect("a whole line");
-        take(&checks.line(chars).map_err(|ground| ground.at(number))?);
+        take(&checks.line(family, chars).map_err(|ground| ground.at(number))?);
     }
     if checks.open > 0 {
         return Err(Ground::Unfinished.at(lines));
@@ -35,13 +47,15 @@ struct Checks {
 
 impl Checks {
     /// Takes one line, or gives the smallest number that it is refused with.
-    fn line(&mut self, chars: &[u8; CHARS]) -> Result<Fields, Ground> {
-        let fields = Fields::read(chars)?;
+    #[inline(always)]
+    fn line(&mut self, family: Family, chars: &[u8; CHARS]) -> Result<Fields, Ground> {
+        let fields = Fields::read_of(family, chars)?;
         if self.open == 0 {
             return Err(Ground::AfterEnd);
         }
         match fields.kind {
-            CALL | SPAWN => self.enter(fields.site)?,
+            CALL | SPAWN | ASYNC => self.enter(fields.site)?,
+            FINISH => self.open()?,
             RETURN => self.open -= 1,
             SITE => self.site(&fields)?,
             INSTRUCTIONS if self.before != COST => return Err(Ground::Stray),
@@ -72,6 +86,11 @@ impl Checks {
         if site == 0 || usize::from(site) > self.places.len() {
             return Err(Ground::Undeclared);
         }
+        self.open()
+    }
+
+    /// Refusal 12.
+    fn open(&mut self) -> Result<(), Ground> {
         if self.open >= self.limits.depth {
             return Err(Ground::Depth);
         }

@@ -21,18 +21,20 @@ use Rattle.admit.proofs.again.Statement.{statement}
 use Rattle.admit.proofs.again.Tie as tie
 
 -- a line of another kind declares nothing
-none-again : (ks : List ℕ) (n : ℕ) (f : Frame) → OneOf (1 ∷ 2 ∷ 3 ∷ 4 ∷ 5 ∷ 6 ∷ []) (tagOf the-type f) → (false ≡ seen ks n f) × (ks ≡ kept ks n f)
+none-again : (ks : List ℕ) (n : ℕ) (f : Frame) → OneOf (1 ∷ 2 ∷ 3 ∷ 4 ∷ 5 ∷ 6 ∷ 7 ∷ 8 ∷ []) (tagOf the-type f) → (false ≡ seen ks n f) × (ks ≡ kept ks n f)
 none-again ks n f h =
-    by-site (λ g. OneOf (1 ∷ 2 ∷ 3 ∷ 4 ∷ 5 ∷ 6 ∷ []) (tagOf the-type g) → (false ≡ seen ks n g) × (ks ≡ kept ks n g)) (λ s p h. absurd (never h))
+    by-site (λ g. OneOf (1 ∷ 2 ∷ 3 ∷ 4 ∷ 5 ∷ 6 ∷ 7 ∷ 8 ∷ []) (tagOf the-type g) → (false ≡ seen ks n g) × (ks ≡ kept ks n g)) (λ s p h. absurd (never h))
     (λ g o h. (sym (other (λ s p. has (key p) (take n ks)) false g o), sym (other (λ s p. set ks n (key p)) ks g o))) f h
   where
-    never : OneOf (1 ∷ 2 ∷ 3 ∷ 4 ∷ 5 ∷ 6 ∷ []) 0 → ⊥
+    never : OneOf (1 ∷ 2 ∷ 3 ∷ 4 ∷ 5 ∷ 6 ∷ 7 ∷ 8 ∷ []) 0 → ⊥
     never (inl e) = omega arith
     never (inr (inl e)) = omega arith
     never (inr (inr (inl e))) = omega arith
     never (inr (inr (inr (inl e)))) = omega arith
     never (inr (inr (inr (inr (inl e))))) = omega arith
-    never (inr (inr (inr (inr (inr e))))) = omega arith
+    never (inr (inr (inr (inr (inr (inl e)))))) = omega arith
+    never (inr (inr (inr (inr (inr (inr (inl e))))))) = omega arith
+    never (inr (inr (inr (inr (inr (inr (inr e))))))) = omega arith
 
 enum-known-frame : tie.Need-enum-known-frame
 enum-known-frame c = search needs

@@ -1,6 +1,6 @@
 -- `admit::enter` meets its contract: each answer follows from the tests that led to it.
 use borrow.Author.Needs.{needs}
-use borrow.Author.Tests.{lt-ltb, le-ltb, le-leb, lt-leb, eq-eqb, ne-eqb}
+use borrow.Author.Tests.{lt-ltb, le-ltb, eq-eqb, ne-eqb}
 use Rattle.admit.proofs.enter.Statement.{statement}
 use Rattle.admit.proofs.enter.Tie as tie
 
@@ -16,22 +16,11 @@ refuse-requires-2 c κs = search needs
 returns-2 : tie.Need-returns-2
 returns-2 c = simp (ne-eqb _ _ (c .before .before .before .if1 .left), lt-ltb _ _ (c .before .if2 .taken)) (c .refuse2 .ensures)
 
-refuse-requires-3 : tie.Need-refuse-requires-3
-refuse-requires-3 c κs = search needs
+deepen-requires : tie.Need-deepen-requires
+deepen-requires c κs = search needs
 
 returns-3 : tie.Need-returns-3
-returns-3 c = simp (ne-eqb _ _ (c .before .before .before .before .before .if1 .left), le-ltb _ _ (c .before .before .before .if2 .left), le-leb _ _ (c .before .if3 .taken)) (c .refuse3 .ensures)
-
-add-onward : tie.Need-add-onward
-add-onward c = search needs
-
-onward-requires : tie.Need-onward-requires
-onward-requires c κs = search needs
-
-returns-4 : tie.Need-returns-4
-returns-4 c = simp (ne-eqb _ _ (c .before .before .before .before .before .before .if1 .left), le-ltb _ _ (c .before .before .before .before .if2 .left), lt-leb _ _ (c .before .before .if3 .left)) (c .onward .ensures)
+returns-3 c = simp (ne-eqb _ _ (c .before .before .before .if1 .left), le-ltb _ _ (c .before .if2 .left)) (c .deepen .ensures)
 
 pub enter-spec : {M : Type 1} → statement M
-enter-spec =
-    tie.close
-    (tie.spec refuse-requires returns refuse-requires-2 returns-2 refuse-requires-3 returns-3 add-onward onward-requires returns-4)
+enter-spec = tie.close (tie.spec refuse-requires returns refuse-requires-2 returns-2 deepen-requires returns-3)

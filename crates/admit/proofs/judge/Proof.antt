@@ -1,13 +1,11 @@
--- `admit::judge` meets its contract: a line that is seen at a glance declares no place, so all that can stand against it
--- is that it is stray.
-use mathlib.Core.Path.{sym, ap, _∙_}
-use mathlib.Core.Bool.{Bool, _||_}
-use denote.Ref.{now}
-use Rattle.line.specs.Read.{readAt}
-use Rattle.line.proofs.Seeing.{seen-line}
-use Rattle.admit.specs.Step.{stepped, strayAt, tagsOf}
-use Rattle.admit.proofs.Keys.{none-seen}
+-- `admit::judge` meets its contract: a line is judged by what a glance sees, or by how it reads.
+use mathlib.Core.Path.{sym, ap, subst, _∙_}
 use borrow.Author.Needs.{needs}
+use Rattle.line.specs.declared.Read.{Read}
+use Rattle.line.specs.Read.{readAt}
+use Rattle.line.specs.Seeing.{glanced}
+use Rattle.admit.specs.Step.{Judged}
+use Rattle.admit.proofs.Judged.{judged-seen}
 use Rattle.admit.proofs.judge.Statement.{statement}
 use Rattle.admit.proofs.judge.Tie as tie
 
@@ -26,17 +24,19 @@ updated-requires c κs = search needs
 enum-told : tie.Need-enum-told
 enum-told c = search needs
 
+read-at-requires : tie.Need-read-at-requires
+read-at-requires c κs = search needs
+
 judge-whole-requires : tie.Need-judge-whole-requires
-judge-whole-requires c κs = (c .before .before .before .before .before .before .before .before .pre, sym (c .before .before .before .before .glance .ensures) ∙ c .before .before .enum-told .given .1)
+judge-whole-requires c κs =
+    (c .before .before .before .before .before .before .before .before .before .pre, ap glanced (c .before .before .read-at .ensures) ∙ sym (c .before .before .before .before .before .glance .ensures) ∙ c .before .before .before .enum-told .given .1)
 
 returns : tie.Need-returns
 returns c =
-    let a = c .before .before .before .before .before .before .before .before .before .args in
+    let b = c .before .before .before .before .before .before .before .before .before in
+    let a = b .args in
     let g = c .before .before .before .frame .given in
-    let l = seen-line (readAt (a .trace .now) (a .t .lines)) (g .0 .0) (sym (c .before .before .before .before .before .glance .ensures) ∙ g .1) in
-    let p = none-seen (now (a .keys)) (a .t .sites) (g .0 .0) (l .1 .1) in
-    let q = c .before .stray .ensures ∙ sym (ap (λ (b : Bool). b || strayAt (a .trace .now) (a .t .lines) (g .0 .0)) (p .0)) in
-    rw (l .1 .0) (c .updated .ensures ∙ ap (λ (b : Bool). stepped (a .depth) (a .sites) b (a .t) (g .0 .0)) q, (sym (p .1), c .before .before .before .before .before .before .before .before .before .pre .tagged ∙ ap tagsOf (sym (p .1))))
+    judged-seen (a .depth) (a .sites) (a .trace .now) (a .keys .now) (a .t) (g .0 .0) (c .before .stray .result) (c .updated .result) (c .updated .ensures) (readAt (a .trace .now) (a .t .lines)) (a .tags .now) (b .pre .tagged) (sym (c .before .before .before .before .before .glance .ensures) ∙ g .1) (c .before .stray .ensures)
 
 same-length : tie.Need-same-length
 same-length c = search needs
@@ -45,7 +45,10 @@ same-length-2 : tie.Need-same-length-2
 same-length-2 c = search needs
 
 returns-2 : tie.Need-returns-2
-returns-2 c = search needs
+returns-2 c =
+    let a = c .before .before .before .before .before .before .before .before .before .before .before .before .before .before .args in
+    let j = c .before .before .before .before .judge-whole in
+    subst (λ (r : Read). Judged (a .depth) (a .sites) (a .trace .now) (a .keys .now) (a .t) r (j .result) (j .last .1 .0) (j .last .1 .1 .0)) (c .before .before .before .before .before .before .before .read-at .ensures) (j .ensures (a .trace .now))
 
 pub judge-spec : {M : Type 1} → statement M
 judge-spec =
@@ -56,6 +59,7 @@ judge-spec =
     stray-requires
     updated-requires
     enum-told
+    read-at-requires
     judge-whole-requires
     returns
     same-length

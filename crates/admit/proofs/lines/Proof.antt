@@ -5,7 +5,8 @@ use mathlib.Core.List.{List}
 use Prim.Native.Nat.{ℕ, _-_}
 use native.Mathlib.Omega.{arith}
 use lib.ListN.{replicate}
-use borrow.Author.Tests.{eq-eqb, ne-eqb}
+use borrow.Author.Needs.{needs}
+use Rattle.line.specs.declared.Family.the-variants.{Base}
 use Rattle.trace.specs.Refusals.{lineCount}
 use Rattle.admit.specs.Step.{tagsOf}
 use Rattle.admit.proofs.Keys.{tags-length}
@@ -14,7 +15,7 @@ use Rattle.admit.proofs.lines.Statement.{statement}
 use Rattle.admit.proofs.lines.Tie as tie
 
 abbrev Inv-loop : tie.InvT-loop
-Inv-loop trace depth sites count keys₀ tags₀ tally₀ keys tags tally = Reached depth sites trace keys tally × (tags ≡ tagsOf keys)
+Inv-loop trace depth sites count keys₀ tags₀ tally₀ keys tags tally = Reached Base depth sites trace keys tally × (tags ≡ tagsOf keys)
 
 abbrev μ-loop : tie.MeasureT-loop
 μ-loop trace depth sites count keys₀ tags₀ tally₀ keys tags tally = lineCount trace - tally .lines
@@ -50,16 +51,16 @@ loop-again : tie.Need-loop-again Inv-loop μ-loop
 loop-again c =
     let a = c .before .before .before .before .before .before .before .before .before .before .before .before .args in
     let j = c .before .before .before .before .before .judge in (
-      subst⁻¹ (λ (ks : List ℕ). Reached (a .depth) (a .sites) (a .trace .now) ks (j .result .tally)) (j .ensures .1 .0)
+      subst⁻¹ (λ (ks : List ℕ). Reached Base (a .depth) (a .sites) (a .trace .now) ks (j .result .tally)) (j .ensures .1 .0)
           (reached-next (c .before .before .before .before .before .before .before .before .before .before .before .before .pre) (c .before .before .before .before .before .before .before .before .before .before .loop .inv .0) (c .before .before .before .before .before .before .before .before .if1 .taken) (j .result) (j .ensures .0) (c .before .if2 .left) .1),
       j .ensures .1 .1 ∙ ap tagsOf (sym (j .ensures .1 .0)),
     )
 
-returns-2 : tie.Need-returns-2 Inv-loop μ-loop
-returns-2 c = sym (reached-end (c .before .before .before .before .before .before .pre) (c .before .before .before .before .loop .inv .0) (c .before .before .if1 .left) ∙ simp (eq-eqb _ _ (c .if3 .taken)))
+ended-requires : tie.Need-ended-requires Inv-loop μ-loop
+ended-requires c κs = search needs
 
-returns-3 : tie.Need-returns-3 Inv-loop μ-loop
-returns-3 c = sym (reached-end (c .before .before .before .before .before .before .pre) (c .before .before .before .before .loop .inv .0) (c .before .before .if1 .left) ∙ simp (ne-eqb _ _ (c .if3 .left)))
+returns-2 : tie.Need-returns-2 Inv-loop μ-loop
+returns-2 c = c .ended .ensures ∙ sym (reached-end (c .before .before .before .before .before .pre) (c .before .before .before .loop .inv .0) (c .before .if1 .left))
 
 pub lines-spec : {M : Type 1} → statement M
 lines-spec =
@@ -74,5 +75,5 @@ lines-spec =
     returns
     loop-less
     loop-again
-    returns-2
-    returns-3)
+    ended-requires
+    returns-2)

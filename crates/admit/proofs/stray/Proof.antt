@@ -10,28 +10,32 @@ use types.Run.{OneOf}
 use denote.Enum.Declared.{tagOf}
 use Rattle.line.proofs.Frame.{the-type}
 use Rattle.line.specs.declared.Frame.{Frame}
-use Rattle.line.specs.declared.Frame.the-variants.{Site, Call, Spawn, Sync, Return, Cost, Instructions}
+use Rattle.line.specs.declared.Frame.the-variants.{Site, Call, Spawn, Sync, Return, Cost, Instructions, Async, Finish}
 use Rattle.admit.specs.Step.{strayAt}
 use Rattle.admit.proofs.stray.Statement.{statement}
 use Rattle.admit.proofs.stray.Tie as tie
 
 -- a line of another kind
-none-stray : (s : List ℕ) (n : ℕ) (f : Frame) → OneOf (0 ∷ 1 ∷ 2 ∷ 3 ∷ 4 ∷ 5 ∷ []) (tagOf the-type f) → false ≡ strayAt s n f
+none-stray : (s : List ℕ) (n : ℕ) (f : Frame) → OneOf (0 ∷ 1 ∷ 2 ∷ 3 ∷ 4 ∷ 5 ∷ 7 ∷ 8 ∷ []) (tagOf the-type f) → false ≡ strayAt s n f
 none-stray s n (Site i p) h = refl
 none-stray s n (Call i) h = refl
 none-stray s n (Spawn i) h = refl
 none-stray s n Sync h = refl
 none-stray s n Return h = refl
 none-stray s n (Cost v) h = refl
+none-stray s n (Async i) h = refl
+none-stray s n Finish h = refl
 none-stray s n (Instructions v) h = absurd (never h)
   where
-    never : OneOf (0 ∷ 1 ∷ 2 ∷ 3 ∷ 4 ∷ 5 ∷ []) 6 → ⊥
+    never : OneOf (0 ∷ 1 ∷ 2 ∷ 3 ∷ 4 ∷ 5 ∷ 7 ∷ 8 ∷ []) 6 → ⊥
     never (inl e) = omega arith
     never (inr (inl e)) = omega arith
     never (inr (inr (inl e))) = omega arith
     never (inr (inr (inr (inl e)))) = omega arith
     never (inr (inr (inr (inr (inl e))))) = omega arith
-    never (inr (inr (inr (inr (inr e))))) = omega arith
+    never (inr (inr (inr (inr (inr (inl e)))))) = omega arith
+    never (inr (inr (inr (inr (inr (inr (inl e))))))) = omega arith
+    never (inr (inr (inr (inr (inr (inr (inr e))))))) = omega arith
 
 enum-told : tie.Need-enum-told
 enum-told c = search needs

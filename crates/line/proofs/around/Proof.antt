@@ -30,8 +30,9 @@ shared-slice-read-result-2 c = search needs
 
 returns : tie.Need-returns
 returns c =
-    let s = c .before .before .before .before .before .args .s .now in
-    ap (λ (b : Bool). eqb (getD s 0 0) 48 && b && eqb (getD s 22 0) 10) (c .before .before .eight-zeros .ensures)
+    let q = c .before .before .before .before .before .args in
+    let s = q .s .now in
+    ap (λ (b : Bool). eqb (getD s 0 0) (q .first) && b && eqb (getD s 22 0) 10) (c .before .before .eight-zeros .ensures)
 
 pub around-spec : {M : Type 1} → statement M
 around-spec =

@@ -1,6 +1,8 @@
 -- `line::framed` meets its contract: its arms are the lines of the table. Assumes nothing.
-use borrow.Author.Tests.{ne-eqb}
-use mathlib.Core.Path.{_≡_, sym}
+use mathlib.Core.Path.{_≡_, ap, sym}
+use Rattle.line.specs.Table.{Entry}
+use Rattle.line.specs.Read.{tabled}
+use Rattle.line.proofs.Lines.{table-none}
 use borrow.Author.Needs.{needs}
 use Rattle.line.proofs.framed.Statement.{statement}
 use Rattle.line.proofs.framed.Tie as tie
@@ -58,7 +60,9 @@ returns-7 c = let e : c .before .before .before .args .kind ≡ 7 = c .before .b
 returns-8 : tie.Need-returns-8
 returns-8 c =
     let r = c .match .rest in
-    simp (ne-eqb _ 1 (r .0 .0 .0 .0 .0 .0 .1), ne-eqb _ 2 (r .0 .0 .0 .0 .0 .1), ne-eqb _ 3 (r .0 .0 .0 .0 .1), ne-eqb _ 4 (r .0 .0 .0 .1), ne-eqb _ 5 (r .0 .0 .1), ne-eqb _ 6 (r .0 .1), ne-eqb _ 7 (r .1))
+    let a = c .before .args in
+    ap (λ (e : Entry). tabled e (a .n))
+    (sym (table-none (record { kind = a .kind; site = a .site; value = a .value; file = a .file; column = a .column }) (r .0 .0 .0 .0 .0 .0 .1) (r .0 .0 .0 .0 .0 .1) (r .0 .0 .0 .0 .1) (r .0 .0 .0 .1) (r .0 .0 .1) (r .0 .1) (r .1)))
 
 pub framed-spec : {M : Type 1} → statement M
 framed-spec =

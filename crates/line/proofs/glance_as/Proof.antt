@@ -1,6 +1,7 @@
 -- `line::glance_as` meets its contract: for each kind, what is seen is what reading the line gives (`Seeing`).
 use mathlib.Core.Bool.{cond}
 use mathlib.Core.Path.{_≡_, _∙_}
+use Rattle.line.specs.declared.Family.the-variants.{Base}
 use Rattle.line.specs.declared.Frame.the-variants.{Call, Spawn, Sync, Return, Cost, Instructions}
 use Rattle.line.specs.declared.Sight.the-variants.{Seen, Other}
 use Rattle.digits.specs.Word.{plainly}
@@ -35,7 +36,7 @@ returns : tie.Need-returns
 returns c n =
     let a = c .before .before .before .before .before .before in
     let e : c .seen .result ≡ cond (isValued (a .args .s .now)) (Seen (Cost (plainly (part (a .args .s .now) 6 8)))) Other = cc (c .seen .ensures, c .before .value-of .ensures, c .before .before .valued .ensures) in
-    e ∙ see-cost (a .args .s .now) n (a .pre) (c .before .before .before .if1 .taken)
+    e ∙ see-cost Base (a .args .s .now) n (a .pre) (c .before .before .before .if1 .taken)
 
 bare-requires : tie.Need-bare-requires
 bare-requires c κs = search needs
@@ -46,8 +47,8 @@ seen-requires-2 c κs = search needs
 returns-2 : tie.Need-returns-2
 returns-2 c n =
     let a = c .before .before .before .before .before .before in
-    let e : c .seen2 .result ≡ cond (isBare (a .args .s .now)) (Seen Return) Other = cc (c .seen2 .ensures, c .before .bare .ensures) in
-    e ∙ see-return (a .args .s .now) n (a .pre) (c .before .before .if2 .taken)
+    let e : c .seen2 .result ≡ cond (isBare 48 (a .args .s .now)) (Seen Return) Other = cc (c .seen2 .ensures, c .before .bare .ensures) in
+    e ∙ see-return Base (a .args .s .now) n (a .pre) (c .before .before .if2 .taken)
 
 bare-requires-2 : tie.Need-bare-requires-2
 bare-requires-2 c κs = search needs
@@ -58,7 +59,7 @@ seen-requires-3 c κs = search needs
 returns-3 : tie.Need-returns-3
 returns-3 c n =
     let a = c .before .before .before .before .before .before .before in
-    let e : c .seen3 .result ≡ cond (isBare (a .args .s .now)) (Seen Sync) Other = cc (c .seen3 .ensures, c .before .bare2 .ensures) in
+    let e : c .seen3 .result ≡ cond (isBare 48 (a .args .s .now)) (Seen Sync) Other = cc (c .seen3 .ensures, c .before .bare2 .ensures) in
     e ∙ see-sync (a .args .s .now) n (a .pre) (c .before .before .if3 .taken)
 
 made-requires : tie.Need-made-requires
@@ -73,7 +74,7 @@ seen-requires-4 c κs = search needs
 returns-4 : tie.Need-returns-4
 returns-4 c n =
     let a = c .before .before .before .before .before .before .before .before .before in
-    let e : c .seen4 .result ≡ cond (isMade (a .args .s .now)) (Seen (Spawn (plainly (part (a .args .s .now) 2 4)))) Other = cc (c .seen4 .ensures, c .before .site-of .ensures, c .before .before .made .ensures) in
+    let e : c .seen4 .result ≡ cond (isMade 48 (a .args .s .now)) (Seen (Spawn (plainly (part (a .args .s .now) 2 4)))) Other = cc (c .seen4 .ensures, c .before .site-of .ensures, c .before .before .made .ensures) in
     e ∙ see-spawn (a .args .s .now) n (a .pre) (c .before .before .before .if4 .taken)
 
 made-requires-2 : tie.Need-made-requires-2
@@ -88,7 +89,7 @@ seen-requires-5 c κs = search needs
 returns-5 : tie.Need-returns-5
 returns-5 c n =
     let a = c .before .before .before .before .before .before .before .before .before .before in
-    let e : c .seen5 .result ≡ cond (isMade (a .args .s .now)) (Seen (Call (plainly (part (a .args .s .now) 2 4)))) Other = cc (c .seen5 .ensures, c .before .site-of2 .ensures, c .before .before .made2 .ensures) in
+    let e : c .seen5 .result ≡ cond (isMade 48 (a .args .s .now)) (Seen (Call (plainly (part (a .args .s .now) 2 4)))) Other = cc (c .seen5 .ensures, c .before .site-of2 .ensures, c .before .before .made2 .ensures) in
     e ∙ see-call (a .args .s .now) n (a .pre) (c .before .before .before .if5 .taken)
 
 valued-requires-2 : tie.Need-valued-requires-2
@@ -104,7 +105,7 @@ returns-6 : tie.Need-returns-6
 returns-6 c n =
     let a = c .before .before .before .before .before .before .before .before .before .before .before in
     let e : c .seen6 .result ≡ cond (isValued (a .args .s .now)) (Seen (Instructions (plainly (part (a .args .s .now) 6 8)))) Other = cc (c .seen6 .ensures, c .before .value-of2 .ensures, c .before .before .valued2 .ensures) in
-    e ∙ see-instructions (a .args .s .now) n (a .pre) (c .before .before .before .if6 .taken)
+    e ∙ see-instructions Base (a .args .s .now) n (a .pre) (c .before .before .before .if6 .taken)
 
 returns-7 : tie.Need-returns-7
 returns-7 c n =

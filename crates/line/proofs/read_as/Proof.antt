@@ -11,7 +11,7 @@ use Rattle.line.proofs.read_whole.Reads as read-whole-reads
 returns : tie.Need-returns
 returns c =
     let a = c .before .before in
-    sym (read-long (a .args .s .now) (a .args .n) (c .if1 .taken))
+    sym (read-long (a .args .family) (a .args .s .now) (a .args .n) (c .if1 .taken))
 
 read-whole-requires : tie.Need-read-whole-requires
 read-whole-requires c κs = search needs

@@ -1,5 +1,6 @@
 -- `line::read_at` meets its contract. Assumes nothing.
 use mathlib.Core.Path.{_∙_}
+use Rattle.line.specs.declared.Family.the-variants.{Base}
 use Rattle.line.proofs.At.{cut-read}
 use borrow.Author.Needs.{needs}
 use Rattle.line.proofs.read_at.Statement.{statement}
@@ -14,7 +15,7 @@ read-as-requires c κs = search needs
 returns : tie.Need-returns
 returns c =
     let q = c .before .before .before .args in
-    c .read-as .ensures ∙ cut-read (q .text .now) (q .n) _ (c .before .line-at .ensures)
+    c .read-as .ensures ∙ cut-read (q .text .now) (q .n) _ (c .before .line-at .ensures) Base
 
 pub read-at-spec : {M : Type 1} → statement M
 read-at-spec = tie.close (tie.spec line-at-requires read-as-requires returns)

@@ -1,17 +1,17 @@
 -- `line::read_whole` meets its contract: the five numerals are those of the line's parts (`Numerals`). Assumes nothing.
-use mathlib.Core.Path.{_∙_}
 use borrow.Author.Needs.{needs}
+use Rattle.line.specs.declared.Family.{Family}
 use Rattle.line.proofs.Lines.{Numerals, wrong-line, good-line, site-below, file-below, column-below}
 use Rattle.line.proofs.read_whole.Statement.{statement}
 use Rattle.line.proofs.read_whole.Tie as tie
 use Rattle.line.proofs.read_whole.Reads as reads
 use Rattle.line.proofs.read_whole.Lts as lts
 use Rattle.digits.proofs.read.number.Reads as number-reads
-use Rattle.line.proofs.framed.Reads as framed-reads
+use Rattle.line.proofs.framed_as.Reads as framed-as-reads
 
 -- the five numerals, once the last is read
 abbrev Five : Type 0
-Five = lts.After-number5 (number-reads.Asked, number-reads.Learnt, framed-reads.Asked, framed-reads.Learnt) reads.Pre reads.Post
+Five = lts.After-number5 (number-reads.Asked, number-reads.Learnt, framed-as-reads.Asked, framed-as-reads.Learnt) reads.Pre reads.Post
 
 numerals : (c : Five)
     → Numerals (c .before .before .before .before .before .before .before .before .before .before .before .args .s .now) (c .before .before .before .before .before .before .before .before .number .result) (c .before .before .before .before .before .before .number2 .result) (c .before .before .before .before .number3 .result) (c .before .before .number4 .result) (c .number5 .result)
@@ -24,6 +24,10 @@ numerals c =
       file-is = c .before .before .number4 .ensures;
       column-is = c .number5 .ensures;
     }
+
+-- the family that is asked for
+abbrev family : Five → Family
+family c = c .before .before .before .before .before .before .before .before .before .before .before .args .family
 
 sub-number : tie.Need-sub-number
 sub-number c = search needs
@@ -89,22 +93,24 @@ shared-slice-read-if1 : tie.Need-shared-slice-read-if1
 shared-slice-read-if1 c = search needs
 
 returns : tie.Need-returns
-returns c = wrong-line (numerals (c .before .before .before .before .before .before .before)) _ (c .if1 .taken)
+returns c =
+    let q = c .before .before .before .before .before .before .before in
+    wrong-line (numerals q) (family q) _ (c .if1 .taken)
 
-cast-framed : tie.Need-cast-framed
-cast-framed c = record { fits = site-below (numerals (c .before .before .before .before .before .before .before .before)) }
+cast-framed-as : tie.Need-cast-framed-as
+cast-framed-as c = record { fits = site-below (numerals (c .before .before .before .before .before .before .before .before)) }
 
-cast-framed-2 : tie.Need-cast-framed-2
-cast-framed-2 c = record { fits = file-below (numerals (c .before .before .before .before .before .before .before .before .before)) }
+cast-framed-as-2 : tie.Need-cast-framed-as-2
+cast-framed-as-2 c = record { fits = file-below (numerals (c .before .before .before .before .before .before .before .before .before)) }
 
-cast-framed-3 : tie.Need-cast-framed-3
-cast-framed-3 c = record { fits = column-below (numerals (c .before .before .before .before .before .before .before .before .before .before)) }
+cast-framed-as-3 : tie.Need-cast-framed-as-3
+cast-framed-as-3 c = record { fits = column-below (numerals (c .before .before .before .before .before .before .before .before .before .before)) }
 
-framed-requires : tie.Need-framed-requires
-framed-requires c κs = search needs
+framed-as-requires : tie.Need-framed-as-requires
+framed-as-requires c κs = search needs
 
 returns-2 : tie.Need-returns-2
-returns-2 c = c .framed .ensures ∙ good-line (numerals (c .before .before .before .before .before .before .before .before .before .before .before)) _ (c .before .before .before .before .if1 .left)
+returns-2 c = good-line (numerals (c .before .before .before .before .before .before .before .before .before .before .before)) (family (c .before .before .before .before .before .before .before .before .before .before .before)) _ (c .before .before .before .before .if1 .left) (c .framed-as .ensures)
 
 pub read-whole-spec : {M : Type 1} → statement M
 read-whole-spec =
@@ -132,8 +138,8 @@ read-whole-spec =
     number-requires-5
     shared-slice-read-if1
     returns
-    cast-framed
-    cast-framed-2
-    cast-framed-3
-    framed-requires
+    cast-framed-as
+    cast-framed-as-2
+    cast-framed-as-3
+    framed-as-requires
     returns-2)

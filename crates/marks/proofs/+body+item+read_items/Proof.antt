@@ -6,6 +6,7 @@ use mathlib.Core.Logic.{inl, inr}
 use native.Mathlib.Omega.{arith}
 use lib.ListN.{length, take, drop}
 use borrow.Author.Needs.{needs}
+use Rattle.line.specs.declared.Family.the-variants.{Base}
 use Rattle.walk.specs.Weight.{byAsking}
 use Rattle.walk.specs.declared.Open.{Open}
 use Rattle.marks.specs.declared.Zones.{Zones}
@@ -14,7 +15,7 @@ use Rattle.marks.specs.Reader.{begun}
 use Rattle.marks.specs.Steps.{Called, Spawned}
 use Rattle.marks.proofs.Park.{Stored, stored-room, part-zero, part-length, back-room, load-is, load-clear}
 use Rattle.marks.proofs.Bodies.{begins, Loop, loop-start, loop-asks, Next, loop-less, loop-again, loop-done, body-leaves}
-use Rattle.marks.proofs.Items.{line-fits, join-asks, sync-leaves, note-leaves, Costs, rows-asks, spend-asks, cost-leaves, Calls, deeper, room, credit-asks, body-asks, Back, count-asks, called-asks, spawned-asks, call-leaves, spawn-leaves}
+use Rattle.marks.proofs.Items.{line-fits, join-asks, sync-leaves, note-leaves, Costs, rows-asks, spend-asks, cost-leaves, Opens, deeper, room, credit-asks, body-asks, Back, count-asks, called-asks, spawned-asks, Calls, opens, call-leaves, spawn-leaves}
 use borrow.Fn.Kinds.{In, Out}
 use borrow.Fn.PlainCycle.{Measures, is, falls, and}
 use Rattle.marks.proofs.body.Reads as body
@@ -83,7 +84,7 @@ abbrev item-calls : ℕ → item-lts.Claims
 item-calls t = (weight-at-reads.Asked, weight-at-reads.Learnt, instructions-at-reads.Asked, instructions-at-reads.Learnt, spend-reads′.Asked, spend-reads′.Learnt, spend-reads.Asked, spend-reads.Learnt, join-reads.Asked, join-reads.Learnt, pass-reads.Asked, pass-reads.Learnt, site-at-reads.Asked, site-at-reads.Learnt, credit-of-reads.Asked, credit-of-reads.Learnt, store-reads.Asked, store-reads.Learnt, body-below t, body.Post, load-reads.Asked, load-reads.Learnt, returned-reads.Asked, returned-reads.Learnt, called-reads.Asked, called-reads.Learnt, spawned-reads.Asked, spawned-reads.Learnt)
 
 abbrev Inv-loop : items-lts.InvT-loop
-Inv-loop trace deep t₀ marks₀ rows₀ asking z₀ kind₀ t marks rows z kind = Loop (byAsking asking) trace deep z₀ t₀ marks₀ rows₀ t marks rows z kind
+Inv-loop trace deep t₀ marks₀ rows₀ asking z₀ kind₀ t marks rows z kind = Loop Base (byAsking asking) trace deep z₀ t₀ marks₀ rows₀ t marks rows z kind
 
 abbrev μ-loop : items-lts.MeasureT-loop
 μ-loop trace deep t₀ marks₀ rows₀ asking z₀ kind₀ t marks rows z kind = 65536 - z .own .at
@@ -316,7 +317,7 @@ module _ (t : ℕ) where
   -- what is known where a weight and instructions were read
   at-cost : (c : Item item-lts.After-instructions-at) → (
       let w = instructions-weight c in
-      let a = item-start (weight-test w) .args in Costs (byAsking (a .asking .now)) (a .trace .now) (a .deep) (a .z) (a .t .now) (a .marks .now) (a .rows .now) (a .kind) (w .weight-at .result .0) (c .instructions-at .result .0))
+      let a = item-start (weight-test w) .args in Costs Base (byAsking (a .asking .now)) (a .trace .now) (a .deep) (a .z) (a .t .now) (a .marks .now) (a .rows .now) (a .kind) (w .weight-at .result .0) (c .instructions-at .result .0))
   at-cost c =
       let w = instructions-weight c in
       record { asks = item-start (weight-test w) .pre .1; weight-is = w .weight-at .ensures; instructions-are = c .instructions-at .ensures; cost = w .before .if1 .taken }
@@ -326,13 +327,17 @@ module _ (t : ℕ) where
       let a = child-start c .args in Calls (byAsking (a .asking .now)) (a .trace .now) (a .deep) (a .z) (a .t .now) (a .marks .now) (a .rows .now) (a .kind) (c .site-at .result))
   at-site c = record { asks = child-start c .pre .1; site-is = c .site-at .ensures; no-cost = c .before .before .before .before .if1 .left; no-sync = c .before .before .before .if2 .left; no-instructions = c .before .before .if3 .left; no-note = c .before .if4 .left }
 
+  abbrev at-child : (c : Item item-lts.After-site-at) → (
+      let a = child-start c .args in Opens Base (byAsking (a .asking .now)) (a .trace .now) (a .deep) (a .z) (a .t .now) (a .marks .now) (a .rows .now) (c .site-at .result))
+  at-child c = opens (at-site c)
+
   -- where the invocation is stored
   at-store : (c : Item item-lts.After-store) → (
       let a = child-start (store-site c) .args in Stored (a .z) (a .t .now) (c .store .last .0))
-  at-store c = record { room = room (at-site (store-site c)); zero = child-start (store-site c) .pre .1 .lent .zero; is = c .store .ensures }
+  at-store c = record { room = room (at-child (store-site c)); zero = child-start (store-site c) .pre .1 .lent .zero; is = c .store .ensures }
 
   -- where the child has returned
-  at-body : (c : Item item-lts.After-body) → Back (at-site (store-site (body-store c))) (store-credit (body-store c) .credit-of .result) (c .body .result) (body-marks c) (body-rows c)
+  at-body : (c : Item item-lts.After-body) → Back (at-child (store-site (body-store c))) (store-credit (body-store c) .credit-of .result) (c .body .result) (body-marks c) (body-rows c)
   at-body c = record { taken = store-credit (body-store c) .credit-of .ensures; marks-long = c .body .kept .1 .1 .1 .1 .1 .0; rows-long = c .body .kept .1 .1 .1 .1 .1 .1 .0; leaves = c .body .ensures .0 }
 
   -- where the invocation is loaded again: it is as it was, and so is the scratch
@@ -412,16 +417,16 @@ module _ (t : ℕ) where
   item-cast-site c = search needs
 
   item-credit-of-requires : Item item-lts.Need-credit-of-requires
-  item-credit-of-requires c κs = credit-asks (at-site (c .before))
+  item-credit-of-requires c κs = credit-asks (at-child (c .before))
 
   item-store-requires : Item item-lts.Need-store-requires
-  item-store-requires c κs = room (at-site (credit-site (c .before)))
+  item-store-requires c κs = room (at-child (credit-site (c .before)))
 
   item-add-body : Item item-lts.Need-add-body
   item-add-body c = record { fits = line-fits (child-start (store-site (part-store c)) .pre .1 .lent) }
 
   item-sub-body : Item item-lts.Need-sub-body
-  item-sub-body c = deeper (at-site (store-site (part-store c)))
+  item-sub-body c = deeper (at-child (store-site (part-store c)))
 
   item-sub-body-2 : Item item-lts.Need-sub-body-2
   item-sub-body-2 c = stored-room (at-store (part-store c))
@@ -435,7 +440,7 @@ module _ (t : ℕ) where
   item-body-requires : Item item-lts.Need-body-requires
   item-body-requires c κs =
       let p = part-store (body-part c) in
-      let h = at-site (store-site p) in
+      let h = at-child (store-site p) in
       let s = p .store .last .0 in
       let a = child-start (store-site p) in
       (omega (arith, a .pre .0, deeper h), body-asks h (take (length s - 8) (drop 8 s)) (part-zero (at-store p)) (part-length (at-store p)))
@@ -471,7 +476,7 @@ module _ (t : ℕ) where
       let k = test-returned (e .before) in
       let l = returned-load (k .before) in
       let b = load-body (l .before) in
-      (call-leaves _ (at-body b) (k .returned .ensures) (r .called .result) (r .called .last .0) (e .if5 .taken) (subst (λ (x : Zones). Called (body-marks b) x (b .body .result) (r .called .result) (r .called .last .0)) (loaded l) (r .called .ensures)), unloaded l)
+      (call-leaves (at-site (store-site (body-store b))) (at-body b) (k .returned .ensures) (r .called .result) (r .called .last .0) (e .if5 .taken) (subst (λ (x : Zones). Called (body-marks b) x (b .body .result) (r .called .result) (r .called .last .0)) (loaded l) (r .called .ensures)), unloaded l)
 
   item-spawned-requires : Item item-lts.Need-spawned-requires
   item-spawned-requires c κs =
@@ -498,7 +503,7 @@ module _ (t : ℕ) where
       let k = test-returned (e .before) in
       let l = returned-load (k .before) in
       let b = load-body (l .before) in
-      (spawn-leaves _ (at-body b) (k .returned .ensures) (r .spawned .result) (r .spawned .last .0) (e .if5 .left) (subst (λ (x : Zones). Spawned (body-marks b) x (b .body .result) (r .spawned .result) (r .spawned .last .0)) (loaded l) (r .spawned .ensures)), unloaded l)
+      (spawn-leaves (at-site (store-site (body-store b))) (at-body b) (k .returned .ensures) (r .spawned .result) (r .spawned .last .0) (e .if5 .left) (subst (λ (x : Zones). Spawned (body-marks b) x (b .body .result) (r .spawned .result) (r .spawned .last .0)) (loaded l) (r .spawned .ensures)), unloaded l)
 
 pub +body+item+read-items-spec : {M : Type 1} → statement M
 +body+item+read-items-spec = close μ-body μ-item μ-items (λ t. body-lts.spec (body-calls t)

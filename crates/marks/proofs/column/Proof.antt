@@ -3,13 +3,14 @@ use Prim.Native.Nat.{_-_}
 use mathlib.Core.Path.{_≡_, ap}
 use lib.ListN.{length}
 use borrow.Author.Needs.{needs}
+use Rattle.line.specs.declared.Family.the-variants.{Base}
 use Rattle.walk.specs.Weight.{byAsking}
 use Rattle.marks.proofs.Columns.{Loop, turn-start, turn-asks, turn-again, turn-zero, turn-done}
 use Rattle.marks.proofs.column.Statement.{statement}
 use Rattle.marks.proofs.column.Tie as tie
 
 abbrev Inv-loop : tie.InvT-loop
-Inv-loop trace lines t₀ marks rows₀ asking a₀ at₀ t rows a at = Loop (byAsking asking) trace lines t₀ marks rows₀ at a t rows
+Inv-loop trace lines t₀ marks rows₀ asking a₀ at₀ t rows a at = Loop Base (byAsking asking) trace lines t₀ marks rows₀ at a t rows
 
 abbrev μ-loop : tie.MeasureT-loop
 μ-loop trace lines t₀ marks rows₀ asking a₀ at₀ t rows a at = lines - at
@@ -27,7 +28,7 @@ line-read c = c .before .before .before .before
 loop-holds : tie.Need-loop-holds Inv-loop μ-loop
 loop-holds c =
     let a = start c .args in
-    turn-start (byAsking (a .asking .now)) (a .trace .now) (a .lines) (a .t .now) (a .marks .now) (a .rows .now)
+    turn-start Base (byAsking (a .asking .now)) (a .trace .now) (a .lines) (a .t .now) (a .marks .now) (a .rows .now)
 
 on-line-requires : tie.Need-on-line-requires Inv-loop μ-loop
 on-line-requires c κs =

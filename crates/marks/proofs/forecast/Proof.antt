@@ -1,6 +1,7 @@
 -- `marks::forecast` meets its contract: what is accepted is asked, and a refusal leaves all as it was.
 use mathlib.Core.Path.{_∙_, sym}
 use borrow.Author.Needs.{needs}
+use Rattle.line.specs.declared.Family.the-variants.{Base}
 use Rattle.marks.specs.Root.{lent}
 use Rattle.marks.proofs.Whole.{admitted, unasked}
 use Rattle.marks.proofs.forecast.Statement.{statement}
@@ -27,7 +28,7 @@ asked-requires c κs =
     let g = asked-told c in
     let v = g .before .before in
     let a = start v .args in
-    admitted (a .text .now) (a .depth) (a .sites) (lent (a .scratch .now) (a .marks .now) (a .rows .now)) (g .verdict .given .0 .0) (g .verdict .given .0 .1 .0) (sym (g .verdict .given .1) ∙ v .for-marks .ensures)
+    admitted Base (a .text .now) (a .depth) (a .sites) (lent (a .scratch .now) (a .marks .now) (a .rows .now)) (g .verdict .given .0 .0) (g .verdict .given .0 .1 .0) (sym (g .verdict .given .1) ∙ v .for-marks .ensures)
 
 enum-known-verdict-2 : tie.Need-enum-known-verdict-2
 enum-known-verdict-2 c = search needs

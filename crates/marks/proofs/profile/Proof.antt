@@ -1,4 +1,5 @@
 -- `marks::profile` meets its contract: what is accepted is profiled, and a refusal leaves all as it was.
+use Rattle.line.specs.declared.Family.the-variants.{Base}
 use Rattle.walk.proofs.Weight.{no-factors}
 use Rattle.marks.specs.Root.{lent, Admitted}
 use Rattle.marks.proofs.Whole.{admitted, refuses, plain}
@@ -28,11 +29,11 @@ enum-known-count c = search needs
 
 -- the verdict was told
 is-admitted : (g : tie.After-count) → (
-    let a = start (g .before .before) .args in Admitted (a .text .now) (a .depth) (a .sites) (lent (a .scratch .now) (a .marks .now) (a .rows .now)) (g .count .given .0 .0) (g .count .given .0 .1 .0))
+    let a = start (g .before .before) .args in Admitted Base (a .text .now) (a .depth) (a .sites) (lent (a .scratch .now) (a .marks .now) (a .rows .now)) (g .count .given .0 .0) (g .count .given .0 .1 .0))
 is-admitted g =
     let v = g .before .before in
     let a = start v .args in
-    admitted (a .text .now) (a .depth) (a .sites) (lent (a .scratch .now) (a .marks .now) (a .rows .now)) (g .count .given .0 .0) (g .count .given .0 .1 .0) (sym (g .count .given .1) ∙ v .for-marks .ensures)
+    admitted Base (a .text .now) (a .depth) (a .sites) (lent (a .scratch .now) (a .marks .now) (a .rows .now)) (g .count .given .0 .0) (g .count .given .0 .1 .0) (sym (g .count .given .1) ∙ v .for-marks .ensures)
 
 slice-aggregate-accepted : tie.Need-slice-aggregate-accepted
 slice-aggregate-accepted c = search needs
@@ -63,7 +64,7 @@ returns-2 c =
     let g = refused-told c in
     let v = g .before .before in
     let a = start v .args in
-    refuses (a .text .now) (a .depth) (a .sites) (lent (a .scratch .now) (a .marks .now) (a .rows .now)) (g .number .given .0 .0) (g .number .given .0 .1 .0) (sym (g .number .given .1) ∙ v .for-marks .ensures)
+    refuses Base (a .text .now) (a .depth) (a .sites) (lent (a .scratch .now) (a .marks .now) (a .rows .now)) (g .number .given .0 .0) (g .number .given .0 .1 .0) (sym (g .number .given .1) ∙ v .for-marks .ensures)
 
 pub profile-spec : {M : Type 1} → statement M
 profile-spec =

@@ -2,13 +2,14 @@
 use Prim.Native.Nat.{ℕ, _+_, _*_, _-_, _^_, _<_}
 use mathlib.Core.List.{List}
 use lib.ListN.{length}
-use mathlib.Core.Path.{_∙_}
+use mathlib.Core.Path.{refl, _∙_}
 use mathlib.Core.Logic.{inl, inr}
 use native.Mathlib.Omega.{arith}
 use borrow.Author.Needs.{needs}
+use Rattle.line.specs.declared.Family.the-variants.{Base}
 use Rattle.walk.specs.Weight.{byAsking}
-use Rattle.tables.proofs.Bodies.{begins, Loop, loop-start, loop-asks, Next, loop-less, loop-again, loop-done, body-leaves}
-use Rattle.tables.proofs.Items.{line-fits, blocks-fit, join-asks, sync-leaves, note-leaves, Costs, rows-asks, spend-asks, cost-leaves, Calls, deeper, room, credit-asks, body-asks, Back, back-long, count-asks, called-asks, spawned-asks, call-leaves, spawn-leaves}
+use Rattle.tables.proofs.Bodies.{untold, begins, Loop, loop-start, loop-asks, Next, loop-less, loop-again, loop-done, body-leaves}
+use Rattle.tables.proofs.Items.{line-fits, blocks-fit, join-asks, sync-leaves, note-leaves, Costs, rows-asks, spend-asks, cost-leaves, Calls, at-part, parted, deeper, room, credit-asks, body-asks, Back, back-long, count-asks, called-asks, spawned-asks, call-leaves, spawn-leaves}
 use borrow.Fn.Kinds.{In, Out}
 use borrow.Fn.PlainCycle.{Measures, is, falls, and}
 use Rattle.tables.proofs.body.Reads as body
@@ -75,7 +76,7 @@ abbrev item-calls : ℕ → item-lts.Claims
 item-calls t = (weight-at-reads.Asked, weight-at-reads.Learnt, instructions-at-reads.Asked, instructions-at-reads.Learnt, spend-reads′.Asked, spend-reads′.Learnt, spend-reads.Asked, spend-reads.Learnt, join-reads.Asked, join-reads.Learnt, passed-reads.Asked, passed-reads.Learnt, site-at-reads.Asked, site-at-reads.Learnt, child-part-reads.Asked, child-part-reads.Learnt, credit-of-reads.Asked, credit-of-reads.Learnt, body-below t, body.Post, returned-reads.Asked, returned-reads.Learnt, called-reads.Asked, called-reads.Learnt, spawned-reads.Asked, spawned-reads.Learnt)
 
 abbrev Inv-loop : items-lts.InvT-loop
-Inv-loop trace row deep t₀ rows₀ w asking f₀ kind₀ t rows f kind = Loop (byAsking asking) trace row deep f₀ t₀ rows₀ t rows (w + 1) w f kind
+Inv-loop trace row deep t₀ rows₀ w asking f₀ kind₀ t rows f kind = Loop Base (byAsking asking) trace row deep f₀ t₀ rows₀ t rows (w + 1) w f kind untold untold
 
 abbrev μ-loop : items-lts.MeasureT-loop
 μ-loop trace row deep t₀ rows₀ w asking f₀ kind₀ t rows f kind = 65536 - f .at
@@ -148,20 +149,21 @@ module _ (t : ℕ) where
   abbrev item-rows : Items items-lts.After-item → List ℕ
   item-rows c = c .item .last .1 .1 .1 .1 .1 .1 .0
 
-  next : (c : Items items-lts.After-item) → Next (turn (c .before) .before .loop .inv) (c .item .result) (item-scratch c) (item-rows c)
+  next : (c : Items items-lts.After-item) → Next (turn (c .before) .before .loop .inv) (c .item .result) (item-scratch c) (item-rows c) untold
   next c =
       record {
         more-lines = turn (c .before) .loop-test .taken;
         scratch-long = c .item .kept .1 .1 .1 .1 .1 .0;
         rows-long = c .item .kept .1 .1 .1 .1 .1 .1 .0;
         leaves = c .item .ensures;
+        keeps = λ b q k m h e sh d. refl;
       }
 
   items-kind-at-requires : Items items-lts.Need-kind-at-requires
   items-kind-at-requires c κs = search needs
 
   items-loop-holds : Items items-lts.Need-loop-holds
-  items-loop-holds c = loop-start (items-start c .pre .1) (c .kind-at .result) (c .kind-at .ensures)
+  items-loop-holds c = loop-start (items-start c .pre .1) (c .kind-at .result) (c .kind-at .ensures) untold
 
   items-item-requires : Items items-lts.Need-item-requires
   items-item-requires c κs =
@@ -263,17 +265,17 @@ module _ (t : ℕ) where
 
   -- what is known where a cost was read, where the child's part is known, and where the child has returned
   at-cost : (c : Item item-lts.After-instructions-at) → (
-      let a = cost-start c .args in Costs (byAsking (a .asking .now)) (a .trace .now) (a .kind) (a .row) (a .deep) (a .f) (a .t .now) (a .rows .now) (a .w + 1) (a .w) (c .before .weight-at .result .0) (c .instructions-at .result .0))
+      let a = cost-start c .args in Costs Base (byAsking (a .asking .now)) (a .trace .now) (a .kind) (a .row) (a .deep) (a .f) (a .t .now) (a .rows .now) (a .w + 1) (a .w) (c .before .weight-at .result .0) (c .instructions-at .result .0))
   at-cost c = record { asks = cost-start c .pre .1; weight-is = c .before .weight-at .ensures; instructions-are = c .instructions-at .ensures; cost = cost-test c .if1 .taken }
 
-  at-part : (c : Item item-lts.After-child-part) → (
+  at-child : (c : Item item-lts.After-child-part) → (
       let a = child-start (c .before) .args in Calls (byAsking (a .asking .now)) (a .trace .now) (a .kind) (a .row) (a .deep) (a .f) (a .t .now) (a .rows .now) (a .w + 1) (a .w) (c .before .site-at .result) (c .child-part .result))
-  at-part c =
+  at-child c =
       let e = c .before .before in
       record { asks = child-start (c .before) .pre .1; site-is = c .before .site-at .ensures; no-cost = e .before .before .before .if1 .left; no-sync = e .before .before .if2 .left; no-note = e .if4 .left; no-carry = e .before .if3 .left; begins = c .child-part .ensures }
 
-  at-body : (c : Item item-lts.After-body) → Back (at-part (body-part (c .before))) (body-credit (c .before) .credit-of .result) (c .body .result) (body-scratch c) (body-rows c)
-  at-body c = record { taken = body-credit (c .before) .credit-of .ensures; part-long = c .body .kept .1 .1 .1 .1 .0; rows-long = c .body .kept .1 .1 .1 .1 .1 .0; leaves = c .body .ensures }
+  at-body : (c : Item item-lts.After-body) → Back (parted (at-child (body-part (c .before)))) (c .body .result) (body-scratch c) (body-rows c)
+  at-body c = record { part-long = c .body .kept .1 .1 .1 .1 .0; rows-long = c .body .kept .1 .1 .1 .1 .1 .0; leaves = c .body .ensures }
 
   item-add-n : Item item-lts.Need-add-n
   item-add-n c = record { fits = omega (arith, item-start c .pre .1 .lent .few) }
@@ -343,34 +345,34 @@ module _ (t : ℕ) where
   item-child-part-requires c κs = blocks-fit (child-start c .pre .1 .lent)
 
   item-credit-of-requires : Item item-lts.Need-credit-of-requires
-  item-credit-of-requires c κs = credit-asks (at-part (c .before))
+  item-credit-of-requires c κs = credit-asks (parted (at-child (c .before)))
 
   item-add-body : Item item-lts.Need-add-body
   item-add-body c = record { fits = line-fits (child-start (credit-part c .before) .pre .1 .lent) }
 
   item-sub-body : Item item-lts.Need-sub-body
-  item-sub-body c = deeper (at-part (credit-part c))
+  item-sub-body c = deeper (parted (at-child (credit-part c)))
 
   item-mul-body : Item item-lts.Need-mul-body
-  item-mul-body c = omega (arith, room (at-part (credit-part c)), scratch-fits (child-start (credit-part c .before)))
+  item-mul-body c = omega (arith, room (parted (at-child (credit-part c))), scratch-fits (child-start (credit-part c .before)))
 
   item-sub-body-2 : Item item-lts.Need-sub-body-2
-  item-sub-body-2 c = room (at-part (credit-part c))
+  item-sub-body-2 c = room (parted (at-child (credit-part c)))
 
   item-part-body-start : Item item-lts.Need-part-body-start
-  item-part-body-start c = omega (arith, room (at-part (credit-part c)))
+  item-part-body-start c = omega (arith, room (parted (at-child (credit-part c))))
 
   item-part-body-end : Item item-lts.Need-part-body-end
-  item-part-body-end c = omega (arith, room (at-part (credit-part c)))
+  item-part-body-end c = omega (arith, room (parted (at-child (credit-part c))))
 
   item-body-requires : Item item-lts.Need-body-requires
   item-body-requires c κs =
-      let h = at-part (body-part c) in
+      let h = parted (at-child (body-part c)) in
       let a = child-start (body-part c .before) in
       (omega (arith, a .pre .0, deeper h), body-asks h)
 
   item-returned-requires : Item item-lts.Need-returned-requires
-  item-returned-requires c κs = count-asks _ (at-body (returned-body c))
+  item-returned-requires c κs = count-asks _ (at-body (returned-body c)) (body-credit (returned-body c .before) .credit-of .ensures)
 
   item-called-requires : Item item-lts.Need-called-requires
   item-called-requires c κs = called-asks _ (at-body (returned-body (test-returned (c .before) .before)))
@@ -386,12 +388,13 @@ module _ (t : ℕ) where
   item-returns-5 : Item item-lts.Need-returns-5
   item-returns-5 c =
       let k = test-returned (c .before .before) in
-      call-leaves _ (at-body (returned-body (k .before))) (k .returned .ensures) (c .called .result) (c .before .if5 .taken) (c .called .ensures)
+      call-leaves _ (at-body (returned-body (k .before))) (body-credit (returned-body (k .before) .before) .credit-of .ensures) (k .returned .ensures) (c .called .result) (c .before .if5 .taken) (c .called .ensures)
 
   item-spawned-requires : Item item-lts.Need-spawned-requires
   item-spawned-requires c κs =
       let e = spawned-test c in
-      spawned-asks _ (at-body (returned-body (test-returned (e .before) .before))) (e .if5 .left)
+      let b = returned-body (test-returned (e .before) .before) in
+      spawned-asks _ (at-body b) (at-part (at-child (body-part (b .before))) (e .if5 .left))
 
   item-same-length-6 : Item item-lts.Need-same-length-6
   item-same-length-6 c =
@@ -408,7 +411,7 @@ module _ (t : ℕ) where
       let r = item-spawned c in
       let e = spawned-test (r .before) in
       let k = test-returned (e .before) in
-      spawn-leaves _ (at-body (returned-body (k .before))) (k .returned .ensures) (r .spawned .result) (e .if5 .left) (r .spawned .last .0) (r .spawned .ensures)
+      spawn-leaves _ (at-body (returned-body (k .before))) (body-credit (returned-body (k .before) .before) .credit-of .ensures) (k .returned .ensures) (r .spawned .result) (e .if5 .left) (r .spawned .last .0) (r .spawned .ensures)
 
 pub +body+item+read-items-spec : {M : Type 1} → statement M
 +body+item+read-items-spec = close μ-body μ-item μ-items (λ t. body-lts.spec (body-calls t)

@@ -1,6 +1,7 @@
 -- `tables::forecast` meets its contract: what is accepted is asked, and a refusal leaves all as it was.
 use mathlib.Core.Path.{_∙_, sym}
 use borrow.Author.Needs.{needs}
+use Rattle.line.specs.declared.Family.the-variants.{Base}
 use Rattle.tables.proofs.Whole.{admitted, unasked}
 use Rattle.tables.proofs.forecast.Statement.{statement}
 use Rattle.tables.proofs.forecast.Tie as tie
@@ -26,7 +27,7 @@ asked-requires c κs =
     let g = asked-told c in
     let v = g .before .before in
     let a = start v .args in
-    admitted (a .text .now) (a .depth) (a .sites) (a .scratch .now) (a .rows .now) (g .verdict .given .0 .0) (g .verdict .given .0 .1 .0) (sym (g .verdict .given .1) ∙ v .for-tables .ensures)
+    admitted Base (a .text .now) (a .depth) (a .sites) (a .scratch .now) (a .rows .now) (g .verdict .given .0 .0) (g .verdict .given .0 .1 .0) (sym (g .verdict .given .1) ∙ v .for-tables .ensures)
 
 enum-known-verdict-2 : tie.Need-enum-known-verdict-2
 enum-known-verdict-2 c = search needs

@@ -1,4 +1,5 @@
 -- `tables::profile` meets its contract: what is accepted is profiled, and a refusal leaves all as it was.
+use Rattle.line.specs.declared.Family.the-variants.{Base}
 use Rattle.walk.proofs.Weight.{no-factors}
 use Rattle.tables.specs.Root.{Admitted}
 use Rattle.tables.proofs.Whole.{admitted, refuses, plain}
@@ -28,11 +29,11 @@ enum-known-count c = search needs
 
 -- the verdict was told
 is-admitted : (g : tie.After-count) → (
-    let a = start (g .before .before) .args in Admitted (a .text .now) (a .depth) (a .sites) (a .scratch .now) (a .rows .now) (g .count .given .0 .0) (g .count .given .0 .1 .0))
+    let a = start (g .before .before) .args in Admitted Base (a .text .now) (a .depth) (a .sites) (a .scratch .now) (a .rows .now) (g .count .given .0 .0) (g .count .given .0 .1 .0))
 is-admitted g =
     let v = g .before .before in
     let a = start v .args in
-    admitted (a .text .now) (a .depth) (a .sites) (a .scratch .now) (a .rows .now) (g .count .given .0 .0) (g .count .given .0 .1 .0) (sym (g .count .given .1) ∙ v .for-tables .ensures)
+    admitted Base (a .text .now) (a .depth) (a .sites) (a .scratch .now) (a .rows .now) (g .count .given .0 .0) (g .count .given .0 .1 .0) (sym (g .count .given .1) ∙ v .for-tables .ensures)
 
 slice-aggregate-accepted : tie.Need-slice-aggregate-accepted
 slice-aggregate-accepted c = search needs
@@ -59,7 +60,7 @@ returns-2 c =
     let g = refused-told c in
     let v = g .before .before in
     let a = start v .args in
-    refuses (a .text .now) (a .depth) (a .sites) (a .scratch .now) (a .rows .now) (g .number .given .0 .0) (g .number .given .0 .1 .0) (sym (g .number .given .1) ∙ v .for-tables .ensures)
+    refuses Base (a .text .now) (a .depth) (a .sites) (a .scratch .now) (a .rows .now) (g .number .given .0 .0) (g .number .given .0 .1 .0) (sym (g .number .given .1) ∙ v .for-tables .ensures)
 
 pub profile-spec : {M : Type 1} → statement M
 profile-spec =
