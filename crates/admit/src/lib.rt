@@ -1,6 +1,8 @@
 // Acceptance: the flat check of a whole trace. It says whether a trace is accepted, or its first refusal, before
 // anything lent is written.
 
+#![tactic(auto)]
+
 ghost use Rattle.std.specs.Prelude.{◌≡◌, List, [], ℕ, ◌≤◌, ◌<◌, length};
 ghost use Rattle.line.specs.declared.Family.TheVariants.{Finishes};
 ghost use Rattle.line.specs.Read.{read_at_of, read_at};
@@ -15,14 +17,14 @@ ghost use Rattle.admit.specs.Step.{key, tag, tags_of, seen, kept, behind_cost, s
 use line::{Frame, Place, Read, Sight};
 
 // What acceptance answers: the numbers of sites and of lines, or a refusal's number and line.
-#[derive(Drop)]
+#[derive(Clone, Copy)]
 pub enum Verdict {
     Accepted(usize, usize),
     Refused(u8, usize),
 }
 
 // "A tally of lines, sites and open depth": of the lines before the next one.
-#[derive(Drop)]
+#[derive(Clone, Copy)]
 pub struct Tally {
     pub lines: usize,
     pub sites: usize,
@@ -30,7 +32,7 @@ pub struct Tally {
 }
 
 // What a line does: the tally behind it and 0, or the tally before it and the number of the line's refusal.
-#[derive(Drop)]
+#[derive(Clone, Copy)]
 pub struct Tallied {
     pub refusal: u8,
     pub tally: Tally,

@@ -1,4 +1,7 @@
 // The trace compactor. The lines of the result are counted where the output may be too short for them, and then written.
+
+#![tactic(auto)]
+
 mod put;
 mod step;
 

@@ -8,7 +8,7 @@ use walk::{Cycles, Instructions};
 // Of the invocations around the innermost one, a bit each, the innermost lowest: has it spawned since its start or last
 // sync? Has the innermost one? Does a sync wait? And the sum of the costs before that sync and that of their instructions,
 // 0 and 0 where there are none.
-#[derive(Drop)]
+#[derive(Clone, Copy)]
 pub struct State {
     pub around: u64,
     pub spawned: bool,
@@ -18,7 +18,7 @@ pub struct State {
 }
 
 // What a line tells the step: its kind, its value, and its instructions where it is a cost.
-#[derive(Drop)]
+#[derive(Clone, Copy)]
 pub struct Item {
     pub kind: u8,
     pub cycles: Cycles,
@@ -27,7 +27,7 @@ pub struct Item {
 
 // What goes out at a line, in this order: a cost unless it is 0, its instructions unless they are 0, a sync, the line
 // itself. And what is held back then.
-#[derive(Drop)]
+#[derive(Clone, Copy)]
 pub struct Given {
     pub cost: Cycles,
     pub instructions: Instructions,

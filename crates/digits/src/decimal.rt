@@ -5,7 +5,7 @@ ghost use Rattle.digits.specs.Decimal.{size_of, figures, value_of, reading};
 use crate::read::wide;
 
 // What reading gives: whether the characters are a number, and which; 0 where they are none.
-#[derive(Drop)]
+#[derive(Clone, Copy)]
 pub struct Numeral {
     pub good: bool,
     pub value: u64,

@@ -3,7 +3,7 @@ ghost use Rattle.std.specs.Prelude.{◌≡◌};
 ghost use Rattle.digits.specs.Read.{worth_of, reading};
 
 // What reading gives: whether every character is a digit, and the number that they are.
-#[derive(Drop)]
+#[derive(Clone, Copy)]
 pub struct Numeral {
     pub good: bool,
     pub value: u32,

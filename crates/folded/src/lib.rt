@@ -1,4 +1,7 @@
 // Folded stacks: for each cost line of a trace the names of the open invocations, and the cost.
+
+#![tactic(auto)]
+
 mod measure;
 mod spots;
 mod write;

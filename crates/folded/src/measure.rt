@@ -9,7 +9,7 @@ ghost use Rattle.folded.specs.Measure.{less, LineAsks, LineLeaves, Asks, Leaves}
 use crate::spots;
 
 // A room that pieces of text are taken off: whether all fitted so far, and how much is left.
-#[derive(Drop)]
+#[derive(Clone, Copy)]
 struct Room {
     fits: bool,
     left: usize,
@@ -57,7 +57,7 @@ pub(crate) fn without<'a>(
 }
 
 // How many rows are open, and what is left of the room.
-#[derive(Drop)]
+#[derive(Clone, Copy)]
 struct Measured {
     depth: usize,
     room: Room,

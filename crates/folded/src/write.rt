@@ -13,7 +13,7 @@ use report::lay;
 
 // The line that was written last: where it begins, how many of the rows that are open now it has at its front, and
 // how many characters their joined names are.
-#[derive(Drop)]
+#[derive(Clone, Copy)]
 struct Last {
     from: usize,
     rows: usize,
@@ -102,7 +102,7 @@ fn close<'a>(
 }
 
 // How many rows are open, where the next line goes, and the line before it.
-#[derive(Drop)]
+#[derive(Clone, Copy)]
 struct Written {
     depth: usize,
     at: usize,

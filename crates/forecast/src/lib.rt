@@ -1,5 +1,7 @@
 // Forecast entries: what a caller asks for, whether it may be asked, and what a cost line then weighs.
 
+#![tactic(auto)]
+
 ghost use Rattle.std.specs.Prelude.{◌≡◌, ◌≤◌, ◌<◌, min, length, get_or, set, take, replicate};
 ghost use Rattle.forecast.specs.Rewritten.{divided};
 ghost use Rattle.forecast.specs.Asked.{ascending, all_declared, bad_factor};
@@ -7,14 +9,14 @@ ghost use Rattle.forecast.specs.Listed.{none, listed, asked_of, factor_table};
 
 // "each a row number and a factor"
 #[repr(C)]
-#[derive(Drop)]
+#[derive(Clone, Copy)]
 pub struct Entry {
     pub row: u64,
     pub factor: u64,
 }
 
 // A list of entries by value: how many were lent, and the first sixteen of them; the rest of the array is zero.
-#[derive(Drop)]
+#[derive(Clone, Copy)]
 pub struct Listed {
     pub count: usize,
     pub entries: [Entry; 16],

@@ -1,4 +1,7 @@
 // A trace line: its place, its frame, its reader and its writer.
+
+#![tactic(auto)]
+
 ghost use Rattle.std.specs.Prelude.{◌≡◌, cond, ℕ, length, replicate};
 ghost use Rattle.digits.specs.Digits.{all_digits};
 ghost use Rattle.digits.specs.Word.{plainly};
@@ -28,7 +31,7 @@ const END: usize = COLUMN + 4;
 pub const LINE: usize = END + 1;
 
 // "A site line carries its place: file, line and column."
-#[derive(Drop)]
+#[derive(Clone, Copy)]
 pub struct Place {
     pub file: u16,
     pub line: u32,
@@ -36,14 +39,14 @@ pub struct Place {
 }
 
 // Which runtime wrote a trace: document 01's, which spawns and syncs, or the one of asyncs and finishes.
-#[derive(Drop)]
+#[derive(Clone, Copy)]
 pub enum Family {
     Base,
     Finishes,
 }
 
 // What a line says: the kinds of both tables with the fields that each uses.
-#[derive(Drop)]
+#[derive(Clone, Copy)]
 pub enum Frame {
     Site(u16, Place),
     Call(u16),
@@ -57,21 +60,21 @@ pub enum Frame {
 }
 
 // What reading a line gives: its number and its frame, or a refusal's number and line.
-#[derive(Drop)]
+#[derive(Clone, Copy)]
 pub enum Read {
     Line(usize, Frame),
     Refused(u8, usize),
 }
 
 // What writing gives: how many characters were written, or a refusal's number and line.
-#[derive(Drop)]
+#[derive(Clone, Copy)]
 pub enum Wrote {
     Chars(usize),
     Refused(u8, usize),
 }
 
 // What the line writer gives: its answer, and beside it the 23 characters (an enum cannot hold them).
-#[derive(Drop)]
+#[derive(Clone, Copy)]
 pub struct Written {
     pub answer: Wrote,
     pub chars: [u8; LINE],
@@ -259,7 +262,7 @@ pub fn finish_read_at(text: &[u8], n: usize) -> Read
 }
 
 // What is seen of a line at a glance: its frame, or that it has to be read whole, as a site line and a faulty one do.
-#[derive(Drop)]
+#[derive(Clone, Copy)]
 pub enum Sight {
     Seen(Frame),
     Other,

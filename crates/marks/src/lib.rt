@@ -2,6 +2,9 @@
 // longest child's and the continuation's. The marks of each zone show its chain, and where a zone loses, its marks
 // are cleared. A second reading takes columns 5 and 7 from the marks. The finish family has its own readers over the
 // same steps.
+
+#![tactic(auto)]
+
 ghost use Rattle.std.specs.Prelude.{◌≡◌, [], ◌+◌, ◌*◌, ◌^◌, ◌≤◌, ◌<◌, length, get_or, set, replicate};
 ghost use Rattle.line.specs.declared.Family.TheVariants.{Base, Finishes};
 ghost use Rattle.trace.specs.Rows.{columns};
@@ -22,7 +25,7 @@ ghost use Rattle.marks.specs.Heavier.{HeavierAsks, HeavierLeaves};
 
 // An open invocation: its numbers, its row, and the lines at which the zones of its longest child and of its
 // continuation begin.
-#[derive(Drop)]
+#[derive(Clone, Copy)]
 struct Zones {
     own: walk::Open,
     row: usize,
@@ -346,7 +349,7 @@ fn row_of(trace: &[u8], at: usize, kind: u8, row: usize) -> usize
 
 // An open thing of the finish family: its zones, and how far an async reaches that begins in the call that is being
 // read, from the beginning of the finish or async around it on.
-#[derive(Drop)]
+#[derive(Clone, Copy)]
 struct Reach {
     zones: Zones,
     far: walk::Cycles,
@@ -547,7 +550,7 @@ fn add_marked(trace: &[u8], at: usize, row: usize, marks: &[u8], rows: &mut [u64
 
 // The row of the invocation that a line stands in, and how many are open around it: their rows are at the front of
 // the scratch, the root's first.
-#[derive(Drop)]
+#[derive(Clone, Copy)]
 struct Present {
     row: usize,
     around: usize,

@@ -1,4 +1,7 @@
 // The names of rows, from two lent texts with one name a line: the project's list and the stock list.
+
+#![tactic(auto)]
+
 ghost use Rattle.std.specs.Prelude.{◌≡◌};
 ghost use Rattle.names.specs.Names.{or_else, name_char, is_name, first_bad};
 ghost use Rattle.names.specs.Places.{part, end_of, next_of};

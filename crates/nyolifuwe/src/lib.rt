@@ -1,6 +1,8 @@
 // The C interface: the proved functions on numbers and lent slices. Each answers 0 where it accepts and otherwise a
 // refusal's number + 256 · its line; a refusal changes nothing that was lent.
 
+#![tactic(auto)]
+
 ghost use Rattle.std.specs.Prelude.{◌≡◌, ◌≤◌, [], ◌++◌, length, drop};
 ghost use Rattle.line.specs.declared.Family.TheVariants.{Finishes};
 ghost use Rattle.line.specs.Table.{fields_of};

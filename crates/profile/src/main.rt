@@ -1,5 +1,8 @@
 // The report program: standard input to standard output. What is printed is `program::print`'s promise. Where a read or
 // a write fails, standard error says so, and of an input that was not read to its end nothing is printed.
+
+#![tactic(auto)]
+
 ghost use Rattle.std.specs.Prelude.{◌≤◌, length};
 ghost use Rattle.libc.specs.Io.{Moved};
 

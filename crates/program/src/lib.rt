@@ -1,4 +1,7 @@
 // The report program as a function: what it prints for any input.
+
+#![tactic(auto)]
+
 ghost use Rattle.std.specs.Prelude.{◌+◌, ◌*◌, ◌≤◌, ◌≡◌, length};
 ghost use Rattle.trace.specs.Rows.{columns};
 ghost use Rattle.report.specs.Rows.{width};

@@ -1,4 +1,7 @@
 // The report: a line for each row that is printed, and the line of a refusal.
+
+#![tactic(auto)]
+
 pub mod lay;
 
 ghost use Rattle.std.specs.Prelude.{◌≡◌, ◌+◌, ◌*◌, ◌≤◌, ◌<◌, length};
@@ -19,7 +22,7 @@ use trace::{CALLS, COLUMNS};
 pub const WIDTH: usize = 4 + 16 * COLUMNS + 1;
 
 // A row's line, which is built whole before it goes out.
-#[derive(Drop)]
+#[derive(Clone, Copy)]
 pub struct ReportLine {
     pub row: u16,
     pub chars: [u8; WIDTH],

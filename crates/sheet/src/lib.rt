@@ -1,11 +1,13 @@
 // A profile's rows as comma-separated text. What such a text is, what the writer and the reader give, and the laws of
 // both stand in specs/ and proofs/; the writer is crate `sheetout`, the reader crate `sheetin`.
 
+#![tactic(auto)]
+
 // "a header record `row,calls,work,span,local,onspan`"; "Spreadsheets gain `ilocal,ionspan`".
 pub const NAMES: [u8; 47] = *b"row,calls,work,span,local,onspan,ilocal,ionspan";
 
 // What reading gives: the site count, or a refusal's number and its record or line.
-#[derive(Drop)]
+#[derive(Clone, Copy)]
 pub enum Counted {
     Sites(usize),
     Refused(u8, usize),

@@ -12,7 +12,7 @@ use sheet::NAMES;
 use trace::COLUMNS;
 
 // The records behind the header: how many where all are good, else which of the text's records is not.
-#[derive(Drop)]
+#[derive(Clone, Copy)]
 pub struct Tallied {
     pub good: bool,
     pub count: usize,

@@ -4,7 +4,7 @@ ghost use Rattle.sheet.specs.Grammar.{before, ends_bare, ends_quoted, field, lin
 ghost use Rattle.sheetin.specs.Seen.{Fields, Passes, Gets};
 
 // A field: where its content stands, and the place behind the field.
-#[derive(Drop)]
+#[derive(Clone, Copy)]
 pub struct Field {
     pub good: bool,
     pub from: usize,
@@ -13,14 +13,14 @@ pub struct Field {
 }
 
 // Whether something stands at the front, and the place behind it.
-#[derive(Drop)]
+#[derive(Clone, Copy)]
 pub struct Past {
     pub good: bool,
     pub next: usize,
 }
 
 // A number at the front, and the place behind it.
-#[derive(Drop)]
+#[derive(Clone, Copy)]
 pub struct Got {
     pub good: bool,
     pub value: u64,

@@ -1,4 +1,7 @@
 // Reads a profile's rows from comma-separated text: the whole text is checked first, and then the rows are filled in.
+
+#![tactic(auto)]
+
 pub mod check;
 pub mod fields;
 pub mod fill;

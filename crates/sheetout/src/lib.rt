@@ -1,4 +1,7 @@
 // Writes a profile's rows as comma-separated text: how long it is first, and then the text, piece behind piece.
+
+#![tactic(auto)]
+
 ghost use Rattle.std.specs.Prelude.{◌≡◌, ◌+◌, ◌*◌, ◌≤◌, length};
 ghost use mathlib.Core.List.{flat_map};
 ghost use Rattle.trace.specs.Rows.{columns};

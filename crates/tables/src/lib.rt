@@ -12,6 +12,9 @@
 // as long as no child is open: it is the table of no chain, which takes the place of one that goes.
 // In the finish family an async is lent what a spawned child is, and a finish what a called child is. A call is lent
 // nothing: its items go on in the blocks of the finish or async around it.
+
+#![tactic(auto)]
+
 ghost use Rattle.std.specs.Prelude.{◌≡◌, [], ◌+◌, ◌*◌, ◌/◌, ◌%◌, ◌^◌, ◌≤◌, ◌<◌, length, get_or, set};
 ghost use Rattle.std.specs.Int.Bits.{bit_or};
 ghost use Rattle.line.specs.declared.Family.TheVariants.{Base, Finishes};
@@ -28,7 +31,7 @@ ghost use Rattle.tables.specs.Reach.{OfARow, OfEachRow, ItemReaches, ItemsReach}
 
 // A row of a table: what of the chain stands in the row, by its measures. In the scratch these are two numbers side by
 // side.
-#[derive(Drop)]
+#[derive(Clone, Copy)]
 struct Pair {
     cycles: walk::Cycles,
     instructions: walk::Instructions,
@@ -78,7 +81,7 @@ fn no_pair() -> Pair
 }
 
 // Four rows that stand side by side.
-#[derive(Drop)]
+#[derive(Clone, Copy)]
 struct Four {
     a: Pair,
     b: Pair,
@@ -503,7 +506,7 @@ fn item(
 
 // Inside a call, an async or a finish: the numbers of the finish or async around, in whose chains a call's items go on,
 // and how far an async reaches that begins in the call, from the beginning of that finish or async on.
-#[derive(Drop)]
+#[derive(Clone, Copy)]
 struct Reach {
     around: walk::Open,
     far: walk::Cycles,

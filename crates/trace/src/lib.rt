@@ -1,4 +1,7 @@
 // "Five numbers a row, in this order", and "two numbers at the end": how many, and which number of its row each is.
+
+#![tactic(auto)]
+
 pub const COLUMNS: usize = 7;
 
 pub const CALLS: usize = 0;
@@ -19,7 +22,7 @@ pub const ION_SPAN: usize = 6;
 pub const SCRATCH: usize = 7;
 
 // What an engine answers: total work, total span, number of sites and number of lines, or a refusal's number and line.
-#[derive(Drop)]
+#[derive(Clone, Copy)]
 pub enum Answer {
     Accepted(u64, u64, usize, usize),
     Refused(u8, usize),

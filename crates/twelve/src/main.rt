@@ -2,6 +2,8 @@
 // its work, its span and the on-span numbers of rows 0, 1 and 2, four digits each; the marks engine's line goes on
 // with a mark for each line of the trace.
 
+#![tactic(auto)]
+
 // D and M, and the row numbers that they ask for.
 const DEPTH: usize = 4;
 

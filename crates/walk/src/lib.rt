@@ -1,5 +1,8 @@
 // What both engines share: an open invocation's numbers, what a cost line weighs and its instructions, and columns 1 to 4
 // and 6 of the rows.
+
+#![tactic(auto)]
+
 ghost use Rattle.std.specs.Prelude.{◌≡◌, ◌+◌, ◌*◌, ◌-◌, ◌^◌, ◌≤◌, ◌<◌, ◌++◌, length, get_or, set, drop, replicate};
 ghost use Rattle.trace.specs.Column.{Column, slot};
 ghost use Rattle.trace.specs.Tree.{larger};
@@ -13,7 +16,7 @@ use trace::{CALLS, COLUMNS, ILOCAL, LOCAL, SPAN, WORK};
 
 // Processor cycles: what a cost line weighs, and all that is summed of it. A number in a lent slice is plain; taken out of
 // it, its type says which measure it is, and one measure cannot be added to another.
-#[derive(Drop)]
+#[derive(Clone, Copy)]
 pub struct Cycles(pub u64);
 
 impl Cycles {
@@ -45,7 +48,7 @@ impl Cycles {
 }
 
 // Instructions: what a 07 line says of the cost line that it stands directly behind.
-#[derive(Drop)]
+#[derive(Clone, Copy)]
 pub struct Instructions(pub u64);
 
 impl Instructions {
@@ -60,7 +63,7 @@ impl Instructions {
 
 // An open invocation: its next line, the work so far, and what its three chains weigh: up to the last join, the
 // longest child's since, and that since the spawn of this child.
-#[derive(Drop)]
+#[derive(Clone, Copy)]
 pub struct Open {
     pub at: usize,
     pub work: Cycles,
@@ -296,7 +299,7 @@ fn count(rows: &mut [u64], s: usize)
 }
 
 // Columns 2 and 3 of a row.
-#[derive(Drop)]
+#[derive(Clone, Copy)]
 pub struct Credit {
     pub work: Cycles,
     pub span: Cycles,

@@ -1,6 +1,9 @@
 // Why a step is not on the span. Two readings: the marks reader with the asked line heavier than all work leaves the first of
 // the heaviest chains through it in the marks; then one over plain costs, in which each chain is its weight and the
 // smallest of its lines that is not marked.
+
+#![tactic(auto)]
+
 ghost use Rattle.std.specs.Prelude.{◌≡◌, ◌+◌, ◌^◌, ◌≤◌, ◌<◌, length, replicate};
 ghost use Rattle.marks.specs.Shown.{Wiped};
 ghost use Rattle.why.specs.Seek.{smaller, unseen, in_series, heavier_of, start, joined_seen, called_seen, spawned_seen, if_unmarked, answer_of};
@@ -10,7 +13,7 @@ ghost use Rattle.why.specs.Promise.{roomy, Asked, LineAsks, LineLeaves, Admitted
 use walk::Cycles;
 
 // "answer one of four: not a cost line; on the chosen chain; slack n ...; or tied, with the smallest line ..."
-#[derive(Drop)]
+#[derive(Clone, Copy)]
 pub enum Why {
     NotCost,
     OnChain,
@@ -19,7 +22,7 @@ pub enum Why {
 }
 
 // What is answered: why, or a refusal's number and line.
-#[derive(Drop)]
+#[derive(Clone, Copy)]
 pub enum Answer {
     Given(Why),
     Refused(u8, usize),
@@ -39,7 +42,7 @@ fn smaller(a: usize, b: usize) -> usize
 }
 
 // What is seen of a chain: its weight, and the smallest of its lines that is not marked, past every line where there is none.
-#[derive(Drop)]
+#[derive(Clone, Copy)]
 pub struct Seen {
     pub weighs: Cycles,
     pub first: usize,
@@ -81,7 +84,7 @@ impl Seen {
 
 // What is seen of the chains of an open invocation: up to the last join, the longest child's since, and that since the spawn
 // of this child.
-#[derive(Drop)]
+#[derive(Clone, Copy)]
 pub struct Sought {
     pub p: Seen,
     pub l: Seen,
@@ -167,14 +170,14 @@ fn cost(text: &[u8], at: usize, marks: &[u8]) -> Seen
 }
 
 // An open invocation: its next line, and what is seen of its chains.
-#[derive(Drop)]
+#[derive(Clone, Copy)]
 struct Reached {
     at: usize,
     sought: Sought,
 }
 
 // An invocation that has returned: the line behind it, and what is seen of its chain.
-#[derive(Drop)]
+#[derive(Clone, Copy)]
 struct Returned {
     at: usize,
     seen: Seen,
