@@ -1,0 +1,16 @@
+-- `compact::count` meets its contract. The invariant is that of counting; the measure is how many lines are left. Assumes
+-- nothing.
+use Rattle.std.proofs.Common.{rules}
+use Prim.Native.Nat.{◌-◌}
+use mathlib.Core.Path.{sym, subst}
+use native.Mathlib.Omega.{arith}
+use Rattle.compact.specs.Pass.{Lines}
+use Rattle.compact.specs.declared.step.State.{State}
+use Rattle.compact.proofs.Passes.{given_is, Counting, counting_start, counting_ready, counting_on, counting_end}
+use Rattle.compact.proofs.count.Given as goal
+
+abbrev pub invariant-loop-n : goal.invariant-loop-n
+invariant-loop-n l = (q : Lines l.trace l.lines) → Counting q l.s l.total l.n
+
+abbrev pub decreases-loop-n : goal.decreases-loop-n
+decreases-loop-n l = l.lines - l.n

@@ -1,0 +1,40 @@
+-- `line::put_fields` meets its contract: the fields are filled in one after the other. Assumes nothing.
+use mathlib.Core.List.{List}
+use mathlib.Core.Path.{refl, ◌∙◌}
+use Prim.Native.Nat.{ℕ}
+use native.Mathlib.Omega.{arith}
+use borrow.Rule.Slice.PartMut.{put_mid}
+use borrow.Author.Tests.{not-true, not-false}
+use lib.ListN.{replicate}
+use Rattle.line.specs.Table.{Fields}
+use Rattle.line.proofs.Filled.{Filled, empty, fill, filled_length, kinds, sites, values, files, columns, all-fields}
+use Rattle.std.proofs.Common.{rules}
+use Rattle.line.proofs.put_fields.Goals as goal
+use Rattle.line.proofs.put_fields.Goals.{After-put_digits-2, After-put_digits-3, After-put_digits-4}
+
+site-put : (c : After-put_digits-2) → Filled ((put_mid 2 4 ((put_mid 0 2 (replicate 23 10) c.put_digits.new.part)) c.put_digits-2.new.part)) (sites ((record { kind = c.args.kind; site = c.args.site; value = c.args.value; file = c.args.file; column = c.args.column }))) 6 17
+site-put c = fill 4 17 c.args.site c.put_digits-2.new.part ((fill 2 21 c.args.kind c.put_digits.new.part (empty 23) c.put_digits.ensures)) c.put_digits-2.ensures
+
+value-put : (c : After-put_digits-3) → Filled ((put_mid 6 8 ((put_mid 2 4 ((put_mid 0 2 (replicate 23 10) c.put_digits.new.part)) c.put_digits-2.new.part)) c.put_digits-3.new.part)) (values ((record { kind = c.args.kind; site = c.args.site; value = c.args.value; file = c.args.file; column = c.args.column }))) 14 9
+value-put c = fill 8 9 c.args.value c.put_digits-3.new.part ((fill 4 17 c.args.site c.put_digits-2.new.part ((fill 2 21 c.args.kind c.put_digits.new.part (empty 23) c.put_digits.ensures)) c.put_digits-2.ensures)) c.put_digits-3.ensures
+
+file-put : (c : After-put_digits-4) → Filled ((put_mid 14 4 ((put_mid 6 8 ((put_mid 2 4 ((put_mid 0 2 (replicate 23 10) c.put_digits.new.part)) c.put_digits-2.new.part)) c.put_digits-3.new.part)) c.put_digits-4.new.part)) (files ((record { kind = c.args.kind; site = c.args.site; value = c.args.value; file = c.args.file; column = c.args.column }))) 18 5
+file-put c = fill 4 5 c.args.file c.put_digits-4.new.part ((fill 8 9 c.args.value c.put_digits-3.new.part ((fill 4 17 c.args.site c.put_digits-2.new.part ((fill 2 21 c.args.kind c.put_digits.new.part (empty 23) c.put_digits.ensures)) c.put_digits-2.ensures)) c.put_digits-3.ensures)) c.put_digits-4.ensures
+
+pub returns-then-not-fit : goal.returns-then-not-fit
+returns-then-not-fit c = simp (not-true c.args.fit c.if-not-fit.true-raw) (refl, refl)
+
+pub slice_bounds-chars-end-2 : goal.slice_bounds-chars-end-2
+slice_bounds-chars-end-2 c = omega (arith, filled_length ((fill 2 21 c.args.kind c.put_digits.new.part (empty 23) c.put_digits.ensures)))
+
+pub slice_bounds-chars-end-3 : goal.slice_bounds-chars-end-3
+slice_bounds-chars-end-3 c = omega (arith, filled_length (site-put (goal.at.slice_bounds-chars-end-3 c).After-put_digits-2))
+
+pub slice_bounds-chars-end-4 : goal.slice_bounds-chars-end-4
+slice_bounds-chars-end-4 c = omega (arith, filled_length (value-put (goal.at.slice_bounds-chars-end-4 c).After-put_digits-3))
+
+pub slice_bounds-chars-end-5 : goal.slice_bounds-chars-end-5
+slice_bounds-chars-end-5 c = omega (arith, filled_length (file-put (goal.at.slice_bounds-chars-end-5 c).After-put_digits-4))
+
+pub returns : goal.returns
+returns c = simp (not-false c.args.fit c.if-not-fit.false-raw) (refl, ((fill 4 1 c.args.column c.put_digits-5.new.part (file-put (goal.at.returns c).After-put_digits-4) c.put_digits-5.ensures)).is ∙ all-fields ((record { kind = c.args.kind; site = c.args.site; value = c.args.value; file = c.args.file; column = c.args.column })))

@@ -1,0 +1,17 @@
+-- `names::first_bad` meets its contract. The invariant: a line of either text begins for this row, and no row before it
+-- is bad. The measure is how many rows are left. Assumes nothing.
+use Rattle.std.proofs.Common.{rules}
+use Prim.Native.Nat.{◌-◌, ◌≤◌}
+use mathlib.Core.Path.{◌≡◌, refl, ap, ◌∙◌, sym}
+use native.Mathlib.Omega.{arith}
+use borrow.Author.Tests.{not-true, not-false}
+use Rattle.names.specs.Names.{is_name, bad_from, first_bad}
+use Rattle.names.proofs.Lines.{Begins, begins-next, shown-parts}
+use Rattle.names.proofs.Names.{bad-start, bad-here, bad-on, bad-end}
+use Rattle.names.proofs.first_bad.Given as goal
+
+abbrev pub invariant-loop-row : goal.invariant-loop-row
+invariant-loop-row l = (l.row ≤ l.count) × Begins l.project l.row l.a × Begins l.stock l.row l.b × (bad_from l.project l.stock l.row (l.count - l.row) ≡ first_bad l.project l.stock l.count)
+
+abbrev pub decreases-loop-row : goal.decreases-loop-row
+decreases-loop-row l = l.count - l.row

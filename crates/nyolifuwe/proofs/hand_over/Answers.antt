@@ -1,0 +1,20 @@
+-- `nyolifuwe::hand_over` meets its contract: a case for each answer. Assumes nothing.
+use mathlib.Core.List.{[], ◌∷◌}
+use mathlib.Core.Path.{ap, sym}
+use native.Mathlib.Omega.{arith}
+use Rattle.nyolifuwe.specs.Inside.{line_in}
+use Rattle.nyolifuwe.specs.Engines.{numbered}
+use Rattle.nyolifuwe.proofs.Decided.{refused, given}
+use Rattle.std.proofs.Common.{rules}
+use Rattle.nyolifuwe.proofs.hand_over.Goals as goal
+
+pub code-requires : goal.code-requires
+code-requires c = omega (arith, sym (ap line_in c.in-Refused.is))
+
+pub returns-in-Accepted : goal.returns-in-Accepted
+returns-in-Accepted c =
+    let v = c.found-1.given in
+    given (v.0.0 ∷ v.0.1.0 ∷ v.0.1.1.0 ∷ v.0.1.1.1.0 ∷ []) c.args.answer.now _ (ap numbered v.1) c.put.ensures
+
+pub returns-in-Refused : goal.returns-in-Refused
+returns-in-Refused c = rw c.code.ensures (refused _ _ c.args.answer.now (ap numbered c.in-Refused.is))

@@ -1,0 +1,23 @@
+-- `nyolifuwe::hand_why` meets its contract: a case for each answer. Assumes nothing.
+use Prim.Native.Nat.{ℕ}
+use mathlib.Core.List.{List, ◌++◌}
+use mathlib.Core.Path.{ap, sym, ◌∙◌}
+use native.Mathlib.Omega.{arith}
+use lib.ListN.{length, drop}
+use Rattle.nyolifuwe.specs.Inside.{line_asked}
+use Rattle.nyolifuwe.specs.Asking.{numbers_of, why_numbered}
+use Rattle.nyolifuwe.proofs.Decided.{refused, given}
+use Rattle.std.proofs.Common.{rules}
+use Rattle.nyolifuwe.proofs.hand_why.Goals as goal
+
+pub code-requires : goal.code-requires
+code-requires c = omega (arith, sym (ap line_asked c.in-Refused.is))
+
+pub returns-in-Given : goal.returns-in-Given
+returns-in-Given c =
+    let room = c.args.answer.now in
+    let v = c.found-1.given in
+    given (numbers_of v.0.0) room _ (ap why_numbered v.1) (c.put.ensures ∙ ap (λ (l : List ℕ). l ++ drop (length l) room) c.Numbers-of.ensures)
+
+pub returns-in-Refused : goal.returns-in-Refused
+returns-in-Refused c = rw c.code.ensures (refused _ _ c.args.answer.now (ap why_numbered c.in-Refused.is))

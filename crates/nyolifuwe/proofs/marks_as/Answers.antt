@@ -1,0 +1,24 @@
+-- `nyolifuwe::marks_as` meets its contract: the engine's promise with its answer handed over, or no room for the
+-- answer. Assumes nothing.
+use Rattle.trace.specs.Promise.{Engine, Lent}
+use Rattle.nyolifuwe.proofs.Profiled.{plain, answer-line, without-room, with-room}
+use Rattle.std.proofs.Common.{rules}
+use Rattle.nyolifuwe.proofs.marks_as.Goals as goal
+
+pub returns-then-answer-lt4 : goal.returns-then-answer-lt4
+returns-then-answer-lt4 c =
+    let a = c.args in
+    let before : Lent = record { scratch = a.scratch.now; rows = a.rows.now; marks = a.marks.now } in
+    rw c.refuse_room.ensures (without-room a.family plain Engine.marks a.trace.now a.depth a.sites before a.answer.now c.if-answer-lt4.true)
+
+pub hand_over-requires : goal.hand_over-requires
+hand_over-requires c =
+    let a = c.args in
+    let before : Lent = record { scratch = a.scratch.now; rows = a.rows.now; marks = a.marks.now } in
+    (answer-line a.family plain Engine.marks a.trace.now a.depth a.sites before _ c.by_marks-found.result c.by_marks-found.ensures, c.if-answer-lt4.false)
+
+pub returns : goal.returns
+returns c =
+    let a = c.args in
+    let before : Lent = record { scratch = a.scratch.now; rows = a.rows.now; marks = a.marks.now } in
+    with-room a.family plain Engine.marks a.trace.now a.depth a.sites before a.answer.now c.by_marks-found.result _ _ _ c.if-answer-lt4.false c.by_marks-found.ensures c.hand_over.ensures

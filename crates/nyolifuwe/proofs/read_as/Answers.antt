@@ -1,0 +1,39 @@
+-- `nyolifuwe::read_as` meets its contract: each answer is what is decided by the tests that led to it. Assumes
+-- nothing.
+use Prim.Native.Nat.{ℕ}
+use mathlib.Core.List.{List, ◌++◌}
+use mathlib.Core.Path.{ap, ◌∙◌, sym}
+use lib.ListN.{length, drop}
+use Rattle.line.specs.Table.{fields_of}
+use Rattle.nyolifuwe.specs.Lines.{numbers}
+use Rattle.nyolifuwe.proofs.Decided.{refused, given, read_2, read_4, read_as, read_at_0}
+use Rattle.std.proofs.Common.{rules}
+use Rattle.nyolifuwe.proofs.read_as.Goals as goal
+
+pub returns-then-line-ne-LINE : goal.returns-then-line-ne-LINE
+returns-then-line-ne-LINE c =
+    let a = c.args in
+    refused 2 0 a.frame.now (read_2 a.family a.line.now (length a.frame.now) c.if-line-ne-LINE.true)
+
+pub returns-then-frame-lt-FIELDS : goal.returns-then-frame-lt-FIELDS
+returns-then-frame-lt-FIELDS c =
+    let a = c.args in
+    refused 4 0 a.frame.now (read_4 a.family a.line.now (length a.frame.now) c.if-line-ne-LINE.false c.if-frame-lt-FIELDS.true)
+
+pub code-requires : goal.code-requires
+code-requires c =
+    let a = c.args in
+    read_at_0 a.family a.line.now _ _ (sym c.line_as.ensures ∙ c.in-Refused.is)
+
+pub returns-in-Line : goal.returns-in-Line
+returns-in-Line c =
+    let a = c.args in
+    let v = c.f-1.given in
+    let decided = read_as a.family a.line.now (length a.frame.now) c.if-line-ne-LINE.false c.if-frame-lt-FIELDS.false (sym c.line_as.ensures ∙ v.1) in
+    given (numbers (fields_of v.0.1.0)) a.frame.now _ decided (c.put.ensures ∙ ap (λ (l : List ℕ). l ++ drop (length l) a.frame.now) c.fields_of-fields.ensures)
+
+pub returns-in-Refused : goal.returns-in-Refused
+returns-in-Refused c =
+    let a = c.args in
+    let decided = read_as a.family a.line.now (length a.frame.now) c.if-line-ne-LINE.false c.if-frame-lt-FIELDS.false (sym c.line_as.ensures ∙ c.in-Refused.is) in
+    rw c.code.ensures (refused _ _ a.frame.now decided)

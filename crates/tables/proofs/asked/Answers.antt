@@ -1,0 +1,22 @@
+-- `tables::asked` meets its contract: the list is checked, and the rows' factors are those of its entries.
+use Rattle.std.proofs.Common.{rules}
+use Rattle.trace.specs.Promise.{tables}
+use Rattle.walk.specs.Weight.{Factors}
+use Rattle.walk.proofs.Profiled.{list_refused, list_factors, forecast_promise}
+use Rattle.tables.specs.Root.{lent}
+use Rattle.tables.proofs.asked.Goals as goal
+
+pub returns-then-number-ne0 : goal.returns-then-number-ne0
+returns-then-number-ne0 c =
+    let a = c.args in
+    list_refused tables a.text.now a.depth a.sites (lent a.scratch.now a.rows.now) c.requires.t c.requires.is a.count c.requires.count_is a.list c.check-number.result c.check-number.ensures c.if-number-ne0.true
+
+pub accepted-requires : goal.accepted-requires
+accepted-requires c = record { admitted = c.requires; factors = (let a = c.args in list_factors tables a.text.now a.depth a.sites (lent a.scratch.now a.rows.now) c.requires.t c.requires.is a.count c.requires.count_is a.list c.check-number.result c.check-number.ensures c.if-number-ne0.false c.factors-factors.result c.factors-factors.ensures) }
+
+pub returns : goal.returns
+returns c =
+    let a = c.args in
+    let l = c.accepted.new.scratch in
+    forecast_promise tables a.text.now a.depth a.sites (lent a.scratch.now a.rows.now) c.requires.t c.requires.is a.count c.requires.count_is a.list c.check-number.result c.check-number.ensures c.if-number-ne0.left c.factors-factors.result c.factors-factors.ensures
+    c.accepted.result (lent l.0 l.1.0) c.accepted.ensures

@@ -1,0 +1,6 @@
+-- `walk::add` meets its contract: the sum stands where the number stood.
+use Rattle.std.proofs.Common.{rules}
+use Rattle.walk.proofs.add.Goals as goal
+
+pub returns : goal.returns
+returns c = rw c.plus.ensures

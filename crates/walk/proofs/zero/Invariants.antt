@@ -1,0 +1,15 @@
+-- `walk::zero` meets its contract. The invariant: the first `i` numbers are cleared. The measure is what is left.
+use Rattle.std.proofs.Common.{rules}
+use borrow.Author.Fill.{fill_none, fill_more}
+use mathlib.Core.Path.{◌≡◌, refl, ◌∙◌, ap}
+use mathlib.Core.List.{List, ◌++◌}
+use Prim.Native.Nat.{ℕ, ◌≤◌, ◌-◌}
+use native.Mathlib.Omega.{arith}
+use lib.ListN.{length, drop, set, replicate, length-set}
+use Rattle.walk.proofs.zero.Given as goal
+
+abbrev pub invariant-loop-i : goal.invariant-loop-i
+invariant-loop-i l = (l.i ≤ l.n) × (length l.a ≡ length l.initial.a) × (l.a ≡ replicate l.i 0 ++ drop l.i l.initial.a)
+
+abbrev pub decreases-loop-i : goal.decreases-loop-i
+decreases-loop-i l = l.n - l.i

@@ -1,0 +1,6 @@
+-- `why::Seen::then` meets its contract.
+use Rattle.std.proofs.Common.{rules}
+use Rattle.why.proofs.Seen.then.Goals as goal
+
+pub returns : goal.returns
+returns c = rw (c.plus.ensures, c.smaller.ensures)
