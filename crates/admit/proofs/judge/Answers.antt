@@ -14,8 +14,7 @@ judge_whole-requires c = (c.requires, ap glanced c.read_at.ensures ∙ sym c.gla
 pub returns-in-Seen : goal.returns-in-Seen
 returns-in-Seen c =
     let a = c.args in
-    let g = c.frame-1.given in
-    judged-seen a.depth a.sites a.trace.now a.keys.now a.t g.0.0 c.stray-against.result c.updated.result c.updated.ensures (read_at a.trace.now a.t.lines) a.tags.now c.requires.tagged (sym c.glance.ensures ∙ g.1) c.stray-against.ensures
+    judged-seen a.depth a.sites a.trace.now a.keys.now a.t c.in-Seen.frame c.stray-against.result c.updated.result c.updated.ensures (read_at a.trace.now a.t.lines) a.tags.now c.requires.tagged (sym c.glance.ensures ∙ c.in-Seen.is) c.stray-against.ensures
 
 pub returns-in-Other : goal.returns-in-Other
 returns-in-Other c =

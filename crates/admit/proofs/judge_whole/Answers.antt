@@ -8,9 +8,8 @@ use Rattle.admit.proofs.judge_whole.Goals as goal
 pub returns-in-Line : goal.returns-in-Line
 returns-in-Line c =
     let a = c.args in
-    let g = c.read-1.given in
-    rw g.1
-    (λ s. judged-unseen a.depth a.sites s a.keys.now a.t g.0.1.0 c.again-found.result c.updated.result c.updated.ensures g.0.0 (sym (ap glanced g.1) ∙ c.requires.1) c.again-found.ensures.0 _ _ c.again-found.ensures.1.0 c.again-found.ensures.1.1)
+    rw c.in-Line.is
+    (λ s. judged-unseen a.depth a.sites s a.keys.now a.t c.in-Line.frame c.again-found.result c.updated.result c.updated.ensures c.in-Line.field-0 (sym (ap glanced c.in-Line.is) ∙ c.requires.1) c.again-found.ensures.0 _ _ c.again-found.ensures.1.0 c.again-found.ensures.1.1)
 
 pub returns-in-Refused : goal.returns-in-Refused
 returns-in-Refused c =

@@ -8,17 +8,14 @@ use Rattle.folded.proofs.write_folded.Goals as goal
 pub accepted-requires : goal.accepted-requires
 accepted-requires c =
     let a = c.args in
-    let x = c.count-1.given in
-    admitted a.trace.now a.depth a.sites (length a.scratch.now) x.0.0 x.0.1.0 (sym x.1 ∙ c.with_room.ensures)
+    admitted a.trace.now a.depth a.sites (length a.scratch.now) c.in-Accepted.count c.in-Accepted.lines (sym c.in-Accepted.is ∙ c.with_room.ensures)
 
 pub returns-in-Accepted : goal.returns-in-Accepted
 returns-in-Accepted c =
     let a = c.args in
-    let x = c.count-1.given in
-    accepted_folds a.trace.now a.depth a.sites a.project.now a.stock.now a.out.now a.scratch.now x.0.0 x.0.1.0 c.accepted.result _ _ (sym x.1 ∙ c.with_room.ensures) c.accepted.ensures
+    accepted_folds a.trace.now a.depth a.sites a.project.now a.stock.now a.out.now a.scratch.now c.in-Accepted.count c.in-Accepted.lines c.accepted.result _ _ (sym c.in-Accepted.is ∙ c.with_room.ensures) c.accepted.ensures
 
 pub returns-in-Refused : goal.returns-in-Refused
 returns-in-Refused c =
     let a = c.args in
-    let x = c.number-1.given in
-    refused_folds a.trace.now a.depth a.sites a.project.now a.stock.now a.out.now a.scratch.now x.0.0 x.0.1.0 (sym x.1 ∙ c.with_room.ensures)
+    refused_folds a.trace.now a.depth a.sites a.project.now a.stock.now a.out.now a.scratch.now c.in-Refused.number c.in-Refused.line (sym c.in-Refused.is ∙ c.with_room.ensures)

@@ -10,20 +10,17 @@ use Rattle.line.proofs.write_as.Goals as goal
 pub returns-in-Site : goal.returns-in-Site
 returns-in-Site c =
     let g = c.args.family in
-    let v = c.f-1.given in
-    rw v.1 (writes g (Site v.0.0 v.0.1.0) _ _ _ (writable-site g v.0.0 v.0.1.0 (omega arith) (omega arith) (omega arith) (omega arith)) c.put_fields.ensures)
+    rw c.in-Site.is (writes g (Site c.in-Site.site c.in-Site.place) _ _ _ (writable-site g c.in-Site.site c.in-Site.place (omega arith) (omega arith) (omega arith) (omega arith)) c.put_fields.ensures)
 
 pub returns-in-Call : goal.returns-in-Call
 returns-in-Call c =
     let g = c.args.family in
-    let v = c.f-in-Call-1.given in
-    rw v.1 (writes g (Call v.0.0) _ _ _ (writable_call g v.0.0 (omega arith)) c.put_fields-in-Call.ensures)
+    rw c.in-Call.is (writes g (Call c.in-Call.site) _ _ _ (writable_call g c.in-Call.site (omega arith)) c.put_fields-in-Call.ensures)
 
 pub returns-in-Spawn : goal.returns-in-Spawn
 returns-in-Spawn c =
     let g = c.args.family in
-    let v = c.f-in-Spawn-1.given in
-    rw v.1 (writes g (Spawn v.0.0) _ _ _ (writable_spawn g v.0.0 (omega arith) ∙ sym c.in_base-base.ensures) c.put_fields-in-Spawn.ensures)
+    rw c.in-Spawn.is (writes g (Spawn c.in-Spawn.site) _ _ _ (writable_spawn g c.in-Spawn.site (omega arith) ∙ sym c.in_base-base.ensures) c.put_fields-in-Spawn.ensures)
 
 pub returns-in-Sync : goal.returns-in-Sync
 returns-in-Sync c =
@@ -38,20 +35,17 @@ returns-in-Return c =
 pub returns-in-Cost : goal.returns-in-Cost
 returns-in-Cost c =
     let g = c.args.family in
-    let v = c.f-in-Cost-1.given in
-    rw v.1 (writes g (Cost v.0.0) _ _ _ (writable-value (Cost v.0.0) v.0.0 (omega arith)) c.put_fields-in-Cost.ensures)
+    rw c.in-Cost.is (writes g (Cost c.in-Cost.value) _ _ _ (writable-value (Cost c.in-Cost.value) c.in-Cost.value (omega arith)) c.put_fields-in-Cost.ensures)
 
 pub returns-in-Instructions : goal.returns-in-Instructions
 returns-in-Instructions c =
     let g = c.args.family in
-    let v = c.f-in-Instructions-1.given in
-    rw v.1 (writes g (Instructions v.0.0) _ _ _ (writable-value (Instructions v.0.0) v.0.0 (omega arith)) c.put_fields-in-Instructions.ensures)
+    rw c.in-Instructions.is (writes g (Instructions c.in-Instructions.value) _ _ _ (writable-value (Instructions c.in-Instructions.value) c.in-Instructions.value (omega arith)) c.put_fields-in-Instructions.ensures)
 
 pub returns-in-Async : goal.returns-in-Async
 returns-in-Async c =
     let g = c.args.family in
-    let v = c.f-in-Async-1.given in
-    rw v.1 (writes g (Async v.0.0) _ _ _ (writable-async g v.0.0 (omega arith) ∙ ap not (sym c.in_base-base.ensures)) c.put_fields-in-Async.ensures)
+    rw c.in-Async.is (writes g (Async c.in-Async.site) _ _ _ (writable-async g c.in-Async.site (omega arith) ∙ ap not (sym c.in_base-base.ensures)) c.put_fields-in-Async.ensures)
 
 pub returns-in-Finish : goal.returns-in-Finish
 returns-in-Finish c =

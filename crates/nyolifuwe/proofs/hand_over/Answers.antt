@@ -13,8 +13,7 @@ code-requires c = omega (arith, sym (ap line_in c.in-Refused.is))
 
 pub returns-in-Accepted : goal.returns-in-Accepted
 returns-in-Accepted c =
-    let v = c.found-1.given in
-    given (v.0.0 ∷ v.0.1.0 ∷ v.0.1.1.0 ∷ v.0.1.1.1.0 ∷ []) c.args.answer.now _ (ap numbered v.1) c.put.ensures
+    given (c.in-Accepted.work ∷ c.in-Accepted.span ∷ c.in-Accepted.sites ∷ c.in-Accepted.lines ∷ []) c.args.answer.now _ (ap numbered c.in-Accepted.is) c.put.ensures
 
 pub returns-in-Refused : goal.returns-in-Refused
 returns-in-Refused c = rw c.code.ensures (refused _ _ c.args.answer.now (ap numbered c.in-Refused.is))

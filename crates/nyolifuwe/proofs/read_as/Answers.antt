@@ -28,9 +28,8 @@ code-requires c =
 pub returns-in-Line : goal.returns-in-Line
 returns-in-Line c =
     let a = c.args in
-    let v = c.f-1.given in
-    let decided = read_as a.family a.line.now (length a.frame.now) c.if-line-ne-LINE.false c.if-frame-lt-FIELDS.false (sym c.line_as.ensures ∙ v.1) in
-    given (numbers (fields_of v.0.1.0)) a.frame.now _ decided (c.put.ensures ∙ ap (λ (l : List ℕ). l ++ drop (length l) a.frame.now) c.fields_of-fields.ensures)
+    let decided = read_as a.family a.line.now (length a.frame.now) c.if-line-ne-LINE.false c.if-frame-lt-FIELDS.false (sym c.line_as.ensures ∙ c.in-Line.is) in
+    given (numbers (fields_of c.in-Line.f)) a.frame.now _ decided (c.put.ensures ∙ ap (λ (l : List ℕ). l ++ drop (length l) a.frame.now) c.fields_of-fields.ensures)
 
 pub returns-in-Refused : goal.returns-in-Refused
 returns-in-Refused c =

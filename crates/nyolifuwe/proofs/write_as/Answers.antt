@@ -41,9 +41,8 @@ code-requires c =
 pub returns-in-Line : goal.returns-in-Line
 returns-in-Line c =
     let a = c.args in
-    let v = c.f-1.given in
-    let f = v.0.1.0 in
-    let decided = write-framed a.family a.frame.now (length a.out.now) (length a.written.now) c.if-frame-lt-FIELDS.false c.if-out-lt-LINE.false c.if-written-lt1.false _ f (sym c.frame_of.ensures ∙ v.1) in
+    let f = c.in-Line.f in
+    let decided = write-framed a.family a.frame.now (length a.out.now) (length a.written.now) c.if-frame-lt-FIELDS.false c.if-out-lt-LINE.false c.if-written-lt1.false _ f (sym c.frame_of.ensures ∙ c.in-Line.is) in
     let s = c.written_as-line.result.chars in
     let is : s ≡ write_chars_of a.family f = c.written_as-line.ensures.1 in
     let fit : length s ≤ length a.out.now = omega (arith, ap length is, chars-length-of a.family f) in

@@ -7,18 +7,15 @@ use Rattle.why.proofs.ask.Goals as goal
 pub accepted-requires : goal.accepted-requires
 accepted-requires c =
     let a = c.args in
-    let x = c.lines-1.given in
-    admitted-is a.text.now a.depth a.sites a.scratch.now a.marks.now c.room-enough.result c.room-enough.ensures x.0.0 x.0.1.0 (sym x.1 ∙ c.with_room.ensures)
+    admitted-is a.text.now a.depth a.sites a.scratch.now a.marks.now c.room-enough.result c.room-enough.ensures c.in-Accepted.field-0 c.in-Accepted.lines (sym c.in-Accepted.is ∙ c.with_room.ensures)
 
 pub returns-in-Accepted : goal.returns-in-Accepted
 returns-in-Accepted c =
     let a = c.args in
-    let x = c.lines-1.given in
-    asked-accepted a.text.now a.depth a.sites a.scratch.now a.marks.now c.room-enough.result c.room-enough.ensures x.0.0 x.0.1.0 (sym x.1 ∙ c.with_room.ensures)
+    asked-accepted a.text.now a.depth a.sites a.scratch.now a.marks.now c.room-enough.result c.room-enough.ensures c.in-Accepted.field-0 c.in-Accepted.lines (sym c.in-Accepted.is ∙ c.with_room.ensures)
     a.line c.accepted.result c.accepted.new.scratch c.accepted.new.marks c.accepted.ensures
 
 pub returns-in-Refused : goal.returns-in-Refused
 returns-in-Refused c =
     let a = c.args in
-    let x = c.number-1.given in
-    asked-refused a.text.now a.depth a.sites a.scratch.now a.marks.now c.room-enough.result c.room-enough.ensures a.line x.0.0 x.0.1.0 (sym x.1 ∙ c.with_room.ensures)
+    asked-refused a.text.now a.depth a.sites a.scratch.now a.marks.now c.room-enough.result c.room-enough.ensures a.line c.in-Refused.number c.in-Refused.line (sym c.in-Refused.is ∙ c.with_room.ensures)
