@@ -11,10 +11,7 @@ use native.Mathlib.Omega.{arith}
 use mathlib.Core.Path.{◌≡◌, ◌∙◌, ap}
 use Rattle.std.proofs.Common.{rules}
 use Rattle.marks.proofs.accepted.Goals as goal
-use Rattle.marks.proofs.accepted.Goals.{After-body-f, After-zero-2}
-
-blank : (c : After-zero-2) → Blank c.requires.admitted c.zero.new.a c.zero-2.new.a
-blank c = record { scratch_is = c.zero.ensures ∙ cleared-all c.args.scratch.now; rows_are = c.zero-2.ensures }
+use Rattle.marks.proofs.accepted.Goals.{After-body-f}
 
 read : (c : After-body-f) → Read c.requires.admitted (by_asking c.args.asking.now) ((factors_tabled c.args.asking.now c.requires.factors)) c.credit_of-before.result c.body-f.result (c.body-f.new.t) (c.body-f.new.marks) (c.body-f.new.rows)
 read c =
@@ -39,13 +36,13 @@ pub zero-requires-2 : goal.zero-requires-2
 zero-requires-2 c = rows_in c.requires.admitted
 
 pub credit_of-before-requires : goal.credit_of-before-requires
-credit_of-before-requires c = credit_asks _ (blank (goal.at.credit_of-before-requires c).After-zero-2)
+credit_of-before-requires c = credit_asks _ ((record { scratch_is = c.zero.ensures ∙ cleared-all c.args.scratch.now; rows_are = c.zero-2.ensures }))
 
 pub overflow_sub-depth : goal.overflow_sub-depth
 overflow_sub-depth c = (bounds c.requires.admitted).0
 
 pub body-f-requires : goal.body-f-requires
-body-f-requires c = body-asks c.requires.admitted (by_asking c.args.asking.now) ((factors_tabled c.args.asking.now c.requires.factors)) (blank (goal.at.body-f-requires c).After-zero-2)
+body-f-requires c = body-asks c.requires.admitted (by_asking c.args.asking.now) ((factors_tabled c.args.asking.now c.requires.factors)) ((record { scratch_is = c.zero.ensures ∙ cleared-all c.args.scratch.now; rows_are = c.zero-2.ensures }))
 
 pub returned-requires : goal.returned-requires
 returned-requires c = count-asks _ _ _ (read (goal.at.returned-requires c).After-body-f)

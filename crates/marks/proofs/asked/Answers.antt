@@ -18,5 +18,5 @@ pub returns : goal.returns
 returns c =
     let a = c.args in
     let l = c.accepted.new.scratch in
-    forecast_promise marks a.text.now a.depth a.sites (lent a.scratch.now a.marks.now a.rows.now) c.requires.frames c.requires.is a.count c.requires.count_is a.list c.check-number.result c.check-number.ensures c.if-number-ne0.left c.factors-factors.result c.factors-factors.ensures
+    forecast_promise marks a.text.now a.depth a.sites (lent a.scratch.now a.marks.now a.rows.now) c.requires.frames c.requires.is a.count c.requires.count_is a.list c.check-number.result c.check-number.ensures c.if-number-ne0.false c.factors-factors.result c.factors-factors.ensures
     c.accepted.result (lent l.0 l.1.0 l.1.1.0) c.accepted.ensures

@@ -14,11 +14,11 @@ loop-at-init c =
 
 pub on_line-a-requires : goal.on_line-a-requires
 on_line-a-requires c =
-    turn-asks c.loop-at.inv c.loop-at-test.taken c.requires
+    turn-asks c.loop-at.invariant c.loop-at-test.true c.requires
 
 pub loop-at-preserved : goal.loop-at-preserved
 loop-at-preserved c =
-    turn_again c.loop-at.inv c.loop-at-test.taken c.on_line-a.result c.on_line-a.new.t c.on_line-a.new.rows c.on_line-a.auto.rows c.on_line-a.ensures
+    turn_again c.loop-at.invariant c.loop-at-test.true c.on_line-a.result c.on_line-a.new.t c.on_line-a.new.rows c.on_line-a.auto.rows c.on_line-a.ensures
 
 pub returns : goal.returns
 returns c = record { column_leaves = turn-done c.loop-at.invariant c.loop-at-test.false; t_unchanged = (turn-zero c.loop-at.invariant c.loop-at-test.false c.requires) }

@@ -11,10 +11,11 @@ use native.Mathlib.Omega.{arith}
 use mathlib.Core.Path.{◌≡◌, ◌∙◌, ap}
 use Rattle.std.proofs.Common.{rules}
 use Rattle.marks.proofs.finish_accepted.Goals as goal
-use Rattle.marks.proofs.finish_accepted.Goals.{After-finish_body-f, After-zero-2}
+use Rattle.marks.proofs.finish_accepted.Goals.{After-finish_body-f}
 
-blank : (c : After-zero-2) → Blank c.requires c.zero.new.a c.zero-2.new.a
-blank c = record { scratch_is = c.zero.ensures ∙ cleared-all c.args.scratch.now; rows_are = c.zero-2.ensures }
+-- a cost stays in the table
+tabled : Tabled (by_asking [])
+tabled = factors_tabled [] no_factors
 
 read : (c : After-finish_body-f) → Read c.requires (by_asking []) tabled c.credit_of-credit.result c.finish_body-f.result (c.finish_body-f.new.t) (c.finish_body-f.new.marks) (c.finish_body-f.new.rows)
 read c =
@@ -29,10 +30,6 @@ read c =
       leaves = c.finish_body-f.ensures.body_leaves;
     }
 
--- a cost stays in the table
-tabled : Tabled (by_asking [])
-tabled = factors_tabled [] no_factors
-
 pub overflow_add-count : goal.overflow_add-count
 overflow_add-count c = let l = bounds c.requires in omega (arith, l.2, l.3)
 
@@ -43,13 +40,13 @@ pub zero-requires-2 : goal.zero-requires-2
 zero-requires-2 c = rows_in c.requires
 
 pub credit_of-credit-requires : goal.credit_of-credit-requires
-credit_of-credit-requires c = credit_asks _ (blank (goal.at.credit_of-credit-requires c).After-zero-2)
+credit_of-credit-requires c = credit_asks _ ((record { scratch_is = c.zero.ensures ∙ cleared-all c.args.scratch.now; rows_are = c.zero-2.ensures }))
 
 pub overflow_sub-depth : goal.overflow_sub-depth
 overflow_sub-depth c = (bounds c.requires).0
 
 pub finish_body-f-requires : goal.finish_body-f-requires
-finish_body-f-requires c = body-asks c.requires (by_asking []) tabled (blank (goal.at.finish_body-f-requires c).After-zero-2)
+finish_body-f-requires c = body-asks c.requires (by_asking []) tabled ((record { scratch_is = c.zero.ensures ∙ cleared-all c.args.scratch.now; rows_are = c.zero-2.ensures }))
 
 pub returned-requires : goal.returned-requires
 returned-requires c = count-asks _ _ _ (read (goal.at.returned-requires c).After-finish_body-f)

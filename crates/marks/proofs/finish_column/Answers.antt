@@ -15,11 +15,11 @@ loop-at-init c =
 
 pub finish_on_line-a-requires : goal.finish_on_line-a-requires
 finish_on_line-a-requires c =
-    turn-asks c.loop-at.inv c.loop-at-test.taken c.requires
+    turn-asks c.loop-at.invariant c.loop-at-test.true c.requires
 
 pub loop-at-preserved : goal.loop-at-preserved
 loop-at-preserved c =
-    turn_again c.loop-at.inv c.loop-at-test.taken c.finish_on_line-a.result c.finish_on_line-a.new.t c.finish_on_line-a.new.rows c.finish_on_line-a.auto.rows c.finish_on_line-a.ensures
+    turn_again c.loop-at.invariant c.loop-at-test.true c.finish_on_line-a.result c.finish_on_line-a.new.t c.finish_on_line-a.new.rows c.finish_on_line-a.auto.rows c.finish_on_line-a.ensures
 
 pub returns : goal.returns
 returns c = record { column_leaves = turn-done c.loop-at.invariant c.loop-at-test.false; t_unchanged = (turn-zero c.loop-at.invariant c.loop-at-test.false c.requires) }

@@ -6,19 +6,19 @@ use Rattle.marks.proofs.finish_on_line.Goals as goal
 
 pub add_marked-requires : goal.add_marked-requires
 add_marked-requires c =
-    let a = add-asks c.requires c.finish_kind_at-kind.result c.finish_kind_at-kind.ensures c.if-kind-eq6.taken in
+    let a = add-asks c.requires c.finish_kind_at-kind.result c.finish_kind_at-kind.ensures c.if-kind-eq6.true in
     (a.0, (a.1, a.2))
 
 pub returns-then-kind-eq6 : goal.returns-then-kind-eq6
 returns-then-kind-eq6 c =
-    cost-leaves c.requires c.finish_kind_at-kind.result c.finish_kind_at-kind.ensures c.if-kind-eq6.taken c.add_marked.new.rows c.add_marked.ensures
+    cost-leaves c.requires c.finish_kind_at-kind.result c.finish_kind_at-kind.ensures c.if-kind-eq6.true c.add_marked.new.rows c.add_marked.ensures
 
 pub leave-requires : goal.leave-requires
 leave-requires c = leave-asks c.requires
 
 pub returns-then-kind-eq5 : goal.returns-then-kind-eq5
 returns-then-kind-eq5 c =
-    return_leaves c.requires c.finish_kind_at-kind.result c.finish_kind_at-kind.ensures c.if-kind-eq5.taken c.leave.result c.leave.new.t c.leave.ensures
+    return_leaves c.requires c.finish_kind_at-kind.result c.finish_kind_at-kind.ensures c.if-kind-eq5.true c.leave.result c.leave.new.t c.leave.ensures
 
 pub returns-then-kind-eq7 : goal.returns-then-kind-eq7
 returns-then-kind-eq7 c =
@@ -33,4 +33,4 @@ enter-requires c = enter_asks c.requires
 
 pub returns : goal.returns
 returns c =
-    enter_leaves c.requires c.finish_kind_at-kind.result c.finish_kind_at-kind.ensures c.row_of.result c.row_of.ensures c.if-kind-eq6.left c.if-kind-eq5.left c.if-kind-eq7.left c.if-kind-eq1.left c.enter.result c.enter.new.t c.enter.ensures.value c.enter.ensures.t_after
+    enter_leaves c.requires c.finish_kind_at-kind.result c.finish_kind_at-kind.ensures c.row_of.result c.row_of.ensures c.if-kind-eq6.false c.if-kind-eq5.false c.if-kind-eq7.false c.if-kind-eq1.false c.enter.result c.enter.new.t c.enter.ensures.value c.enter.ensures.t_after

@@ -13,7 +13,7 @@ wipe_lines-requires c =
 
 pub returns-then-later : goal.returns-then-later
 returns-then-later c =
-    rw (c.prefix.ensures, c.joined.ensures) (join_since c.args.marks.now c.args.z c.requires.room c.wipe_lines.new.marks c.wipe_lines.ensures c.later_heavier-later.result c.later_heavier-later.ensures c.if-later.taken)
+    rw (c.prefix.ensures, c.joined.ensures) (join_since c.args.marks.now c.args.z c.requires.room c.wipe_lines.new.marks c.wipe_lines.ensures c.later_heavier-later.result c.later_heavier-later.ensures c.if-later.true)
 
 pub wipe_lines-requires-2 : goal.wipe_lines-requires-2
 wipe_lines-requires-2 c =
@@ -22,4 +22,4 @@ wipe_lines-requires-2 c =
 
 pub returns : goal.returns
 returns c =
-    rw (c.prefix-2.ensures, c.joined-2.ensures) (join_longest c.args.marks.now c.args.z c.requires.room c.wipe_lines-2.new.marks c.wipe_lines-2.ensures c.later_heavier-later.result c.later_heavier-later.ensures c.if-later.left)
+    rw (c.prefix-2.ensures, c.joined-2.ensures) (join_longest c.args.marks.now c.args.z c.requires.room c.wipe_lines-2.new.marks c.wipe_lines-2.ensures c.later_heavier-later.result c.later_heavier-later.ensures c.if-later.false)

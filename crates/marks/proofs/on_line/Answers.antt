@@ -11,14 +11,14 @@ add_marked-requires c =
 
 pub returns-then-kind-eq6 : goal.returns-then-kind-eq6
 returns-then-kind-eq6 c =
-    cost-leaves c.requires c.kind_at-kind.result c.kind_at-kind.ensures c.if-kind-eq6.taken c.add_marked.new.rows c.add_marked.ensures
+    cost-leaves c.requires c.kind_at-kind.result c.kind_at-kind.ensures c.if-kind-eq6.true c.add_marked.new.rows c.add_marked.ensures
 
 pub leave-requires : goal.leave-requires
 leave-requires c = leave-asks c.requires
 
 pub returns-then-kind-eq5 : goal.returns-then-kind-eq5
 returns-then-kind-eq5 c =
-    return_leaves c.requires c.kind_at-kind.result c.kind_at-kind.ensures c.if-kind-eq5.taken c.leave.result c.leave.new.t c.leave.ensures
+    return_leaves c.requires c.kind_at-kind.result c.kind_at-kind.ensures c.if-kind-eq5.true c.leave.result c.leave.new.t c.leave.ensures
 
 pub returns-then-kind-eq4 : goal.returns-then-kind-eq4
 returns-then-kind-eq4 c =
@@ -37,4 +37,4 @@ enter-requires c = enter_asks c.requires
 
 pub returns : goal.returns
 returns c =
-    child-leaves c.requires c.kind_at-kind.result c.kind_at-kind.ensures c.site_at.result c.site_at.ensures c.if-kind-eq6.left c.if-kind-eq5.left c.if-kind-eq4.left c.if-kind-eq7.left c.if-kind-eq1.left c.enter.result c.enter.new.t c.enter.ensures.value c.enter.ensures.t_after
+    child-leaves c.requires c.kind_at-kind.result c.kind_at-kind.ensures c.site_at.result c.site_at.ensures c.if-kind-eq6.false c.if-kind-eq5.false c.if-kind-eq4.false c.if-kind-eq7.false c.if-kind-eq1.false c.enter.result c.enter.new.t c.enter.ensures.value c.enter.ensures.t_after

@@ -6,22 +6,14 @@ use Rattle.marks.proofs.Whole.{admitted, refuses, plain}
 use mathlib.Core.Path.{◌∙◌, sym}
 use Rattle.std.proofs.Common.{rules}
 use Rattle.marks.proofs.profile.Goals as goal
-use Rattle.marks.proofs.profile.Goals.{In-Accepted-2}
-
--- the verdict was told
-is-admitted : (c : In-Accepted-2) → (
-    let a = c.args in Admitted Base a.text.now a.depth a.sites (lent a.scratch.now a.marks.now a.rows.now) c.count-1.given.0.0 c.count-1.given.0.1.0)
-is-admitted c =
-    let a = c.args in
-    admitted Base a.text.now a.depth a.sites (lent a.scratch.now a.marks.now a.rows.now) c.count-1.given.0.0 c.count-1.given.0.1.0 (sym c.count-1.given.1 ∙ c.for_marks.ensures)
 
 pub accepted-requires : goal.accepted-requires
-accepted-requires c = record { admitted = is-admitted (goal.at.accepted-requires c).In-Accepted-2; factors = no_factors }
+accepted-requires c = record { admitted = (let a = c.args in admitted Base a.text.now a.depth a.sites (lent a.scratch.now a.marks.now a.rows.now) c.in-Accepted.count c.in-Accepted.lines (sym c.in-Accepted.is ∙ c.for_marks.ensures)); factors = no_factors }
 
 pub returns-in-Accepted : goal.returns-in-Accepted
 returns-in-Accepted c =
     let l = c.accepted.new.scratch in
-    plain (is-admitted (goal.at.returns-in-Accepted c).In-Accepted-2) c.accepted.result (lent l.0 l.1.0 l.1.1.0) c.accepted.ensures
+    plain ((let a = c.args in admitted Base a.text.now a.depth a.sites (lent a.scratch.now a.marks.now a.rows.now) c.in-Accepted.count c.in-Accepted.lines (sym c.in-Accepted.is ∙ c.for_marks.ensures))) c.accepted.result (lent l.0 l.1.0 l.1.1.0) c.accepted.ensures
 
 pub returns-in-Refused : goal.returns-in-Refused
 returns-in-Refused c =

@@ -16,7 +16,7 @@ code-requires c = omega (arith, sym (ap line_asked c.in-Refused.is))
 pub returns-in-Given : goal.returns-in-Given
 returns-in-Given c =
     let room = c.args.answer.now in
-    given (numbers_of c.in-Given.why) room _ (ap why_numbered c.in-Given.is) (c.put.ensures ∙ ap (λ (l : List ℕ). l ++ drop (length l) room) c.Numbers-of.ensures)
+    given (numbers_of c.in-Given.why) room _ (ap why_numbered c.in-Given.is) (c.put.ensures ∙ ap (λ (l : List ℕ). l ++ drop (length l) room) c.numbers_of-numbers.ensures)
 
 pub returns-in-Refused : goal.returns-in-Refused
 returns-in-Refused c = rw c.code.ensures (refused _ _ c.args.answer.now (ap why_numbered c.in-Refused.is))

@@ -11,10 +11,7 @@ use Rattle.walk.proofs.Weight.{factors_tabled}
 use Rattle.walk.proofs.Zeros.{cleared-all}
 use Rattle.tables.proofs.Whole.{limits, rows-room, table-room, Blank, credit_asks, root-asks, Read, root_counts, promised}
 use Rattle.tables.proofs.accepted.Goals as goal
-use Rattle.tables.proofs.accepted.Goals.{After-body-f, After-zero-2}
-
-blank : (c : After-zero-2) → Blank c.requires.admitted c.zero.new.a c.zero-2.new.a
-blank c = record { scratch_is = c.zero.ensures ∙ cleared-all c.args.scratch.now; rows_are = c.zero-2.ensures }
+use Rattle.tables.proofs.accepted.Goals.{After-body-f}
 
 read : (c : After-body-f) → Read c.requires.admitted (by_asking c.args.asking.now) ((factors_tabled c.args.asking.now c.requires.factors)) c.credit_of-before.result c.body-f.result (c.body-f.new.t) (c.body-f.new.rows)
 read c =
@@ -38,7 +35,7 @@ pub zero-requires-2 : goal.zero-requires-2
 zero-requires-2 c = rows-room c.requires.admitted
 
 pub credit_of-before-requires : goal.credit_of-before-requires
-credit_of-before-requires c = credit_asks c.requires.admitted (blank (goal.at.credit_of-before-requires c).After-zero-2)
+credit_of-before-requires c = credit_asks c.requires.admitted ((record { scratch_is = c.zero.ensures ∙ cleared-all c.args.scratch.now; rows_are = c.zero-2.ensures }))
 
 pub overflow_sub-depth : goal.overflow_sub-depth
 overflow_sub-depth c = (limits c.requires.admitted).0
@@ -50,7 +47,7 @@ pub overflow_mul-count-2 : goal.overflow_mul-count-2
 overflow_mul-count-2 c = let l = limits c.requires.admitted in omega (arith, l.2, l.3)
 
 pub body-f-requires : goal.body-f-requires
-body-f-requires c = root-asks c.requires.admitted (by_asking c.args.asking.now) ((factors_tabled c.args.asking.now c.requires.factors)) (blank (goal.at.body-f-requires c).After-zero-2)
+body-f-requires c = root-asks c.requires.admitted (by_asking c.args.asking.now) ((factors_tabled c.args.asking.now c.requires.factors)) ((record { scratch_is = c.zero.ensures ∙ cleared-all c.args.scratch.now; rows_are = c.zero-2.ensures }))
 
 pub returned-requires : goal.returned-requires
 returned-requires c = root_counts _ _ _ (read (goal.at.returned-requires c).After-body-f)

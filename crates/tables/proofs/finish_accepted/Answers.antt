@@ -11,10 +11,14 @@ use Rattle.walk.proofs.Weight.{factors_tabled, no_factors}
 use Rattle.walk.proofs.Zeros.{cleared-all}
 use Rattle.tables.proofs.Whole.{limits, rows-room, table-room, Blank, credit_asks, root-asks, Read, root_counts, promised}
 use Rattle.tables.proofs.finish_accepted.Goals as goal
-use Rattle.tables.proofs.finish_accepted.Goals.{After-finish_body-f, After-zero-2}
+use Rattle.tables.proofs.finish_accepted.Goals.{After-finish_body-f}
 
-blank : (c : After-zero-2) → Blank c.requires c.zero.new.a c.zero-2.new.a
-blank c = record { scratch_is = c.zero.ensures ∙ cleared-all c.args.scratch.now; rows_are = c.zero-2.ensures }
+-- each cost weighs as it stands, and stays in the table
+abbrev how : Weigh
+how = by_asking []
+
+tabled : Tabled how
+tabled = factors_tabled [] no_factors
 
 read : (c : After-finish_body-f) → Read c.requires how tabled c.credit_of-before.result c.finish_body-f.result (c.finish_body-f.new.t) (c.finish_body-f.new.rows)
 read c =
@@ -28,13 +32,6 @@ read c =
       leaves = c.finish_body-f.ensures;
     }
 
--- each cost weighs as it stands, and stays in the table
-abbrev how : Weigh
-how = by_asking []
-
-tabled : Tabled how
-tabled = factors_tabled [] no_factors
-
 pub overflow_add-count : goal.overflow_add-count
 overflow_add-count c = let l = limits c.requires in omega (arith, l.2, l.3)
 
@@ -45,7 +42,7 @@ pub zero-requires-2 : goal.zero-requires-2
 zero-requires-2 c = rows-room c.requires
 
 pub credit_of-before-requires : goal.credit_of-before-requires
-credit_of-before-requires c = credit_asks c.requires (blank (goal.at.credit_of-before-requires c).After-zero-2)
+credit_of-before-requires c = credit_asks c.requires ((record { scratch_is = c.zero.ensures ∙ cleared-all c.args.scratch.now; rows_are = c.zero-2.ensures }))
 
 pub overflow_sub-depth : goal.overflow_sub-depth
 overflow_sub-depth c = (limits c.requires).0
@@ -57,7 +54,7 @@ pub overflow_mul-count-2 : goal.overflow_mul-count-2
 overflow_mul-count-2 c = let l = limits c.requires in omega (arith, l.2, l.3)
 
 pub finish_body-f-requires : goal.finish_body-f-requires
-finish_body-f-requires c = root-asks c.requires how tabled (blank (goal.at.finish_body-f-requires c).After-zero-2)
+finish_body-f-requires c = root-asks c.requires how tabled ((record { scratch_is = c.zero.ensures ∙ cleared-all c.args.scratch.now; rows_are = c.zero-2.ensures }))
 
 pub returned-requires : goal.returned-requires
 returned-requires c = root_counts _ _ _ (read (goal.at.returned-requires c).After-finish_body-f)

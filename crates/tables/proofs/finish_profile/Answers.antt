@@ -5,21 +5,13 @@ use Rattle.tables.proofs.Whole.{admitted, refuses, plain}
 use mathlib.Core.Path.{◌∙◌, sym}
 use Rattle.std.proofs.Common.{rules}
 use Rattle.tables.proofs.finish_profile.Goals as goal
-use Rattle.tables.proofs.finish_profile.Goals.{In-Accepted-2}
-
--- the verdict was told
-is-admitted : (c : In-Accepted-2) → (
-    let a = c.args in Admitted Finishes a.text.now a.depth a.sites a.scratch.now a.rows.now c.count-1.given.0.0 c.count-1.given.0.1.0)
-is-admitted c =
-    let a = c.args in
-    admitted Finishes a.text.now a.depth a.sites a.scratch.now a.rows.now c.count-1.given.0.0 c.count-1.given.0.1.0 (sym c.count-1.given.1 ∙ c.finish_for_tables.ensures)
 
 pub finish_accepted-requires : goal.finish_accepted-requires
-finish_accepted-requires c = is-admitted (goal.at.finish_accepted-requires c).In-Accepted-2
+finish_accepted-requires c = (let a = c.args in admitted Finishes a.text.now a.depth a.sites a.scratch.now a.rows.now c.in-Accepted.count c.in-Accepted.lines (sym c.in-Accepted.is ∙ c.finish_for_tables.ensures))
 
 pub returns-in-Accepted : goal.returns-in-Accepted
 returns-in-Accepted c =
-    plain (is-admitted (goal.at.returns-in-Accepted c).In-Accepted-2) c.finish_accepted.result c.finish_accepted.new.scratch c.finish_accepted.new.rows c.finish_accepted.ensures
+    plain ((let a = c.args in admitted Finishes a.text.now a.depth a.sites a.scratch.now a.rows.now c.in-Accepted.count c.in-Accepted.lines (sym c.in-Accepted.is ∙ c.finish_for_tables.ensures))) c.finish_accepted.result c.finish_accepted.new.scratch c.finish_accepted.new.rows c.finish_accepted.ensures
 
 pub returns-in-Refused : goal.returns-in-Refused
 returns-in-Refused c =

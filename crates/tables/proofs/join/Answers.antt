@@ -6,14 +6,6 @@ use Rattle.tables.specs.Blocks.{Shows, behind}
 use Rattle.tables.proofs.Held.{some_longest}
 use Rattle.tables.proofs.Steps.{load_fits, prefix_fits, iprefix_fits, join_none, join_since, join_longest, since_takes, longest_takes}
 use Rattle.tables.proofs.join.Goals as goal
-use Rattle.tables.proofs.join.Goals.{After-later_heavier-later}
-
--- a child is the longest: each block shows its own chain
-shows : (c : After-later_heavier-later) → (
-    let r = c.requires.asks in Shows c.args.n c.args.w c.args.t.now (behind r.q r.k) r.g)
-shows c =
-    let r = c.requires.asks in
-    r.holds.later (some_longest c.args.f r.k r.weighs c.if-f-eq0.false)
 
 pub joined-requires : goal.joined-requires
 joined-requires c = ((c.requires.at_bound, omega (arith, load_fits c.requires.asks)))
@@ -25,23 +17,23 @@ returns-then-f-eq0 c =
 pub take_in-requires : goal.take_in-requires
 take_in-requires c =
     let r = c.requires.asks in
-    since_takes c.args.n c.args.w r.blocks c.args.t.now (r.wide c.if-f-eq0.false) (behind r.q r.k) r.g (shows (goal.at.take_in-requires c).After-later_heavier-later) r.even (omega (arith, prefix_fits r)) (omega (arith, iprefix_fits r))
+    since_takes c.args.n c.args.w r.blocks c.args.t.now (r.wide c.if-f-eq0.false) (behind r.q r.k) r.g ((let r = c.requires.asks in r.holds.later (some_longest c.args.f r.k r.weighs c.if-f-eq0.false))) r.even (omega (arith, prefix_fits r)) (omega (arith, iprefix_fits r))
 
 pub joined-requires-then-later : goal.joined-requires-then-later
 joined-requires-then-later c = ((c.requires.at_bound, omega (arith, load_fits c.requires.asks)))
 
 pub returns-then-later : goal.returns-then-later
 returns-then-later c =
-    rw c.joined-then-later.ensures (join_since c.args.n c.args.w c.requires.asks.blocks c.args.t.now c.args.f c.take_in.new.t c.take_in.ensures c.if-f-eq0.left c.later_heavier-later.result c.later_heavier-later.ensures c.if-later.taken)
+    rw c.joined-then-later.ensures (join_since c.args.n c.args.w c.requires.asks.blocks c.args.t.now c.args.f c.take_in.new.t c.take_in.ensures c.if-f-eq0.false c.later_heavier-later.result c.later_heavier-later.ensures c.if-later.true)
 
 pub take_in-requires-2 : goal.take_in-requires-2
 take_in-requires-2 c =
     let r = c.requires.asks in
-    longest_takes c.args.n c.args.w r.blocks c.args.t.now (r.wide c.if-f-eq0.false) (behind r.q r.k) r.g (shows (goal.at.take_in-requires-2 c).After-later_heavier-later) r.even (omega (arith, prefix_fits r)) (omega (arith, iprefix_fits r))
+    longest_takes c.args.n c.args.w r.blocks c.args.t.now (r.wide c.if-f-eq0.false) (behind r.q r.k) r.g ((let r = c.requires.asks in r.holds.later (some_longest c.args.f r.k r.weighs c.if-f-eq0.false))) r.even (omega (arith, prefix_fits r)) (omega (arith, iprefix_fits r))
 
 pub joined-requires-2 : goal.joined-requires-2
 joined-requires-2 c = ((c.requires.at_bound, omega (arith, load_fits c.requires.asks)))
 
 pub returns : goal.returns
 returns c =
-    rw c.joined-2.ensures (join_longest c.args.n c.args.w c.requires.asks.blocks c.args.t.now c.args.f c.take_in-2.new.t c.take_in-2.ensures c.if-f-eq0.left c.later_heavier-later.result c.later_heavier-later.ensures c.if-later.left)
+    rw c.joined-2.ensures (join_longest c.args.n c.args.w c.requires.asks.blocks c.args.t.now c.args.f c.take_in-2.new.t c.take_in-2.ensures c.if-f-eq0.false c.later_heavier-later.result c.later_heavier-later.ensures c.if-later.false)

@@ -16,11 +16,11 @@ take_row-requires c = record { apart = fewer (c.loop-i.i + 2) (omega (arith, c.l
 
 pub loop-i-preserved : goal.loop-i-preserved
 loop-i-preserved c =
-    let in_it : c.loop-i.i + 2 ≤ c.args.stop = omega (arith, c.loop-i-test.taken, c.loop-i.inv.1, c.requires.sums_fit.1.1) in (
-      omega (arith, c.loop-i.inv.0),
-      omega (arith, c.loop-i.inv.1),
-      c.take_row.auto.t ∙ c.loop-i.inv.2,
-      taken_then c.requires.apart c.args.from c.loop-i.i (c.loop-i.i + 2) c.loop-i.inv.0 (omega arith) c.loop-i.t _ c.loop-i.inv.3 (taken-same c.args.stop (c.loop-i.i + 2) (λ k f s w. (s, s)) (λ k f s w. (w, omega arith)) c.take_row.ensures),
+    let in_it : c.loop-i.i + 2 ≤ c.args.stop = omega (arith, c.loop-i-test.true, c.loop-i.invariant.1, c.requires.sums_fit.1.1) in (
+      omega (arith, c.loop-i.invariant.0),
+      omega (arith, c.loop-i.invariant.1),
+      c.take_row.auto.t ∙ c.loop-i.invariant.2,
+      taken_then c.requires.apart c.args.from c.loop-i.i (c.loop-i.i + 2) c.loop-i.invariant.0 (omega arith) c.loop-i.t _ c.loop-i.invariant.3 (taken-same c.args.stop (c.loop-i.i + 2) (λ k f s w. (s, s)) (λ k f s w. (w, omega arith)) c.take_row.ensures),
     )
 
 pub returns : goal.returns
