@@ -15,39 +15,51 @@ loop-left-init c =
     (sym (div-one c.args.word), refl, cleared-none c.args.a c.args.w c.args.t.now 0)
 
 pub overflow_cast-c : goal.overflow_cast-c
-overflow_cast-c c = omega (arith, ( within c.args.word c.loop-left.c c.loop-left.false c.loop-left.invariant.0 (omega (arith, c.ranges.word)) c.loop-left-test.true))
+overflow_cast-c c =
+    let here : (c.loop-left.c < 64) × (count_trailing_zeros 64 c.loop-left.left < 64) = within c.args.word c.loop-left.c c.loop-left.left c.loop-left.invariant.0 (omega (arith, c.ranges.word)) c.loop-left-test.true in
+    omega (arith, here)
 
 pub overflow_add-c : goal.overflow_add-c
-overflow_add-c c = record { fits = omega (arith, ( within c.args.word c.loop-left.c c.loop-left.false c.loop-left.invariant.0 (omega (arith, c.ranges.word)) c.loop-left-test.true)) }
+overflow_add-c c =
+    let here : (c.loop-left.c < 64) × (count_trailing_zeros 64 c.loop-left.left < 64) = within c.args.word c.loop-left.c c.loop-left.left c.loop-left.invariant.0 (omega (arith, c.ranges.word)) c.loop-left-test.true in
+    record { fits = omega (arith, here) }
 
 pub overflow_mul-c : goal.overflow_mul-c
-overflow_mul-c c = omega (arith, ( within c.args.word c.loop-left.c c.loop-left.false c.loop-left.invariant.0 (omega (arith, c.ranges.word)) c.loop-left-test.true))
+overflow_mul-c c =
+    let here : (c.loop-left.c < 64) × (count_trailing_zeros 64 c.loop-left.left < 64) = within c.args.word c.loop-left.c c.loop-left.left c.loop-left.invariant.0 (omega (arith, c.ranges.word)) c.loop-left-test.true in
+    omega (arith, here)
 
 pub clear_next-requires : goal.clear_next-requires
 clear_next-requires c =
-    (omega (arith, c.loop-left.invariant.1, c.requires.0), omega (arith, ( let c.loop-left = c.loop-left in within c.args.word c.loop-left.c c.loop-left.false c.loop-left.invariant.0 (omega (arith, c.ranges.word)) c.loop-left-test.true)))
+    let here : (c.loop-left.c < 64) × (count_trailing_zeros 64 c.loop-left.left < 64) = within c.args.word c.loop-left.c c.loop-left.left c.loop-left.invariant.0 (omega (arith, c.ranges.word)) c.loop-left-test.true in
+    (omega (arith, c.loop-left.invariant.1, c.requires.0), omega (arith, here))
 
 pub overflow_cast-left : goal.overflow_cast-left
-overflow_cast-left c = omega (arith, ( within c.args.word c.loop-left.c c.loop-left.false c.loop-left.invariant.0 (omega (arith, c.ranges.word)) c.loop-left-test.true))
+overflow_cast-left c =
+    let here : (c.loop-left.c < 64) × (count_trailing_zeros 64 c.loop-left.left < 64) = within c.args.word c.loop-left.c c.loop-left.left c.loop-left.invariant.0 (omega (arith, c.ranges.word)) c.loop-left-test.true in
+    omega (arith, here)
 
 pub overflow_shr-left : goal.overflow_shr-left
-overflow_shr-left c = omega (arith, ( within c.args.word c.loop-left.c c.loop-left.false c.loop-left.invariant.0 (omega (arith, c.ranges.word)) c.loop-left-test.true))
+overflow_shr-left c =
+    let here : (c.loop-left.c < 64) × (count_trailing_zeros 64 c.loop-left.left < 64) = within c.args.word c.loop-left.c c.loop-left.left c.loop-left.invariant.0 (omega (arith, c.ranges.word)) c.loop-left-test.true in
+    omega (arith, here)
 
 pub overflow_add-c-in-loop-left : goal.overflow_add-c-in-loop-left
-overflow_add-c-in-loop-left c = record { fits = omega (arith, ( within c.args.word c.loop-left.c c.loop-left.false c.loop-left.invariant.0 (omega (arith, c.ranges.word)) c.loop-left-test.true)) }
+overflow_add-c-in-loop-left c =
+    let here : (c.loop-left.c < 64) × (count_trailing_zeros 64 c.loop-left.left < 64) = within c.args.word c.loop-left.c c.loop-left.left c.loop-left.invariant.0 (omega (arith, c.ranges.word)) c.loop-left-test.true in
+    record { fits = omega (arith, here) }
 
 pub loop-left-smaller : goal.loop-left-smaller
 loop-left-smaller c =
-    falls c.args.word c.loop-left.c c.loop-left.false c.loop-left.invariant.0 (count_trailing_zeros 64 c.loop-left.false) c.loop-left-test.true
+    falls c.args.word c.loop-left.c c.loop-left.left c.loop-left.invariant.0 (count_trailing_zeros 64 c.loop-left.left) c.loop-left-test.true
 
 pub loop-left-preserved : goal.loop-left-preserved
-loop-left-preserved c =
-    (
-      farther c.args.word c.loop-left.c c.loop-left.false c.loop-left.invariant.0 (count_trailing_zeros 64 c.loop-left.false),
-      c.clear_next.auto.t ∙ c.loop-left.invariant.1,
-      clear-on c.args.word c.loop-left.c c.loop-left.false c.loop-left.invariant.0 c.requires.1 c.loop-left.t c.loop-left.invariant.2 c.clear_next.new.t c.clear_next.ensures,
-    )
+loop-left-preserved c = (
+  farther c.args.word c.loop-left.c c.loop-left.left c.loop-left.invariant.0 (count_trailing_zeros 64 c.loop-left.left),
+  c.clear_next.auto.t ∙ c.loop-left.invariant.1,
+  clear-on c.args.word c.loop-left.c c.loop-left.left c.loop-left.invariant.0 c.requires.1 c.loop-left.t c.loop-left.invariant.2 c.clear_next.new.t c.clear_next.ensures,
+)
 
 pub returns : goal.returns
 returns c =
-    clear-done c.args.word c.loop-left.c c.loop-left.false c.loop-left.invariant.0 c.requires.1 c.loop-left.t c.loop-left.invariant.2 (omega arith)
+    clear-done c.args.word c.loop-left.c c.loop-left.left c.loop-left.invariant.0 c.requires.1 c.loop-left.t c.loop-left.invariant.2 (omega arith)

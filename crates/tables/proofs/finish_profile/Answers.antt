@@ -7,11 +7,14 @@ use Rattle.std.proofs.Common.{rules}
 use Rattle.tables.proofs.finish_profile.Goals as goal
 
 pub finish_accepted-requires : goal.finish_accepted-requires
-finish_accepted-requires c = (let a = c.args in admitted Finishes a.text.now a.depth a.sites a.scratch.now a.rows.now c.in-Accepted.count c.in-Accepted.lines (sym c.in-Accepted.is ∙ c.finish_for_tables.ensures))
+finish_accepted-requires c =
+    let is-admitted : (let a = c.args in Admitted Finishes a.text.now a.depth a.sites a.scratch.now a.rows.now c.in-Accepted.count c.in-Accepted.lines) = let a = c.args in admitted Finishes a.text.now a.depth a.sites a.scratch.now a.rows.now c.in-Accepted.count c.in-Accepted.lines (sym c.in-Accepted.is ∙ c.finish_for_tables.ensures) in
+    is-admitted
 
 pub returns-in-Accepted : goal.returns-in-Accepted
 returns-in-Accepted c =
-    plain ((let a = c.args in admitted Finishes a.text.now a.depth a.sites a.scratch.now a.rows.now c.in-Accepted.count c.in-Accepted.lines (sym c.in-Accepted.is ∙ c.finish_for_tables.ensures))) c.finish_accepted.result c.finish_accepted.new.scratch c.finish_accepted.new.rows c.finish_accepted.ensures
+    let is-admitted : (let a = c.args in Admitted Finishes a.text.now a.depth a.sites a.scratch.now a.rows.now c.in-Accepted.count c.in-Accepted.lines) = let a = c.args in admitted Finishes a.text.now a.depth a.sites a.scratch.now a.rows.now c.in-Accepted.count c.in-Accepted.lines (sym c.in-Accepted.is ∙ c.finish_for_tables.ensures) in
+    plain (is-admitted) c.finish_accepted.result c.finish_accepted.new.scratch c.finish_accepted.new.rows c.finish_accepted.ensures
 
 pub returns-in-Refused : goal.returns-in-Refused
 returns-in-Refused c =

@@ -12,7 +12,9 @@ pub child_longer-requires : goal.child_longer-requires
 child_longer-requires c = omega (arith, load_fits c.requires.asks)
 
 pub spawned-requires : goal.spawned-requires
-spawned-requires c = ((c.requires.work_bound, omega (arith, load_fits c.requires.asks)))
+spawned-requires c =
+    let both-fit : (c.args.f.work.0 + c.args.c.work.0 < 2 ^ 64) × (c.args.f.prefix.0 + c.args.f.since.0 < 2 ^ 64) = (c.requires.work_bound, omega (arith, load_fits c.requires.asks)) in
+    both-fit
 
 pub returns-then-f-eq0 : goal.returns-then-f-eq0
 returns-then-f-eq0 c =
@@ -23,11 +25,14 @@ child_longer-longer-requires c = omega (arith, load_fits c.requires.asks)
 
 pub take_in-requires : goal.take_in-requires
 take_in-requires c =
+    let shows : (let r = c.requires.asks in Shows c.args.n c.args.w c.args.t.now (behind r.q r.k) r.g) = let r = c.requires.asks in r.holds.later (some_longest c.args.f r.k r.weighs c.if-f-eq0.false) in
     let r = c.requires.asks in
-    since_takes c.args.n c.args.w r.blocks c.args.t.now (r.wide c.if-f-eq0.false) (behind r.q r.k) r.g ((let r = c.requires.asks in r.holds.later (some_longest c.args.f r.k r.weighs c.if-f-eq0.false))) r.even (omega (arith, prefix_fits r)) (omega (arith, iprefix_fits r))
+    since_takes c.args.n c.args.w r.blocks c.args.t.now (r.wide c.if-f-eq0.false) (behind r.q r.k) r.g (shows) r.even (omega (arith, prefix_fits r)) (omega (arith, iprefix_fits r))
 
 pub spawned-requires-then-longer : goal.spawned-requires-then-longer
-spawned-requires-then-longer c = ((c.requires.work_bound, omega (arith, load_fits c.requires.asks)))
+spawned-requires-then-longer c =
+    let both-fit : (c.args.f.work.0 + c.args.c.work.0 < 2 ^ 64) × (c.args.f.prefix.0 + c.args.f.since.0 < 2 ^ 64) = (c.requires.work_bound, omega (arith, load_fits c.requires.asks)) in
+    both-fit
 
 pub returns-then-longer : goal.returns-then-longer
 returns-then-longer c =
@@ -35,11 +40,14 @@ returns-then-longer c =
 
 pub clear-requires : goal.clear-requires
 clear-requires c =
+    let shows : (let r = c.requires.asks in Shows c.args.n c.args.w c.args.t.now (behind r.q r.k) r.g) = let r = c.requires.asks in r.holds.later (some_longest c.args.f r.k r.weighs c.if-f-eq0.false) in
     let r = c.requires.asks in
-    (omega (arith, r.blocks, r.wide c.if-f-eq0.false), (r.g, ((let r = c.requires.asks in r.holds.later (some_longest c.args.f r.k r.weighs c.if-f-eq0.false))).G))
+    (omega (arith, r.blocks, r.wide c.if-f-eq0.false), (r.g, (shows).G))
 
 pub spawned-requires-2 : goal.spawned-requires-2
-spawned-requires-2 c = ((c.requires.work_bound, omega (arith, load_fits c.requires.asks)))
+spawned-requires-2 c =
+    let both-fit : (c.args.f.work.0 + c.args.c.work.0 < 2 ^ 64) × (c.args.f.prefix.0 + c.args.f.since.0 < 2 ^ 64) = (c.requires.work_bound, omega (arith, load_fits c.requires.asks)) in
+    both-fit
 
 pub returns : goal.returns
 returns c =

@@ -15,40 +15,53 @@ loop-left-init c =
     (sym (div-one c.args.word), refl, taken_none c.requires.apart.0 0)
 
 pub overflow_cast-c : goal.overflow_cast-c
-overflow_cast-c c = omega (arith, ( within c.args.word c.loop-left.c c.loop-left.false c.loop-left.invariant.0 (omega (arith, c.ranges.word)) c.loop-left-test.true))
+overflow_cast-c c =
+    let here : (c.loop-left.c < 64) × (count_trailing_zeros 64 c.loop-left.left < 64) = within c.args.word c.loop-left.c c.loop-left.left c.loop-left.invariant.0 (omega (arith, c.ranges.word)) c.loop-left-test.true in
+    omega (arith, here)
 
 pub overflow_add-c : goal.overflow_add-c
-overflow_add-c c = record { fits = omega (arith, ( within c.args.word c.loop-left.c c.loop-left.false c.loop-left.invariant.0 (omega (arith, c.ranges.word)) c.loop-left-test.true)) }
+overflow_add-c c =
+    let here : (c.loop-left.c < 64) × (count_trailing_zeros 64 c.loop-left.left < 64) = within c.args.word c.loop-left.c c.loop-left.left c.loop-left.invariant.0 (omega (arith, c.ranges.word)) c.loop-left-test.true in
+    record { fits = omega (arith, here) }
 
 pub overflow_mul-c : goal.overflow_mul-c
-overflow_mul-c c = omega (arith, ( within c.args.word c.loop-left.c c.loop-left.false c.loop-left.invariant.0 (omega (arith, c.ranges.word)) c.loop-left-test.true))
+overflow_mul-c c =
+    let here : (c.loop-left.c < 64) × (count_trailing_zeros 64 c.loop-left.left < 64) = within c.args.word c.loop-left.c c.loop-left.left c.loop-left.invariant.0 (omega (arith, c.ranges.word)) c.loop-left-test.true in
+    omega (arith, here)
 
 pub take_next-requires : goal.take_next-requires
 take_next-requires c =
-    (apart_in c.loop-left.t c.loop-left.invariant.1 c.requires.apart.0, (sums-fit c.requires.apart.0 c.requires.sums_fit.0 0 (8 * c.loop-left.c) c.loop-left.t c.loop-left.invariant.2, (omega (arith, ( let c.loop-left = c.loop-left in within c.args.word c.loop-left.c c.loop-left.false c.loop-left.invariant.0 (omega (arith, c.ranges.word)) c.loop-left-test.true)), (omega arith, c.requires.apart.1))))
+    let here : (c.loop-left.c < 64) × (count_trailing_zeros 64 c.loop-left.left < 64) = within c.args.word c.loop-left.c c.loop-left.left c.loop-left.invariant.0 (omega (arith, c.ranges.word)) c.loop-left-test.true in
+    record { apart = apart_in c.loop-left.t c.loop-left.invariant.1 c.requires.apart.0; sums_fit = sums-fit c.requires.apart.0 c.requires.sums_fit 0 (8 * c.loop-left.c) c.loop-left.t c.loop-left.invariant.2; from_bound = (omega (arith, here), (omega arith, c.requires.apart.1)) }
 
 pub overflow_cast-left : goal.overflow_cast-left
-overflow_cast-left c = omega (arith, ( within c.args.word c.loop-left.c c.loop-left.false c.loop-left.invariant.0 (omega (arith, c.ranges.word)) c.loop-left-test.true))
+overflow_cast-left c =
+    let here : (c.loop-left.c < 64) × (count_trailing_zeros 64 c.loop-left.left < 64) = within c.args.word c.loop-left.c c.loop-left.left c.loop-left.invariant.0 (omega (arith, c.ranges.word)) c.loop-left-test.true in
+    omega (arith, here)
 
 pub overflow_shr-left : goal.overflow_shr-left
-overflow_shr-left c = omega (arith, ( within c.args.word c.loop-left.c c.loop-left.false c.loop-left.invariant.0 (omega (arith, c.ranges.word)) c.loop-left-test.true))
+overflow_shr-left c =
+    let here : (c.loop-left.c < 64) × (count_trailing_zeros 64 c.loop-left.left < 64) = within c.args.word c.loop-left.c c.loop-left.left c.loop-left.invariant.0 (omega (arith, c.ranges.word)) c.loop-left-test.true in
+    omega (arith, here)
 
 pub overflow_add-c-in-loop-left : goal.overflow_add-c-in-loop-left
-overflow_add-c-in-loop-left c = record { fits = omega (arith, ( within c.args.word c.loop-left.c c.loop-left.false c.loop-left.invariant.0 (omega (arith, c.ranges.word)) c.loop-left-test.true)) }
+overflow_add-c-in-loop-left c =
+    let here : (c.loop-left.c < 64) × (count_trailing_zeros 64 c.loop-left.left < 64) = within c.args.word c.loop-left.c c.loop-left.left c.loop-left.invariant.0 (omega (arith, c.ranges.word)) c.loop-left-test.true in
+    record { fits = omega (arith, here) }
 
 pub loop-left-smaller : goal.loop-left-smaller
 loop-left-smaller c =
-    falls c.args.word c.loop-left.c c.loop-left.false c.loop-left.invariant.0 (count_trailing_zeros 64 c.loop-left.false) c.loop-left-test.true
+    falls c.args.word c.loop-left.c c.loop-left.left c.loop-left.invariant.0 (count_trailing_zeros 64 c.loop-left.left) c.loop-left-test.true
 
 pub loop-left-preserved : goal.loop-left-preserved
 loop-left-preserved c =
-    let p = c.requires.sums_fit.1 in (
-      farther c.args.word c.loop-left.c c.loop-left.false c.loop-left.invariant.0 (count_trailing_zeros 64 c.loop-left.false),
+    let p = c.requires.idles in (
+      farther c.args.word c.loop-left.c c.loop-left.left c.loop-left.invariant.0 (count_trailing_zeros 64 c.loop-left.left),
       c.take_next.auto.t ∙ c.loop-left.invariant.1,
-      take_on c.args.word c.loop-left.c c.loop-left.false c.loop-left.invariant.0 c.requires.apart.0 p.0 p.1.0 p.1.1 c.loop-left.t c.loop-left.invariant.1 c.loop-left.invariant.2 c.take_next.new.t c.take_next.ensures,
+      take_on c.args.word c.loop-left.c c.loop-left.left c.loop-left.invariant.0 c.requires.apart.0 p.0 p.1.0 p.1.1 c.loop-left.t c.loop-left.invariant.1 c.loop-left.invariant.2 c.take_next.new.t c.take_next.ensures,
     )
 
 pub returns : goal.returns
 returns c =
-    let p = c.requires.sums_fit.1 in
-    take_done c.args.word c.loop-left.c c.loop-left.false c.loop-left.invariant.0 c.requires.apart.0 p.0 p.1.0 p.1.1 c.loop-left.t c.loop-left.invariant.1 c.loop-left.invariant.2 (omega arith)
+    let p = c.requires.idles in
+    take_done c.args.word c.loop-left.c c.loop-left.left c.loop-left.invariant.0 c.requires.apart.0 p.0 p.1.0 p.1.1 c.loop-left.t c.loop-left.invariant.1 c.loop-left.invariant.2 (omega arith)

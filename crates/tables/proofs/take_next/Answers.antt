@@ -7,7 +7,7 @@ use Rattle.tables.proofs.take_next.Goals as goal
 
 pub take_four-requires : goal.take_four-requires
 take_four-requires c =
-    record { apart = fewer (c.args.from + 8) c.if-from-w.true c.requires.apart; sums_fit = λ k l. c.requires.sums_fit.0 k (omega arith) }
+    record { apart = fewer (c.args.from + 8) c.if-from-w.true c.requires.apart; sums_fit = λ k l. c.requires.sums_fit k (omega arith) }
 
 pub returns-then-from-w : goal.returns-then-from-w
 returns-then-from-w c =

@@ -1,0 +1,48 @@
+-- The readers of the finish family meet their contracts: what each step asks for and leaves is that of the item that is
+-- read.
+use Prim.Native.Nat.{ℕ, ◌+◌, ◌*◌, ◌-◌, ◌<◌}
+use mathlib.Core.List.{List, []}
+use mathlib.Core.Path.{◌≡◌, ap, ◌∙◌}
+use mathlib.Core.Logic.{inl, inr}
+use native.Mathlib.Omega.{arith}
+use Rattle.std.proofs.Common.{rules}
+use Rattle.line.specs.declared.Family.TheVariants.{Finishes}
+use Rattle.trace.specs.Tree.{larger}
+use Rattle.weigh.specs.Weighed.{Weigh}
+use Rattle.walk.specs.declared.Cycles.{Cycles}
+use Rattle.walk.specs.Measure.{cycles}
+use Rattle.walk.specs.Weight.{by_asking}
+use Rattle.tables.proofs.Bodies.{begins, Loop, loop-start, loop-asks, Next, loop-less, loop_again, loop-done, loop-reaches, body-leaves}
+use Rattle.tables.proofs.Items.{line-fits, blocks-fit, join_asks, note-leaves, Costs, rows-asks, spend-asks, cost-leaves, deeper, room, credit_asks, body-asks, Back, back_long, count-asks, called-asks, spawned-asks}
+use Rattle.tables.proofs.Finish.{reach_of, item-keeps, asks-kind, asks-finish, cost-reaches, note-reaches, finish-reaches, Passes, start_fits, call_deeper, call_credit, callee-is, callee-asks, Passed, stop-fits, end_fits, work-before, span-before, call_counts, pass_leaves, pass_reaches, Forks, forked, reached-fits, async-leaves, async-reaches, Nests, nested, finish-leaves}
+use Rattle.tables.proofs.+finish_async_finish_body_finish_call_finish_finish_finish_item_finish_items.Given as goal
+
+-- each cost weighs as it stands
+abbrev pub how : Weigh
+how = by_asking []
+
+-- the depth left falls from what opens to its items; a body is above its items, they above each of them, and it above
+-- what opens
+abbrev pub decreases-finish_async : goal.decreases-finish_async
+decreases-finish_async l = 4 * l.deep
+
+abbrev pub decreases-finish_body : goal.decreases-finish_body
+decreases-finish_body l = 4 * l.deep + 3
+
+abbrev pub decreases-finish_call : goal.decreases-finish_call
+decreases-finish_call l = 4 * l.deep
+
+abbrev pub decreases-finish_finish : goal.decreases-finish_finish
+decreases-finish_finish l = 4 * l.deep
+
+abbrev pub decreases-finish_item : goal.decreases-finish_item
+decreases-finish_item l = 4 * l.deep + 1
+
+abbrev pub decreases-finish_items : goal.decreases-finish_items
+decreases-finish_items l = 4 * l.deep + 2
+
+abbrev pub invariant-finish_items-loop-next : goal.invariant-finish_items-loop-next
+invariant-finish_items-loop-next l = Loop Finishes how l.trace l.row l.deep l.initial.g.around l.initial.t l.initial.rows l.t l.rows (l.w + 1) l.w l.g.around l.next (reach_of l.initial.g) (reach_of l.g)
+
+abbrev pub decreases-finish_items-loop-next : goal.decreases-finish_items-loop-next
+decreases-finish_items-loop-next l = 65536 - l.g.around.at
