@@ -11,20 +11,6 @@ use native.Mathlib.Omega.{arith}
 use mathlib.Core.Path.{◌≡◌, ◌∙◌, ap}
 use Rattle.std.proofs.Common.{rules}
 use Rattle.marks.proofs.accepted.Goals as goal
-use Rattle.marks.proofs.accepted.Goals.{After-body-f}
-
-read : (c : After-body-f) → Read c.requires.admitted (by_asking c.args.asking.now) ((factors_tabled c.args.asking.now c.requires.factors)) c.credit_of-before.result c.body-f.result (c.body-f.new.t) (c.body-f.new.marks) (c.body-f.new.rows)
-read c =
-    record {
-      t₁ = c.zero.new.a;
-      r₁ = c.zero-2.new.a;
-      blank = (record { scratch_is = c.zero.ensures ∙ cleared-all c.args.scratch.now; rows_are = c.zero-2.ensures });
-      taken = c.credit_of-before.ensures;
-      zero = c.body-f.ensures.t_unchanged ∙ ((record { scratch_is = c.zero.ensures ∙ cleared-all c.args.scratch.now; rows_are = c.zero-2.ensures })).scratch_is;
-      marks_same = c.body-f.auto.marks;
-      rows_same = c.body-f.auto.rows ∙ c.zero-2.auto.a;
-      leaves = c.body-f.ensures.body_leaves;
-    }
 
 pub overflow_add-count : goal.overflow_add-count
 overflow_add-count c = let l = bounds c.requires.admitted in omega (arith, l.2, l.3)
@@ -36,21 +22,39 @@ pub zero-requires-2 : goal.zero-requires-2
 zero-requires-2 c = rows_in c.requires.admitted
 
 pub credit_of-before-requires : goal.credit_of-before-requires
-credit_of-before-requires c = credit_asks _ ((record { scratch_is = c.zero.ensures ∙ cleared-all c.args.scratch.now; rows_are = c.zero-2.ensures }))
+credit_of-before-requires c =
+    let blank : Blank c.requires.admitted c.zero.new.a c.zero-2.new.a = record { scratch_is = c.zero.ensures ∙ cleared-all c.args.scratch.now; rows_are = c.zero-2.ensures } in
+    credit_asks _ (blank)
 
 pub overflow_sub-depth : goal.overflow_sub-depth
 overflow_sub-depth c = (bounds c.requires.admitted).0
 
 pub body-f-requires : goal.body-f-requires
-body-f-requires c = body-asks c.requires.admitted (by_asking c.args.asking.now) ((factors_tabled c.args.asking.now c.requires.factors)) ((record { scratch_is = c.zero.ensures ∙ cleared-all c.args.scratch.now; rows_are = c.zero-2.ensures }))
+body-f-requires c =
+    let tabled : Tabled (by_asking c.args.asking.now) = factors_tabled c.args.asking.now c.requires.factors in
+    let blank : Blank c.requires.admitted c.zero.new.a c.zero-2.new.a = record { scratch_is = c.zero.ensures ∙ cleared-all c.args.scratch.now; rows_are = c.zero-2.ensures } in
+    body-asks c.requires.admitted (by_asking c.args.asking.now) (tabled) (blank)
 
 pub returned-requires : goal.returned-requires
-returned-requires c = count-asks _ _ _ (read (goal.at.returned-requires c).After-body-f)
+returned-requires c =
+    let tabled : Tabled (by_asking c.args.asking.now) = factors_tabled c.args.asking.now c.requires.factors in
+    let blank : Blank c.requires.admitted c.zero.new.a c.zero-2.new.a = record { scratch_is = c.zero.ensures ∙ cleared-all c.args.scratch.now; rows_are = c.zero-2.ensures } in
+    let read : Read c.requires.admitted (by_asking c.args.asking.now) (tabled) c.credit_of-before.result c.body-f.result (c.body-f.new.t) (c.body-f.new.marks) (c.body-f.new.rows) = record { t₁ = c.zero.new.a; r₁ = c.zero-2.new.a; blank = blank; taken = c.credit_of-before.ensures; zero = c.body-f.ensures.t_unchanged ∙ (blank).scratch_is; marks_same = c.body-f.auto.marks; rows_same = c.body-f.auto.rows ∙ c.zero-2.auto.a; leaves = c.body-f.ensures.body_leaves } in
+    count-asks _ _ _ (read)
 
 pub column-requires : goal.column-requires
 column-requires c =
-    on-asks _ _ _ (read (goal.at.column-requires c).After-body-f) c.returned.new.rows c.returned.ensures ((c.returned.auto.rows ∙ (read (goal.at.column-requires c).After-body-f).rows_same))
+    let tabled : Tabled (by_asking c.args.asking.now) = factors_tabled c.args.asking.now c.requires.factors in
+    let blank : Blank c.requires.admitted c.zero.new.a c.zero-2.new.a = record { scratch_is = c.zero.ensures ∙ cleared-all c.args.scratch.now; rows_are = c.zero-2.ensures } in
+    let read : Read c.requires.admitted (by_asking c.args.asking.now) (tabled) c.credit_of-before.result c.body-f.result (c.body-f.new.t) (c.body-f.new.marks) (c.body-f.new.rows) = record { t₁ = c.zero.new.a; r₁ = c.zero-2.new.a; blank = blank; taken = c.credit_of-before.ensures; zero = c.body-f.ensures.t_unchanged ∙ (blank).scratch_is; marks_same = c.body-f.auto.marks; rows_same = c.body-f.auto.rows ∙ c.zero-2.auto.a; leaves = c.body-f.ensures.body_leaves } in
+    let counts-long : length c.returned.new.rows ≡ length c.args.rows.now = c.returned.auto.rows ∙ (read).rows_same in
+    on-asks _ _ _ (read) c.returned.new.rows c.returned.ensures (counts-long)
 
 pub returns : goal.returns
 returns c =
-    promised _ _ _ (read (goal.at.returns c).After-body-f) c.returned.new.rows c.returned.ensures ((c.returned.auto.rows ∙ (read (goal.at.returns c).After-body-f).rows_same)) (c.column.new.t) (c.column.new.rows) c.column.ensures.column_leaves c.column.ensures.t_unchanged ((c.column.auto.rows ∙ (c.returned.auto.rows ∙ (read (goal.at.returns c).After-body-f).rows_same)))
+    let tabled : Tabled (by_asking c.args.asking.now) = factors_tabled c.args.asking.now c.requires.factors in
+    let blank : Blank c.requires.admitted c.zero.new.a c.zero-2.new.a = record { scratch_is = c.zero.ensures ∙ cleared-all c.args.scratch.now; rows_are = c.zero-2.ensures } in
+    let read : Read c.requires.admitted (by_asking c.args.asking.now) (tabled) c.credit_of-before.result c.body-f.result (c.body-f.new.t) (c.body-f.new.marks) (c.body-f.new.rows) = record { t₁ = c.zero.new.a; r₁ = c.zero-2.new.a; blank = blank; taken = c.credit_of-before.ensures; zero = c.body-f.ensures.t_unchanged ∙ (blank).scratch_is; marks_same = c.body-f.auto.marks; rows_same = c.body-f.auto.rows ∙ c.zero-2.auto.a; leaves = c.body-f.ensures.body_leaves } in
+    let counts-long : length c.returned.new.rows ≡ length c.args.rows.now = c.returned.auto.rows ∙ (read).rows_same in
+    let rows_long : length (c.column.new.rows) ≡ length c.args.rows.now = c.column.auto.rows ∙ counts-long in
+    promised _ _ _ (read) c.returned.new.rows c.returned.ensures (counts-long) (c.column.new.t) (c.column.new.rows) c.column.ensures.column_leaves c.column.ensures.t_unchanged (rows_long)

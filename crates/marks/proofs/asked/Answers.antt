@@ -12,11 +12,12 @@ returns-then-number-ne0 c =
     list_refused marks a.text.now a.depth a.sites (lent a.scratch.now a.marks.now a.rows.now) c.requires.frames c.requires.is a.count c.requires.count_is a.list c.check-number.result c.check-number.ensures c.if-number-ne0.true
 
 pub accepted-requires : goal.accepted-requires
-accepted-requires c = record { admitted = c.requires; factors = (let a = c.args in list_factors marks a.text.now a.depth a.sites (lent a.scratch.now a.marks.now a.rows.now) c.requires.frames c.requires.is a.count c.requires.count_is a.list c.check-number.result c.check-number.ensures c.if-number-ne0.false c.factors-factors.result c.factors-factors.ensures) }
+accepted-requires c =
+    let factors-good : Factors c.factors-factors.result = let a = c.args in list_factors marks a.text.now a.depth a.sites (lent a.scratch.now a.marks.now a.rows.now) c.requires.frames c.requires.is a.count c.requires.count_is a.list c.check-number.result c.check-number.ensures c.if-number-ne0.false c.factors-factors.result c.factors-factors.ensures in
+    record { admitted = c.requires; factors = factors-good }
 
 pub returns : goal.returns
 returns c =
     let a = c.args in
-    let l = c.accepted.new.scratch in
     forecast_promise marks a.text.now a.depth a.sites (lent a.scratch.now a.marks.now a.rows.now) c.requires.frames c.requires.is a.count c.requires.count_is a.list c.check-number.result c.check-number.ensures c.if-number-ne0.false c.factors-factors.result c.factors-factors.ensures
-    c.accepted.result (lent l.0 l.1.0 l.1.1.0) c.accepted.ensures
+    c.accepted.result (lent c.accepted.new.scratch c.accepted.new.marks c.accepted.new.rows) c.accepted.ensures

@@ -22,4 +22,6 @@ loop-at-preserved c =
     turn_again c.loop-at.invariant c.loop-at-test.true c.finish_on_line-a.result c.finish_on_line-a.new.t c.finish_on_line-a.new.rows c.finish_on_line-a.auto.rows c.finish_on_line-a.ensures
 
 pub returns : goal.returns
-returns c = record { column_leaves = turn-done c.loop-at.invariant c.loop-at-test.false; t_unchanged = (turn-zero c.loop-at.invariant c.loop-at-test.false c.requires) }
+returns c =
+    let zero : c.loop-at.t ≡ c.args.t.now = turn-zero c.loop-at.invariant c.loop-at-test.false c.requires in
+    record { column_leaves = turn-done c.loop-at.invariant c.loop-at-test.false; t_unchanged = zero }

@@ -7,12 +7,14 @@ use Rattle.std.proofs.Common.{rules}
 use Rattle.marks.proofs.finish_profile.Goals as goal
 
 pub finish_accepted-requires : goal.finish_accepted-requires
-finish_accepted-requires c = (let a = c.args in admitted Finishes a.text.now a.depth a.sites (lent a.scratch.now a.marks.now a.rows.now) c.in-Accepted.count c.in-Accepted.lines (sym c.in-Accepted.is ∙ c.finish_for_marks.ensures))
+finish_accepted-requires c =
+    let is-admitted : (let a = c.args in Admitted Finishes a.text.now a.depth a.sites (lent a.scratch.now a.marks.now a.rows.now) c.in-Accepted.count c.in-Accepted.lines) = let a = c.args in admitted Finishes a.text.now a.depth a.sites (lent a.scratch.now a.marks.now a.rows.now) c.in-Accepted.count c.in-Accepted.lines (sym c.in-Accepted.is ∙ c.finish_for_marks.ensures) in
+    is-admitted
 
 pub returns-in-Accepted : goal.returns-in-Accepted
 returns-in-Accepted c =
-    let l = c.finish_accepted.new.scratch in
-    plain ((let a = c.args in admitted Finishes a.text.now a.depth a.sites (lent a.scratch.now a.marks.now a.rows.now) c.in-Accepted.count c.in-Accepted.lines (sym c.in-Accepted.is ∙ c.finish_for_marks.ensures))) c.finish_accepted.result (lent l.0 l.1.0 l.1.1.0) c.finish_accepted.ensures
+    let is-admitted : (let a = c.args in Admitted Finishes a.text.now a.depth a.sites (lent a.scratch.now a.marks.now a.rows.now) c.in-Accepted.count c.in-Accepted.lines) = let a = c.args in admitted Finishes a.text.now a.depth a.sites (lent a.scratch.now a.marks.now a.rows.now) c.in-Accepted.count c.in-Accepted.lines (sym c.in-Accepted.is ∙ c.finish_for_marks.ensures) in
+    plain (is-admitted) c.finish_accepted.result (lent c.finish_accepted.new.scratch c.finish_accepted.new.marks c.finish_accepted.new.rows) c.finish_accepted.ensures
 
 pub returns-in-Refused : goal.returns-in-Refused
 returns-in-Refused c =

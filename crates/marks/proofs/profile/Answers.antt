@@ -8,12 +8,14 @@ use Rattle.std.proofs.Common.{rules}
 use Rattle.marks.proofs.profile.Goals as goal
 
 pub accepted-requires : goal.accepted-requires
-accepted-requires c = record { admitted = (let a = c.args in admitted Base a.text.now a.depth a.sites (lent a.scratch.now a.marks.now a.rows.now) c.in-Accepted.count c.in-Accepted.lines (sym c.in-Accepted.is ∙ c.for_marks.ensures)); factors = no_factors }
+accepted-requires c =
+    let is-admitted : (let a = c.args in Admitted Base a.text.now a.depth a.sites (lent a.scratch.now a.marks.now a.rows.now) c.in-Accepted.count c.in-Accepted.lines) = let a = c.args in admitted Base a.text.now a.depth a.sites (lent a.scratch.now a.marks.now a.rows.now) c.in-Accepted.count c.in-Accepted.lines (sym c.in-Accepted.is ∙ c.for_marks.ensures) in
+    record { admitted = is-admitted; factors = no_factors }
 
 pub returns-in-Accepted : goal.returns-in-Accepted
 returns-in-Accepted c =
-    let l = c.accepted.new.scratch in
-    plain ((let a = c.args in admitted Base a.text.now a.depth a.sites (lent a.scratch.now a.marks.now a.rows.now) c.in-Accepted.count c.in-Accepted.lines (sym c.in-Accepted.is ∙ c.for_marks.ensures))) c.accepted.result (lent l.0 l.1.0 l.1.1.0) c.accepted.ensures
+    let is-admitted : (let a = c.args in Admitted Base a.text.now a.depth a.sites (lent a.scratch.now a.marks.now a.rows.now) c.in-Accepted.count c.in-Accepted.lines) = let a = c.args in admitted Base a.text.now a.depth a.sites (lent a.scratch.now a.marks.now a.rows.now) c.in-Accepted.count c.in-Accepted.lines (sym c.in-Accepted.is ∙ c.for_marks.ensures) in
+    plain (is-admitted) c.accepted.result (lent c.accepted.new.scratch c.accepted.new.marks c.accepted.new.rows) c.accepted.ensures
 
 pub returns-in-Refused : goal.returns-in-Refused
 returns-in-Refused c =

@@ -12,7 +12,10 @@ overflow_sub-depth c = depth-some c.requires
 
 pub body-f-requires : goal.body-f-requires
 body-f-requires c =
-    heavier-asks c.requires c.ask_heavier-asking.result c.args.line c.ask_heavier-asking.ensures.0 c.ask_heavier-asking.ensures.1 ((c.zero.ensures ∙ cleared-all c.args.scratch.now)) c.no_rows-rows.ensures
+    let blank : c.zero.new.a ≡ replicate (length c.args.scratch.now) 0 = c.zero.ensures ∙ cleared-all c.args.scratch.now in
+    heavier-asks c.requires c.ask_heavier-asking.result c.args.line c.ask_heavier-asking.ensures.0 c.ask_heavier-asking.ensures.1 (blank) c.no_rows-rows.ensures
 
 pub returns : goal.returns
-returns c = record { heavier_leaves = heavier-leaves c.requires c.ask_heavier-asking.result c.args.line c.ask_heavier-asking.ensures.0 c.ask_heavier-asking.ensures.1 c.body-f.auto.marks c.body-f.ensures.body_leaves; scratch_after = c.body-f.ensures.t_unchanged ∙ (c.zero.ensures ∙ cleared-all c.args.scratch.now) }
+returns c =
+    let blank : c.zero.new.a ≡ replicate (length c.args.scratch.now) 0 = c.zero.ensures ∙ cleared-all c.args.scratch.now in
+    record { heavier_leaves = heavier-leaves c.requires c.ask_heavier-asking.result c.args.line c.ask_heavier-asking.ensures.0 c.ask_heavier-asking.ensures.1 c.body-f.auto.marks c.body-f.ensures.body_leaves; scratch_after = c.body-f.ensures.t_unchanged ∙ blank }
