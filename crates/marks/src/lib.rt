@@ -230,7 +230,7 @@ fn load(t: &mut [u64]) -> Zones
 
 // Reads the items of an invocation, which has come to z, up to its return, and leaves the join to its caller.
 // At most deep more invocations open inside one another.
-#[cycle(body_item_read_items)]
+#[cycle(readers)]
 fn read_items(
     trace: &[u8],
     z: Zones,
@@ -255,7 +255,7 @@ fn read_items(
 }
 
 // Reads an invocation of a row from its first line up to and with its return.
-#[cycle(body_item_read_items)]
+#[cycle(readers)]
 fn body(
     trace: &[u8],
     from: usize,
@@ -285,7 +285,7 @@ fn body(
 }
 
 // Reads one item, whose first line is of this kind, with the whole body of a call or a spawn.
-#[cycle(body_item_read_items)]
+#[cycle(readers)]
 fn item(
     trace: &[u8],
     kind: u8,
@@ -357,7 +357,7 @@ struct Reach {
 
 // Reads the items of an invocation or a finish, which has come to from, up to its return, and leaves the join to its
 // caller. At most deep more things open inside one another.
-#[cycle(finish_body_finish_call_finish_item_finish_items)]
+#[cycle(finish_readers)]
 fn finish_items(
     trace: &[u8],
     from: Reach,
@@ -382,7 +382,7 @@ fn finish_items(
 }
 
 // Reads an async or a finish of a row from its first line up to and with its return.
-#[cycle(finish_body_finish_call_finish_item_finish_items)]
+#[cycle(finish_readers)]
 fn finish_body(
     trace: &[u8],
     from: usize,
@@ -414,7 +414,7 @@ fn finish_body(
 
 // Reads a call with its items and its return. They go on from its caller's numbers and zones, and nothing is joined.
 // Its work is by how much the work grows, and its span how far its items and its asyncs reach from where it begins.
-#[cycle(finish_body_finish_call_finish_item_finish_items)]
+#[cycle(finish_readers)]
 fn finish_call(
     trace: &[u8],
     a: Reach,
@@ -462,7 +462,7 @@ fn finish_call(
 }
 
 // Reads one item, whose first line is of this kind, with all that it opens.
-#[cycle(finish_body_finish_call_finish_item_finish_items)]
+#[cycle(finish_readers)]
 fn finish_item(
     trace: &[u8],
     kind: u8,

@@ -415,7 +415,7 @@ fn spawned(t: &mut [u64], n: usize, w: usize, f: walk::Open, c: walk::Open) -> w
 
 // Reads the items of an invocation of a row, which has come to f, up to its return, and leaves the join to its caller.
 // At most deep more invocations open inside one another.
-#[cycle(body_item_read_items)]
+#[cycle(readers)]
 fn read_items(
     trace: &[u8],
     f: walk::Open,
@@ -440,7 +440,7 @@ fn read_items(
 }
 
 // Reads an invocation of a row from its first line up to and with its return.
-#[cycle(body_item_read_items)]
+#[cycle(readers)]
 fn body(
     trace: &[u8],
     from: usize,
@@ -460,7 +460,7 @@ fn body(
 }
 
 // Reads one item, whose first line is of this kind, with the whole body of a call or a spawn.
-#[cycle(body_item_read_items)]
+#[cycle(readers)]
 fn item(
     trace: &[u8],
     kind: u8,
@@ -514,7 +514,7 @@ struct Reach {
 
 // The finish family: reads the items of a call, an async or a finish, directly in an invocation of a row, up to its
 // return, and leaves a join to its caller. At most deep more open inside one another.
-#[cycle(finish_async_finish_body_finish_call_finish_finish_finish_item_finish_items)]
+#[cycle(finish_readers)]
 fn finish_items(
     trace: &[u8],
     f: Reach,
@@ -540,7 +540,7 @@ fn finish_items(
 
 // The finish family: reads an async or a finish from its first line up to and with its return, which joins all that it
 // holds.
-#[cycle(finish_async_finish_body_finish_call_finish_finish_finish_item_finish_items)]
+#[cycle(finish_readers)]
 fn finish_body(
     trace: &[u8],
     from: usize,
@@ -563,7 +563,7 @@ fn finish_body(
 }
 
 // The finish family: reads one item, whose first line is of this kind, with all that it holds.
-#[cycle(finish_async_finish_body_finish_call_finish_finish_finish_item_finish_items)]
+#[cycle(finish_readers)]
 fn finish_item(
     trace: &[u8],
     next: u8,
@@ -618,7 +618,7 @@ fn finish_item(
 
 // The finish family: reads a call. Its items go on in the chains around it, and its return joins nothing. Its span is
 // how far they come from where it begins.
-#[cycle(finish_async_finish_body_finish_call_finish_finish_finish_item_finish_items)]
+#[cycle(finish_readers)]
 fn finish_call(
     trace: &[u8],
     f: Reach,
@@ -663,7 +663,7 @@ fn finish_call(
 
 // The finish family: reads an async. It works behind the blocks in use, as a spawned child does, and reaches as far as
 // its span from where it begins.
-#[cycle(finish_async_finish_body_finish_call_finish_finish_finish_item_finish_items)]
+#[cycle(finish_readers)]
 fn finish_async(
     trace: &[u8],
     f: Reach,
@@ -698,7 +698,7 @@ fn finish_async(
 
 // The finish family: reads a finish directly in an invocation of a row. It goes on in the continuation's table, as a
 // called child does, and nothing is counted at its end.
-#[cycle(finish_async_finish_body_finish_call_finish_finish_finish_item_finish_items)]
+#[cycle(finish_readers)]
 fn finish_finish(
     trace: &[u8],
     f: walk::Open,

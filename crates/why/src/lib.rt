@@ -185,7 +185,7 @@ struct Returned {
 
 // Reads the items of an invocation, which has come to f, up to its return, and leaves the join to its caller. At most deep
 // more invocations open inside one another.
-#[cycle(body_item_read_items)]
+#[cycle(readers)]
 fn read_items(text: &[u8], f: Reached, deep: usize, marks: &[u8]) -> Reached
     requires { Asks text.now marks.now deep f }
     ensures { ItemsLeave text.now marks.now deep f result }
@@ -200,7 +200,7 @@ fn read_items(text: &[u8], f: Reached, deep: usize, marks: &[u8]) -> Reached
 }
 
 // Reads an invocation from its first line up to and with its return.
-#[cycle(body_item_read_items)]
+#[cycle(readers)]
 fn body(text: &[u8], from: usize, deep: usize, marks: &[u8]) -> Returned
     requires { BodyAsks text.now marks.now deep from }
     ensures { BodyLeaves text.now marks.now from result }
@@ -217,7 +217,7 @@ fn body(text: &[u8], from: usize, deep: usize, marks: &[u8]) -> Returned
 }
 
 // Reads one item, whose first line is of this kind, with the whole body of a call or a spawn.
-#[cycle(body_item_read_items)]
+#[cycle(readers)]
 fn item(text: &[u8], kind: u8, f: Reached, deep: usize, marks: &[u8]) -> Reached
     requires { ItemAsks text.now marks.now kind deep f }
     ensures { ItemLeaves text.now marks.now f result }

@@ -9,7 +9,7 @@ use Rattle.line.specs.declared.Family.TheVariants.{Base}
 use Rattle.walk.specs.Weight.{by_asking}
 use Rattle.tables.proofs.Bodies.{untold, begins, Loop, loop-start, loop-asks, Next, loop-less, loop_again, loop-done, body-leaves}
 use Rattle.tables.proofs.Items.{line-fits, blocks-fit, join_asks, sync-leaves, note-leaves, Costs, rows-asks, spend-asks, cost-leaves, Calls, at_part, parted, deeper, room, credit_asks, body-asks, Back, back_long, count-asks, called-asks, spawned-asks, call_leaves, spawn_leaves}
-use Rattle.tables.proofs.+body_item_read_items.Goals as goal
+use Rattle.tables.proofs.+readers.Goals as goal
 
 pub body-read_items-f-requires : goal.body-read_items-f-requires
 body-read_items-f-requires t c =

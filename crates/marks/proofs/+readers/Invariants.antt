@@ -16,7 +16,7 @@ use Rattle.marks.specs.Steps.{Called, Spawned}
 use Rattle.marks.proofs.Park.{Stored, stored-room, part-zero, part_length, back-room, load_is, load-clear}
 use Rattle.marks.proofs.Bodies.{begins, Loop, loop-start, loop-asks, Next, loop-less, loop_again, loop-done, body-leaves}
 use Rattle.marks.proofs.Items.{line-fits, join_asks, sync-leaves, note-leaves, Costs, rows-asks, spend-asks, cost-leaves, Opens, deeper, room, credit_asks, body-asks, Back, count-asks, called-asks, spawned-asks, Calls, opens, call_leaves, spawn_leaves}
-use Rattle.marks.proofs.+body_item_read_items.Given as goal
+use Rattle.marks.proofs.+readers.Given as goal
 
 -- the depth left falls from item to body, a body is above its items, and they above each of them
 abbrev pub decreases-body : goal.decreases-body

@@ -15,7 +15,7 @@ use Rattle.marks.specs.Steps.{Called, Spawned}
 use Rattle.marks.proofs.Park.{Stored, stored-room, part-zero, part_length, back-room, load_is, load-clear}
 use Rattle.marks.proofs.Bodies.{begins, Loop, loop-start, loop-asks, Next, loop-less, loop_again, loop-done, body-leaves}
 use Rattle.marks.proofs.Items.{line-fits, join_asks, sync-leaves, note-leaves, Costs, rows-asks, spend-asks, cost-leaves, Opens, deeper, room, credit_asks, body-asks, Back, count-asks, called-asks, spawned-asks, Calls, opens, call_leaves, spawn_leaves}
-use Rattle.marks.proofs.+body_item_read_items.Goals as goal
+use Rattle.marks.proofs.+readers.Goals as goal
 
 pub body-read_items-z-requires : goal.body-read_items-z-requires
 body-read_items-z-requires t c =

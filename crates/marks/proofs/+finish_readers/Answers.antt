@@ -18,7 +18,7 @@ use Rattle.marks.proofs.Park.{Stored, stored-room, part-zero, part_length, back-
 use Rattle.marks.proofs.Bodies.{begins, loop-asks, Next, loop-less, loop-done, body-leaves}
 use Rattle.marks.proofs.Items.{line-fits, join_asks, note-leaves, Costs, rows-asks, spend-asks, cost-leaves, Opens, deeper, room, credit_asks, body-asks, Back, count-asks, called-asks, spawned-asks}
 use Rattle.marks.proofs.Finish.{cost-reach, note-reach, series-fits, Enters, enters, fork_fits, async-leaves, async-reach, finish-leaves, finish-reach, Passes, calls, items_asks, Ended, work-less, start-less, call_counts, call_leaves, call_reach, ReachLoop, reach-start, reach_again, reach-done}
-use Rattle.marks.proofs.+finish_body_finish_call_finish_item_finish_items.Goals as goal
+use Rattle.marks.proofs.+finish_readers.Goals as goal
 
 pub finish_body-finish_items-a-requires : goal.finish_body-finish_items-a-requires
 finish_body-finish_items-a-requires t c =

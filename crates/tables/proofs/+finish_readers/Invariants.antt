@@ -15,7 +15,7 @@ use Rattle.walk.specs.Weight.{by_asking}
 use Rattle.tables.proofs.Bodies.{begins, Loop, loop-start, loop-asks, Next, loop-less, loop_again, loop-done, loop-reaches, body-leaves}
 use Rattle.tables.proofs.Items.{line-fits, blocks-fit, join_asks, note-leaves, Costs, rows-asks, spend-asks, cost-leaves, deeper, room, credit_asks, body-asks, Back, back_long, count-asks, called-asks, spawned-asks}
 use Rattle.tables.proofs.Finish.{reach_of, item-keeps, asks-kind, asks-finish, cost-reaches, note-reaches, finish-reaches, Passes, start_fits, call_deeper, call_credit, callee-is, callee-asks, Passed, stop-fits, end_fits, work-before, span-before, call_counts, pass_leaves, pass_reaches, Forks, forked, reached-fits, async-leaves, async-reaches, Nests, nested, finish-leaves}
-use Rattle.tables.proofs.+finish_async_finish_body_finish_call_finish_finish_finish_item_finish_items.Given as goal
+use Rattle.tables.proofs.+finish_readers.Given as goal
 
 -- each cost weighs as it stands
 abbrev pub how : Weigh
