@@ -11,7 +11,6 @@ use borrow.Author.Tests.{eqb-true, eq-eqb, ne_eqb}
 use Rattle.line.specs.declared.Frame.{Frame}
 use Rattle.line.specs.declared.Frame.TheVariants.{Site, Call, Spawn, Sync, Return, Cost, Instructions, Async, Finish}
 use Rattle.chain.specs.Over.{Each}
-use Rattle.chain.specs.Over as Over
 use Rattle.trace.specs.Shape.{Is, root, step, walk, open_at, has, first_is}
 use Rattle.trace.specs.Async.{is_finish, finish_line, finish, owner_is}
 use Rattle.trace.specs.Series.{value, value_at, CostIn, weight, Span, Chosen}

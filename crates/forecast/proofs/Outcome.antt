@@ -8,7 +8,7 @@ use Rattle.line.specs.declared.Frame.{Frame}
 use Rattle.trace.specs.declared.Answer.{Answer}
 use Rattle.trace.specs.Shape.{sites}
 use Rattle.trace.specs.Refusals.{Verdict, accepted, verdict}
-use Rattle.trace.specs.Promise.{Engine, marks, Lent, enough}
+use Rattle.trace.specs.Promise.{Engine, Lent, enough}
 use Rattle.trace.specs.Tree.{Parts}
 use Rattle.trace.proofs.Outcome.{kept_unique, kept-met, Housed, accepted_housed}
 use Rattle.weigh.specs.Weighed.{reweighed}

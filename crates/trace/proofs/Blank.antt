@@ -9,14 +9,14 @@ use lib.Dec.{eqb}
 use Rattle.line.specs.declared.Family.{Family}
 use Rattle.line.specs.declared.Family.TheVariants.{Base, Finishes}
 use Rattle.line.specs.declared.Frame.{Frame}
-use Rattle.chain.specs.Plan.{CostLine, weight}
+use Rattle.chain.specs.Plan.{weight}
 use Rattle.chain.specs.Over.{lines_in}
 use Rattle.trace.specs.declared.Answer.{Answer}
 use Rattle.trace.specs.declared.Answer.TheVariants.{Accepted}
 use Rattle.trace.specs.Column.{Column}
-use Rattle.trace.specs.Promise.{Engine, marks, Lent, Marked}
+use Rattle.trace.specs.Promise.{Engine, Lent, Marked}
 use Rattle.trace.specs.Tree.{Way, call, spawn, async, pass, finish, invokes, opening, Note, site, carry, Leaf, spend, sync, note, line_of, leaf_work, Body, done, leaf, child, LeafOf, Of, lines_of, ahead, leaf_cycles, leaf_instructions, size, PartsOf, all_of, direct_of, work_of, local_of, ilocal_of, span_of, made_sum, row_sum, outer_sum, outer_row}
-use Rattle.trace.specs.Fold.{its_cycles, its_instructions, Chains, nothing, joined, called, spawned, leaf_chains, ended, child_chains, run, chain_of, on_row}
+use Rattle.trace.specs.Fold.{its_cycles, its_instructions, Chains, nothing, joined, called, spawned, leaf_chains, child_chains, run, chain_of, on_row}
 use Rattle.trace.specs.ByTree.{cell, ProfileBy}
 use Rattle.trace.proofs.Tree.{body-one}
 use Rattle.trace.proofs.Recurrence.{weight-chain}

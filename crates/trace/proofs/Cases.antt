@@ -1,13 +1,12 @@
 -- A site line or another: one case rule for lines, and what a test on site lines says of either.
 use mathlib.Core.Path.{◌≡◌, refl, sym, subst}
 use mathlib.Core.Bool.{true, false}
-use mathlib.Core.List.{List, [], ◌∷◌}
 use Prim.Native.Nat.{ℕ}
 use lib.Dec.{T}
 use Rattle.line.specs.declared.Place.{Place}
 use Rattle.line.specs.declared.Frame.{Frame}
 use Rattle.line.specs.declared.Frame.TheVariants.{Site, Call, Spawn, Sync, Return, Cost, Instructions, Async, Finish}
-use Rattle.trace.specs.Shape.{if_site, if_makes, step}
+use Rattle.trace.specs.Shape.{if_site, if_makes}
 
 -- a line that is no site line
 abbrev pub NotSite : Frame → Type 0

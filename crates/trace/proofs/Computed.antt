@@ -4,7 +4,6 @@ use mathlib.Core.Bool.{true}
 use mathlib.Core.List.{List}
 use Prim.Native.Nat.{ℕ}
 use Rattle.line.specs.declared.Family.{Family}
-use Rattle.line.specs.declared.Frame.{Frame}
 use Rattle.chain.specs.Over.{lines_in}
 use Rattle.trace.specs.Shape.{root}
 use Rattle.trace.specs.Series.{SpanOf, ChosenOf}

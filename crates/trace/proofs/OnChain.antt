@@ -15,12 +15,12 @@ use Rattle.line.specs.declared.Frame.TheVariants.{Return}
 use Rattle.chain.specs.Plan.{CostLine, costs, All, Pairs, Less}
 use Rattle.chain.specs.Plan as P
 use Rattle.chain.specs.Over.{lines_in}
-use Rattle.chain.proofs.Lists.{all_map, all_both, all-at, all_append, pairs_map}
+use Rattle.chain.proofs.Lists.{all_map, all_both, all-at, pairs_map}
 use Rattle.trace.specs.Shape.{root, step, has, sites}
 use Rattle.trace.specs.Series.{SpanOf, ChosenOf}
 use Rattle.trace.specs.Rows.{of_row, instructions, sum_of, costs_where, total, itotal, direct, direct_on, sum, local, on_span, ilocal, ion_span}
 use Rattle.trace.specs.Tree.{opening, line_of, spend, sync, note, Body, done, leaf, child, lines_of, size, Within, PartsOf}
-use Rattle.trace.specs.Fold.{its_cycles, its_instructions, block, after, plan, on_all, on_row}
+use Rattle.trace.specs.Fold.{its_cycles, its_instructions, plan, on_all, on_row}
 use Rattle.trace.proofs.Basics.{cond_same, cond_le}
 use Rattle.trace.proofs.Measures.{Measured, by_cycles, by_instructions}
 use Rattle.trace.proofs.Plans.{all_two, plan_ordered}

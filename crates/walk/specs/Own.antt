@@ -1,7 +1,7 @@
 -- For proofs and engines, not for the reader of documents 01 and 02: the span of a call of the finish family. Its items
 -- go on in the chains of the finish around it, so that two numbers are kept for it beside them.
 use Rattle.std.specs.Prelude.{ℕ, ◌+◌}
-use Rattle.trace.specs.Tree.{Way, call, spawn, async, pass, finish, Leaf, leaf_work, Body, done, leaf, child, larger, span_of}
+use Rattle.trace.specs.Tree.{Way, call, spawn, async, pass, finish, leaf_work, Body, done, leaf, child, larger, span_of}
 use Rattle.walk.specs.declared.Open.{Open}
 
 -- series: what comes before the next item in series, from the beginning of the finish or async around it on; far: how

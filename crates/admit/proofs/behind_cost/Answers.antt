@@ -1,5 +1,4 @@
 -- `admit::behind_cost` meets its contract: no line lies before line 0.
-use Rattle.std.proofs.Common.{rules}
 use borrow.Author.Tests.{eq-eqb, ne_eqb}
 use Rattle.admit.proofs.behind_cost.Goals as goal
 

@@ -1,5 +1,4 @@
 -- `admit::carry` meets its contract: each answer follows from the test that led to it.
-use Rattle.std.proofs.Common.{rules}
 use Rattle.admit.proofs.carry.Goals as goal
 
 pub returns-then-stray : goal.returns-then-stray

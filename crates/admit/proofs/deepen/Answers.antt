@@ -1,5 +1,4 @@
 -- `admit::deepen` meets its contract: each answer follows from the test that led to it.
-use Rattle.std.proofs.Common.{rules}
 use borrow.Author.Tests.{le-leb, lt-leb}
 use Rattle.admit.proofs.deepen.Goals as goal
 

@@ -1,5 +1,4 @@
 -- `admit::enter` meets its contract: each answer follows from the tests that led to it.
-use Rattle.std.proofs.Common.{rules}
 use borrow.Author.Tests.{lt-ltb, le-ltb, eq-eqb, ne_eqb}
 use Rattle.admit.proofs.enter.Goals as goal
 

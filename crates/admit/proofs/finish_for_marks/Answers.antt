@@ -1,6 +1,5 @@
 -- `admit::finish_for_marks` meets its contract: checks 1 to 4, then the lines.
 use mathlib.Core.Path.{◌∙◌}
-use Rattle.std.proofs.Common.{rules}
 use Rattle.line.specs.declared.Family.TheVariants.{Finishes}
 use Rattle.trace.specs.Promise.{marks, roomy}
 use Rattle.admit.proofs.Entry.{failed, decided, limits}

@@ -1,6 +1,5 @@
 -- `admit::finish_judge` meets its contract: a line is judged by what a glance sees, or by how it reads.
 use mathlib.Core.Path.{sym, ap, subst, ◌∙◌}
-use Rattle.std.proofs.Common.{rules}
 use Rattle.line.specs.declared.Family.TheVariants.{Finishes}
 use Rattle.line.specs.declared.Read.{Read}
 use Rattle.line.specs.Read.{read_at_of}

@@ -1,6 +1,5 @@
 -- `admit::for_tables` meets its contract: checks 1 to 4, then the lines.
 use mathlib.Core.Path.{◌∙◌}
-use Rattle.std.proofs.Common.{rules}
 use Rattle.line.specs.declared.Family.TheVariants.{Base}
 use Rattle.trace.specs.Promise.{tables, roomy}
 use Rattle.admit.proofs.Entry.{failed, decided, limits}

@@ -1,6 +1,5 @@
 -- `admit::judge_whole` meets its contract: a line that reads as a frame is stepped over with what the lookup found.
 use mathlib.Core.Path.{refl, sym, ap, ◌∙◌}
-use Rattle.std.proofs.Common.{rules}
 use Rattle.line.specs.Seeing.{glanced}
 use Rattle.admit.proofs.Judged.{judged-unseen}
 use Rattle.admit.proofs.judge_whole.Goals as goal

@@ -1,25 +1,22 @@
-use mathlib.Core.Path.{◌≡◌, refl, sym, ◌∙◌}
-use mathlib.Core.Bool.{◌||◌}
-use mathlib.Core.Logic.{⊎_elim}
-use Prim.Native.Nat.{◌≤◌, ◌-◌}
-use lib.ListN.{length, drop}
+use mathlib.Core.Path.{refl, sym, ◌∙◌}
 use Rattle.std.proofs.Common.{rules}
-use Rattle.trace.specs.Shape.{has}
 use Rattle.admit.proofs.Keys.{found_here, found_elsewhere, found_all}
 use Rattle.admit.proofs.known.Goals as goal
+use Rattle.admit.proofs.known.Goals.{then-keys-i, else-keys-i}
 
 pub loop-i-init : goal.loop-i-init
 loop-i-init c = (search rules, refl)
 
 pub loop-i-preserved : goal.loop-i-preserved
 loop-i-preserved c =
-    let a = c.args in (
+    let a = c.args in
+    let l = c.loop-i in (
       search rules,
-      ⊎_elim
-          (λ w. found_here a.key a.keys.now c.loop-i.i c.loop-i.found c.if-keys-i.found (search rules) w.0.taken w.1)
-          (λ w. found_elsewhere a.key a.keys.now c.loop-i.i c.loop-i.found c.if-keys-i.found (search rules) w.0.left w.1)
-          c.if-keys-i.branch
-          ∙ c.loop-i.invariant.1,
+      elim c.if-keys-i.branch [
+        | then-keys-i w ↦ found_here a.key a.keys.now l.i l.found c.if-keys-i.found (search rules) w.if-keys-i.true w.found-is
+        | else-keys-i w ↦ found_elsewhere a.key a.keys.now l.i l.found c.if-keys-i.found (search rules) w.if-keys-i.false w.found-is
+      ]
+          ∙ l.invariant.1,
     )
 
 pub returns : goal.returns

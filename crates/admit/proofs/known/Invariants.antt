@@ -1,13 +1,10 @@
 -- `admit::known` meets its contract. The invariant: the key has been found, or is among the keys to come, exactly
 -- when it is among them all. The measure: the keys to come.
-use mathlib.Core.Path.{◌≡◌, refl, sym, ◌∙◌}
+use mathlib.Core.Path.{◌≡◌}
 use mathlib.Core.Bool.{◌||◌}
-use mathlib.Core.Logic.{⊎_elim}
 use Prim.Native.Nat.{◌≤◌, ◌-◌}
 use lib.ListN.{length, drop}
-use Rattle.std.proofs.Common.{rules}
 use Rattle.trace.specs.Shape.{has}
-use Rattle.admit.proofs.Keys.{found_here, found_elsewhere, found_all}
 use Rattle.admit.proofs.known.Given as goal
 
 abbrev pub invariant-loop-i : goal.invariant-loop-i

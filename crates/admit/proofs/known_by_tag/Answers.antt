@@ -1,6 +1,5 @@
 -- `admit::known_by_tag` meets its contract: a key whose tag is not among the tags is not among the keys.
 use mathlib.Core.Path.{sym, ◌∙◌}
-use Rattle.std.proofs.Common.{rules}
 use Rattle.admit.proofs.Keys.{tag_missing}
 use Rattle.admit.proofs.known_by_tag.Goals as goal
 

@@ -1,13 +1,10 @@
 -- `admit::known_tag` meets its contract. The invariant: the tag has been found, or is among the tags to come, exactly
 -- when it is among them all. The measure: the tags to come.
-use mathlib.Core.Path.{◌≡◌, refl, sym, ◌∙◌}
+use mathlib.Core.Path.{◌≡◌}
 use mathlib.Core.Bool.{◌||◌}
-use mathlib.Core.Logic.{⊎_elim}
 use Prim.Native.Nat.{◌≤◌, ◌-◌}
 use lib.ListN.{length, drop}
-use Rattle.std.proofs.Common.{rules}
 use Rattle.trace.specs.Shape.{has}
-use Rattle.admit.proofs.Keys.{found_here, found_elsewhere, found_all}
 use Rattle.admit.proofs.known_tag.Given as goal
 
 abbrev pub invariant-loop-i : goal.invariant-loop-i

@@ -1,11 +1,9 @@
-use mathlib.Core.Path.{◌≡◌, refl, sym, ap, subst⁻¹, ◌∙◌}
+use mathlib.Core.Path.{refl, sym, ap, subst⁻¹, ◌∙◌}
 use mathlib.Core.List.{List}
-use Prim.Native.Nat.{ℕ, ◌-◌}
+use Prim.Native.Nat.{ℕ}
 use native.Mathlib.Omega.{arith}
 use lib.ListN.{replicate}
-use Rattle.std.proofs.Common.{rules}
 use Rattle.line.specs.declared.Family.TheVariants.{Base}
-use Rattle.trace.specs.Refusals.{line_count}
 use Rattle.admit.specs.Step.{tags_of}
 use Rattle.admit.proofs.Keys.{tags_length}
 use Rattle.admit.proofs.Reach.{Reached, reached-start, reached-within, reached-end, reached-refused, reached-next}

@@ -1,16 +1,11 @@
 -- `admit::lines` meets its contract. The invariant: the tally and the keys are those of some lines before, what
 -- becomes of the rest is the verdict, and the tags are those of the keys. The measure: the lines left.
-use mathlib.Core.Path.{◌≡◌, refl, sym, ap, subst⁻¹, ◌∙◌}
-use mathlib.Core.List.{List}
-use Prim.Native.Nat.{ℕ, ◌-◌}
-use native.Mathlib.Omega.{arith}
-use lib.ListN.{replicate}
-use Rattle.std.proofs.Common.{rules}
+use mathlib.Core.Path.{◌≡◌}
+use Prim.Native.Nat.{◌-◌}
 use Rattle.line.specs.declared.Family.TheVariants.{Base}
 use Rattle.trace.specs.Refusals.{line_count}
 use Rattle.admit.specs.Step.{tags_of}
-use Rattle.admit.proofs.Keys.{tags_length}
-use Rattle.admit.proofs.Reach.{Reached, reached-start, reached-within, reached-end, reached-refused, reached-next}
+use Rattle.admit.proofs.Reach.{Reached}
 use Rattle.admit.proofs.lines.Given as goal
 
 abbrev pub invariant-loop-tally : goal.invariant-loop-tally

@@ -2,7 +2,6 @@
 use Prim.Native.Nat.{◌≤◌, ◌<◌}
 use mathlib.Core.Bool.{true}
 use native.Mathlib.Omega.{arith}
-use Rattle.std.proofs.Common.{rules}
 use borrow.Author.Tests.{le-leb, lt-leb}
 use Rattle.trace.specs.Promise.{tables, rows_room, roomy}
 use Rattle.admit.proofs.Entry.{early, limits, short, enough, scratch-small}

@@ -2,7 +2,6 @@
 use mathlib.Core.Path.{refl, ◌∙◌}
 use mathlib.Core.Bool.{true}
 use native.Mathlib.Omega.{arith}
-use Rattle.std.proofs.Common.{rules}
 use borrow.Author.Tests.{not-true, not-false}
 use Rattle.line.specs.declared.Family.TheVariants.{Base}
 use Rattle.admit.proofs.Entry.{early, failed, limits, short, enough, decided}

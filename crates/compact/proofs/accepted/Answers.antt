@@ -1,5 +1,4 @@
 -- `compact::accepted` meets its contract. Assumes nothing.
-use Rattle.std.proofs.Common.{rules}
 use borrow.Author.Tests.{not-true, not-false}
 use Rattle.compact.proofs.Whole.{short_21, fits, all-written}
 use Rattle.compact.proofs.accepted.Goals as goal

@@ -1,5 +1,4 @@
 -- `compact::carried` meets its contract: the kind decides.
-use Rattle.std.proofs.Common.{rules}
 use borrow.Author.Tests.{eq-eqb, ne_eqb}
 use Rattle.compact.proofs.carried.Goals as goal
 

@@ -1,5 +1,4 @@
 -- `compact::compact` meets its contract: acceptance first, then the room. Assumes nothing.
-use Rattle.std.proofs.Common.{rules}
 use mathlib.Core.Path.{◌∙◌, sym}
 use Rattle.compact.proofs.Whole.{admitted, accepted_compacts, refused_compacts}
 use Rattle.compact.proofs.compact.Goals as goal

@@ -1,8 +1,5 @@
-use Rattle.std.proofs.Common.{rules}
-use Prim.Native.Nat.{◌-◌}
 use mathlib.Core.Path.{sym, subst}
 use native.Mathlib.Omega.{arith}
-use Rattle.compact.specs.Pass.{Lines}
 use Rattle.compact.specs.declared.step.State.{State}
 use Rattle.compact.proofs.Passes.{given_is, Counting, counting_start, counting_ready, counting_on, counting_end}
 use Rattle.compact.proofs.count.Goals as goal

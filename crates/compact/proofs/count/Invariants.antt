@@ -1,12 +1,8 @@
 -- `compact::count` meets its contract. The invariant is that of counting; the measure is how many lines are left. Assumes
 -- nothing.
-use Rattle.std.proofs.Common.{rules}
 use Prim.Native.Nat.{◌-◌}
-use mathlib.Core.Path.{sym, subst}
-use native.Mathlib.Omega.{arith}
 use Rattle.compact.specs.Pass.{Lines}
-use Rattle.compact.specs.declared.step.State.{State}
-use Rattle.compact.proofs.Passes.{given_is, Counting, counting_start, counting_ready, counting_on, counting_end}
+use Rattle.compact.proofs.Passes.{Counting}
 use Rattle.compact.proofs.count.Given as goal
 
 abbrev pub invariant-loop-n : goal.invariant-loop-n

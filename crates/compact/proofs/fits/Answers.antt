@@ -1,5 +1,4 @@
 -- `compact::fits` meets its contract: room for the trace is enough, and else the lines are counted. Assumes nothing.
-use Rattle.std.proofs.Common.{rules}
 use Prim.Native.Nat.{ℕ}
 use mathlib.Core.Path.{ap, sym}
 use native.Mathlib.Omega.{arith}

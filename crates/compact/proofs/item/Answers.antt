@@ -1,5 +1,4 @@
 -- `compact::item` meets its contract. Assumes nothing.
-use Rattle.std.proofs.Common.{rules}
 use Rattle.compact.proofs.Passes.{item-is}
 use Rattle.compact.proofs.item.Goals as goal
 

@@ -1,9 +1,5 @@
-use Rattle.std.proofs.Common.{rules}
-use Prim.Native.Nat.{◌-◌}
-use mathlib.Core.Path.{◌≡◌, refl, sym, ◌∙◌, subst}
+use mathlib.Core.Path.{refl, sym, ◌∙◌, subst}
 use native.Mathlib.Omega.{arith}
-use lib.ListN.{length}
-use Rattle.compact.specs.Pass.{Fits}
 use Rattle.compact.specs.declared.step.State.{State}
 use Rattle.compact.proofs.Passes.{given_is, Writing, writing_start, writing-ready, writing-asks, writing-on, writing-end}
 use Rattle.compact.proofs.write.Goals as goal

@@ -1,5 +1,4 @@
 -- `folded::accepted` meets its contract. Assumes nothing.
-use Rattle.std.proofs.Common.{rules}
 use native.Mathlib.Omega.{arith}
 use Rattle.folded.proofs.Whole.{few, bad_17, good_names}
 use Rattle.folded.proofs.accepted.Goals as goal

@@ -1,5 +1,4 @@
 -- `folded::write_folded` meets its contract: acceptance first, then the names and the room. Assumes nothing.
-use Rattle.std.proofs.Common.{rules}
 use mathlib.Core.Path.{◌∙◌, sym}
 use lib.ListN.{length}
 use Rattle.folded.proofs.Whole.{admitted, accepted_folds, refused_folds}

@@ -1,11 +1,9 @@
 -- `forecast::ascending` meets its contract. The invariant: the entries to come are ascending exactly when all are. The
 -- measure: the entries to come.
-use mathlib.Core.Path.{◌≡◌, refl, sym, ◌∙◌}
+use mathlib.Core.Path.{◌≡◌}
 use Prim.Native.Nat.{◌≤◌, ◌-◌}
 use lib.ListN.{take, drop}
-use Rattle.std.proofs.Common.{rules}
 use Rattle.forecast.specs.Asked.{ascending}
-use Rattle.forecast.proofs.Loops.{ascending-on, ascending-off, ascending-last}
 use Rattle.forecast.proofs.ascending.Given as goal
 
 abbrev pub invariant-loop-i : goal.invariant-loop-i

@@ -1,6 +1,5 @@
 -- `forecast::check` meets its contract: one question after another, in the order of the refusals.
 use mathlib.Core.Path.{sym, ◌∙◌}
-use Rattle.std.proofs.Common.{rules}
 use borrow.Author.Tests.{not-true, not-false}
 use Rattle.forecast.proofs.Checked.{too_many_lem, unordered, undeclared, unfit, fit}
 use Rattle.forecast.proofs.check.Goals as goal

@@ -1,11 +1,9 @@
 -- `forecast::declared` meets its contract. The invariant: the entries to come are all declared exactly when all are.
 -- The measure: the entries to come.
-use mathlib.Core.Path.{◌≡◌, refl, sym, ◌∙◌, ap}
+use mathlib.Core.Path.{◌≡◌}
 use Prim.Native.Nat.{◌≤◌, ◌-◌}
 use lib.ListN.{take, drop}
-use Rattle.std.proofs.Common.{rules}
 use Rattle.forecast.specs.Asked.{all_declared}
-use Rattle.forecast.proofs.Loops.{past, declared-on, declared-off}
 use Rattle.forecast.proofs.declared.Given as goal
 
 abbrev pub invariant-loop-i : goal.invariant-loop-i

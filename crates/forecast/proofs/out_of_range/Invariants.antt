@@ -1,11 +1,9 @@
 -- `forecast::out_of_range` meets its contract. The invariant: among the entries to come a factor is bad exactly when one
 -- is among them all. The measure: the entries to come.
-use mathlib.Core.Path.{◌≡◌, refl, sym, ◌∙◌, ap}
+use mathlib.Core.Path.{◌≡◌}
 use Prim.Native.Nat.{◌≤◌, ◌-◌}
 use lib.ListN.{take, drop}
-use Rattle.std.proofs.Common.{rules}
 use Rattle.forecast.specs.Asked.{bad_factor}
-use Rattle.forecast.proofs.Loops.{past, range-on, range-low, range_high}
 use Rattle.forecast.proofs.out_of_range.Given as goal
 
 abbrev pub invariant-loop-i : goal.invariant-loop-i

@@ -3,7 +3,6 @@ use mathlib.Core.Bool.{Bool, ◌&&◌}
 use mathlib.Core.Path.{ap}
 use lib.Dec.{eqb}
 use lib.ListN.{get_or}
-use Rattle.std.proofs.Common.{rules}
 use Rattle.line.proofs.around.Goals as goal
 
 pub returns : goal.returns

@@ -1,5 +1,4 @@
 -- `line::bare` meets its contract: what is around, no site, and no value.
-use Rattle.std.proofs.Common.{rules}
 use Rattle.line.proofs.bare.Goals as goal
 
 pub returns : goal.returns

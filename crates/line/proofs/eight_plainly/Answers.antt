@@ -3,7 +3,6 @@ use Prim.Native.Nat.{ℕ}
 use mathlib.Core.Path.{ap, ◌∙◌}
 use Rattle.digits.specs.Word.{plainly, chars}
 use Rattle.line.proofs.Packs.{eight_plain}
-use Rattle.std.proofs.Common.{rules}
 use Rattle.line.proofs.eight_plainly.Goals as goal
 
 pub returns : goal.returns

@@ -1,7 +1,6 @@
 -- `line::finish_framed` meets its contract: its arms are the lines in which the tables differ. Assumes nothing.
 use mathlib.Core.Path.{◌≡◌, refl}
 use Rattle.line.proofs.Lines.{same-table}
-use Rattle.std.proofs.Common.{rules}
 use Rattle.line.proofs.finish_framed.Goals as goal
 
 pub returns-in-3 : goal.returns-in-3

@@ -8,7 +8,6 @@ use Rattle.digits.specs.Word.{plainly}
 use Rattle.line.specs.Read.{part}
 use Rattle.line.specs.Seeing.{is_bare, is_made, is_valued}
 use Rattle.line.proofs.Seeing.{see_cost, see_return, see_finish, see_async, see_passed, see_instructions, see_rest}
-use Rattle.std.proofs.Common.{rules}
 use Rattle.line.proofs.finish_glance_as.Goals as goal
 
 pub returns-then-kind-eq54 : goal.returns-then-kind-eq54

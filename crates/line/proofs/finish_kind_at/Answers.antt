@@ -2,7 +2,6 @@
 use mathlib.Core.Path.{ap, ◌∙◌, sym}
 use Rattle.line.specs.At.{both_in}
 use Rattle.line.proofs.At.{cut-none}
-use Rattle.std.proofs.Common.{rules}
 use Rattle.line.proofs.finish_kind_at.Goals as goal
 
 pub returns-then-s-ne-LINE : goal.returns-then-s-ne-LINE

@@ -2,7 +2,6 @@
 use mathlib.Core.Path.{◌∙◌}
 use Rattle.line.specs.declared.Family.TheVariants.{Finishes}
 use Rattle.line.proofs.At.{cut_read}
-use Rattle.std.proofs.Common.{rules}
 use Rattle.line.proofs.finish_read_at.Goals as goal
 
 pub returns : goal.returns

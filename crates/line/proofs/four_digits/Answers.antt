@@ -4,7 +4,6 @@ use mathlib.Core.Path.{ap, ◌∙◌}
 use Rattle.digits.specs.Digits.{all_digits}
 use Rattle.digits.specs.Word.{chars}
 use Rattle.line.proofs.Packs.{four_good}
-use Rattle.std.proofs.Common.{rules}
 use Rattle.line.proofs.four_digits.Goals as goal
 
 pub returns : goal.returns

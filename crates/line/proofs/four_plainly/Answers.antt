@@ -3,7 +3,6 @@ use Prim.Native.Nat.{ℕ, ◌<◌}
 use mathlib.Core.Path.{ap, ◌∙◌, sym, subst}
 use Rattle.digits.specs.Word.{plainly, chars}
 use Rattle.line.proofs.Packs.{four_plain, four_below}
-use Rattle.std.proofs.Common.{rules}
 use Rattle.line.proofs.four_plainly.Goals as goal
 
 pub overflow_cast-result : goal.overflow_cast-result

@@ -3,7 +3,6 @@ use Prim.Native.Nat.{ℕ}
 use mathlib.Core.Path.{ap, ◌∙◌}
 use lib.Dec.{eqb}
 use Rattle.line.proofs.Packs.{four_zero}
-use Rattle.std.proofs.Common.{rules}
 use Rattle.line.proofs.four_zeros.Goals as goal
 
 pub returns : goal.returns

@@ -3,7 +3,6 @@ use mathlib.Core.Path.{◌≡◌, ap, sym}
 use Rattle.line.specs.Table.{Entry}
 use Rattle.line.specs.Read.{tabled}
 use Rattle.line.proofs.Lines.{table_none}
-use Rattle.std.proofs.Common.{rules}
 use Rattle.line.proofs.framed.Goals as goal
 
 pub returns-in-1 : goal.returns-in-1

@@ -1,5 +1,4 @@
 -- `line::framed_as` meets its contract: each family's table. Assumes nothing.
-use Rattle.std.proofs.Common.{rules}
 use Rattle.line.proofs.framed_as.Goals as goal
 
 pub returns-in-Base : goal.returns-in-Base

@@ -4,7 +4,6 @@ use Rattle.line.specs.declared.Family.TheVariants.{Base}
 use Rattle.line.specs.Seeing.{glanced}
 use Rattle.line.proofs.Lines.{read_long}
 use Rattle.line.proofs.At.{cut_read}
-use Rattle.std.proofs.Common.{rules}
 use Rattle.line.proofs.glance.Goals as goal
 
 pub returns-then-s-ne-LINE : goal.returns-then-s-ne-LINE

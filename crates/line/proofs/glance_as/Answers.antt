@@ -8,7 +8,6 @@ use Rattle.digits.specs.Word.{plainly}
 use Rattle.line.specs.Read.{part}
 use Rattle.line.specs.Seeing.{is_bare, is_made, is_valued}
 use Rattle.line.proofs.Seeing.{see_cost, see_return, see_sync, see_spawn, see_call, see_instructions, see_other}
-use Rattle.std.proofs.Common.{rules}
 use Rattle.line.proofs.glance_as.Goals as goal
 
 pub returns-then-kind-eq54 : goal.returns-then-kind-eq54

@@ -4,7 +4,6 @@ use Prim.Native.Nat.{ℕ, ◌+◌, ◌*◌, ◌-◌}
 use native.Mathlib.Omega.{arith}
 use lib.ListN.{take, drop}
 use Rattle.line.proofs.At.{at_none, at_some}
-use Rattle.std.proofs.Common.{rules}
 use Rattle.line.proofs.line_at.Goals as goal
 
 pub returns-then-text-n : goal.returns-then-text-n

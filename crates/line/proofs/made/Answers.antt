@@ -1,5 +1,4 @@
 -- `line::made` meets its contract: what is around, a site of digits, and no value.
-use Rattle.std.proofs.Common.{rules}
 use Rattle.line.proofs.made.Goals as goal
 
 pub returns : goal.returns

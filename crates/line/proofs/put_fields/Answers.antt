@@ -1,14 +1,10 @@
 -- `line::put_fields` meets its contract: the fields are filled in one after the other. Assumes nothing.
-use mathlib.Core.List.{List}
 use mathlib.Core.Path.{refl, ◌∙◌}
-use Prim.Native.Nat.{ℕ}
 use native.Mathlib.Omega.{arith}
 use borrow.Rule.Slice.PartMut.{put_mid}
 use borrow.Author.Tests.{not-true, not-false}
 use lib.ListN.{replicate}
-use Rattle.line.specs.Table.{Fields}
-use Rattle.line.proofs.Filled.{Filled, empty, fill, filled_length, kinds, sites, values, files, columns, all-fields}
-use Rattle.std.proofs.Common.{rules}
+use Rattle.line.proofs.Filled.{Filled, empty, fill, filled_length, sites, values, files, all-fields}
 use Rattle.line.proofs.put_fields.Goals as goal
 use Rattle.line.proofs.put_fields.Goals.{After-put_digits-2, After-put_digits-3, After-put_digits-4}
 

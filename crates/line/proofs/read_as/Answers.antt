@@ -1,7 +1,6 @@
 -- `line::read_as` meets its contract: another length than 23 is refusal 2, and 23 characters are read whole.
 use mathlib.Core.Path.{sym}
 use Rattle.line.proofs.Lines.{read_long}
-use Rattle.std.proofs.Common.{rules}
 use Rattle.line.proofs.read_as.Goals as goal
 
 pub returns-then-s-ne-LINE : goal.returns-then-s-ne-LINE

@@ -1,6 +1,4 @@
 -- `line::read_whole` meets its contract: the five numerals are those of the line's parts (`Numerals`). Assumes nothing.
-use Rattle.std.proofs.Common.{rules}
-use Rattle.line.specs.declared.Family.{Family}
 use Rattle.line.proofs.Lines.{Numerals, wrong-line, good_line, site-below, file-below, column-below}
 use Rattle.line.proofs.read_whole.Goals as goal
 use Rattle.line.proofs.read_whole.Goals.{After-number-column}

@@ -1,5 +1,4 @@
 -- `line::seen` meets its contract: a case for each answer.
-use Rattle.std.proofs.Common.{rules}
 use Rattle.line.proofs.seen.Goals as goal
 
 pub returns-then-right : goal.returns-then-right

@@ -2,7 +2,6 @@
 use mathlib.Core.Path.{ap, ◌∙◌, sym}
 use Rattle.line.specs.At.{value_in}
 use Rattle.line.proofs.At.{cut-none}
-use Rattle.std.proofs.Common.{rules}
 use Rattle.line.proofs.value_at.Goals as goal
 
 pub returns-then-s-ne-LINE : goal.returns-then-s-ne-LINE

@@ -1,5 +1,4 @@
 -- `line::valued` meets its contract: what is around, no site, and a value of digits that are not all 0.
-use Rattle.std.proofs.Common.{rules}
 use mathlib.Core.Bool.{not, ◌&&◌}
 use mathlib.Core.Path.{ap, ap₂}
 use Rattle.line.proofs.valued.Goals as goal

@@ -4,7 +4,6 @@ use mathlib.Core.Bool.{true, not}
 use native.Mathlib.Omega.{arith}
 use Rattle.line.specs.declared.Frame.TheVariants.{Site, Call, Spawn, Sync, Return, Cost, Instructions, Async, Finish}
 use Rattle.line.proofs.Writable.{writable-site, writable_call, writable_spawn, writable-sync, writable-value, writable-async, writable-finish, writes}
-use Rattle.std.proofs.Common.{rules}
 use Rattle.line.proofs.write_as.Goals as goal
 
 pub returns-in-Site : goal.returns-in-Site

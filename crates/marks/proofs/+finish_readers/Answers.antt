@@ -1,10 +1,9 @@
-use Prim.Native.Nat.{ℕ, ◌+◌, ◌*◌, ◌-◌, ◌<◌}
-use mathlib.Core.List.{List, []}
+use Prim.Native.Nat.{ℕ, ◌+◌, ◌-◌}
+use mathlib.Core.List.{[]}
 use mathlib.Core.Path.{◌≡◌, refl, ◌∙◌, ap, subst}
 use mathlib.Core.Logic.{inl, inr}
 use native.Mathlib.Omega.{arith}
 use lib.ListN.{length, take, drop}
-use Rattle.std.proofs.Common.{rules}
 use Rattle.line.specs.declared.Family.TheVariants.{Finishes}
 use Rattle.trace.specs.Tree.{larger}
 use Rattle.walk.specs.Weight.{by_asking}
@@ -16,8 +15,8 @@ use Rattle.marks.specs.Reader.{ItemAsks, begun}
 use Rattle.marks.specs.Steps.{Called, Spawned}
 use Rattle.marks.proofs.Park.{Stored, stored-room, part-zero, part_length, back-room, load_is, load-clear}
 use Rattle.marks.proofs.Bodies.{begins, loop-asks, Next, loop-less, loop-done, body-leaves}
-use Rattle.marks.proofs.Items.{line-fits, join_asks, note-leaves, Costs, rows-asks, spend-asks, cost-leaves, Opens, deeper, room, credit_asks, body-asks, Back, count-asks, called-asks, spawned-asks}
-use Rattle.marks.proofs.Finish.{cost-reach, note-reach, series-fits, Enters, enters, fork_fits, async-leaves, async-reach, finish-leaves, finish-reach, Passes, calls, items_asks, Ended, work-less, start-less, call_counts, call_leaves, call_reach, ReachLoop, reach-start, reach_again, reach-done}
+use Rattle.marks.proofs.Items.{line-fits, join_asks, note-leaves, Costs, rows-asks, spend-asks, cost-leaves, deeper, room, credit_asks, body-asks, Back, count-asks, called-asks, spawned-asks}
+use Rattle.marks.proofs.Finish.{cost-reach, note-reach, series-fits, Enters, enters, fork_fits, async-leaves, async-reach, finish-leaves, finish-reach, Passes, calls, items_asks, Ended, work-less, start-less, call_counts, call_leaves, call_reach, reach-start, reach_again, reach-done}
 use Rattle.marks.proofs.+finish_readers.Goals as goal
 
 pub finish_body-finish_items-a-requires : goal.finish_body-finish_items-a-requires

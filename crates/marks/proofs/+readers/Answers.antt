@@ -1,10 +1,8 @@
-use Prim.Native.Nat.{ℕ, ◌+◌, ◌*◌, ◌-◌, ◌<◌}
-use mathlib.Core.List.{List}
+use Prim.Native.Nat.{◌-◌}
 use mathlib.Core.Path.{◌≡◌, refl, ◌∙◌, ap, subst}
 use mathlib.Core.Logic.{inl, inr}
 use native.Mathlib.Omega.{arith}
 use lib.ListN.{length, take, drop}
-use Rattle.std.proofs.Common.{rules}
 use Rattle.line.specs.declared.Family.TheVariants.{Base}
 use Rattle.walk.specs.Weight.{by_asking}
 use Rattle.walk.specs.declared.Open.{Open}
@@ -13,8 +11,8 @@ use Rattle.marks.specs.Shown.{all_prefix}
 use Rattle.marks.specs.Reader.{begun}
 use Rattle.marks.specs.Steps.{Called, Spawned}
 use Rattle.marks.proofs.Park.{Stored, stored-room, part-zero, part_length, back-room, load_is, load-clear}
-use Rattle.marks.proofs.Bodies.{begins, Loop, loop-start, loop-asks, Next, loop-less, loop_again, loop-done, body-leaves}
-use Rattle.marks.proofs.Items.{line-fits, join_asks, sync-leaves, note-leaves, Costs, rows-asks, spend-asks, cost-leaves, Opens, deeper, room, credit_asks, body-asks, Back, count-asks, called-asks, spawned-asks, Calls, opens, call_leaves, spawn_leaves}
+use Rattle.marks.proofs.Bodies.{begins, loop-start, loop-asks, Next, loop-less, loop_again, loop-done, body-leaves}
+use Rattle.marks.proofs.Items.{line-fits, join_asks, sync-leaves, note-leaves, Costs, rows-asks, spend-asks, cost-leaves, deeper, room, credit_asks, body-asks, Back, count-asks, called-asks, spawned-asks, Calls, opens, call_leaves, spawn_leaves}
 use Rattle.marks.proofs.+readers.Goals as goal
 
 pub body-read_items-z-requires : goal.body-read_items-z-requires

@@ -7,7 +7,6 @@ use mathlib.Core.Path.{◌≡◌, ◌∙◌, ap}
 use lib.ListN.{get_or, set}
 use Rattle.trace.specs.Column.{Column, slot}
 use Rattle.walk.specs.Weight.{weight_at, instructions_at}
-use Rattle.std.proofs.Common.{rules}
 use Rattle.marks.proofs.add_marked.Goals as goal
 
 pub add-requires : goal.add-requires

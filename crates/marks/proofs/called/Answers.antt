@@ -1,6 +1,5 @@
 -- `marks::called` meets its contract: the child's zone lies where the continuation's ends.
 use Rattle.marks.proofs.Steps.{called-done}
-use Rattle.std.proofs.Common.{rules}
 use Rattle.marks.proofs.called.Goals as goal
 
 pub returns : goal.returns

@@ -1,10 +1,7 @@
-use Prim.Native.Nat.{◌-◌}
-use mathlib.Core.Path.{◌≡◌, ap}
-use lib.ListN.{length}
-use Rattle.std.proofs.Common.{rules}
+use mathlib.Core.Path.{◌≡◌}
 use Rattle.line.specs.declared.Family.TheVariants.{Base}
 use Rattle.walk.specs.Weight.{by_asking}
-use Rattle.marks.proofs.Columns.{Loop, turn-start, turn-asks, turn_again, turn-zero, turn-done}
+use Rattle.marks.proofs.Columns.{turn-start, turn-asks, turn_again, turn-zero, turn-done}
 use Rattle.marks.proofs.column.Goals as goal
 
 pub loop-at-init : goal.loop-at-init

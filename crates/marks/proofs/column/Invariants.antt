@@ -1,11 +1,8 @@
 -- `marks::column` meets its contract: line by line, what is marked of a row is in its columns 5 and 7.
 use Prim.Native.Nat.{◌-◌}
-use mathlib.Core.Path.{◌≡◌, ap}
-use lib.ListN.{length}
-use Rattle.std.proofs.Common.{rules}
 use Rattle.line.specs.declared.Family.TheVariants.{Base}
 use Rattle.walk.specs.Weight.{by_asking}
-use Rattle.marks.proofs.Columns.{Loop, turn-start, turn-asks, turn_again, turn-zero, turn-done}
+use Rattle.marks.proofs.Columns.{Loop}
 use Rattle.marks.proofs.column.Given as goal
 
 abbrev pub invariant-loop-at : goal.invariant-loop-at

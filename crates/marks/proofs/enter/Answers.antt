@@ -1,6 +1,5 @@
 -- `marks::enter` meets its contract: one number is stored.
 use mathlib.Core.Path.{refl}
-use Rattle.std.proofs.Common.{rules}
 use Rattle.marks.proofs.enter.Goals as goal
 
 pub returns : goal.returns

@@ -1,15 +1,13 @@
 -- `marks::finish_accepted` meets its contract: what is cleared, read, counted and read once more comes to the promise.
-use Prim.Native.Nat.{ℕ}
-use mathlib.Core.List.{List, []}
+use mathlib.Core.List.{[]}
 use Rattle.marks.proofs.Whole.{bounds, rows_in, Blank, credit_asks, body-asks, Read, count-asks, on-asks, promised}
 use Rattle.weigh.specs.Weighed.{Tabled}
 use Rattle.walk.specs.Weight.{by_asking}
 use Rattle.walk.proofs.Weight.{factors_tabled, no_factors}
 use Rattle.walk.proofs.Zeros.{cleared-all}
-use lib.ListN.{length, length-replicate}
+use lib.ListN.{length}
 use native.Mathlib.Omega.{arith}
-use mathlib.Core.Path.{◌≡◌, ◌∙◌, ap}
-use Rattle.std.proofs.Common.{rules}
+use mathlib.Core.Path.{◌≡◌, ◌∙◌}
 use Rattle.marks.proofs.finish_accepted.Goals as goal
 
 -- a cost stays in the table

@@ -1,11 +1,8 @@
-use Prim.Native.Nat.{◌-◌}
-use mathlib.Core.Path.{◌≡◌, ap}
+use mathlib.Core.Path.{◌≡◌}
 use mathlib.Core.List.{[]}
-use lib.ListN.{length}
-use Rattle.std.proofs.Common.{rules}
 use Rattle.line.specs.declared.Family.TheVariants.{Finishes}
 use Rattle.walk.specs.Weight.{by_asking}
-use Rattle.marks.proofs.Columns.{Loop, turn-start, turn-asks, turn_again, turn-zero, turn-done}
+use Rattle.marks.proofs.Columns.{turn-start, turn-asks, turn_again, turn-zero, turn-done}
 use Rattle.marks.proofs.finish_column.Goals as goal
 
 pub loop-at-init : goal.loop-at-init

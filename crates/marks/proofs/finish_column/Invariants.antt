@@ -1,12 +1,9 @@
 -- `marks::finish_column` meets its contract: line by line, what is marked of a row is in its columns 5 and 7.
 use Prim.Native.Nat.{◌-◌}
-use mathlib.Core.Path.{◌≡◌, ap}
 use mathlib.Core.List.{[]}
-use lib.ListN.{length}
-use Rattle.std.proofs.Common.{rules}
 use Rattle.line.specs.declared.Family.TheVariants.{Finishes}
 use Rattle.walk.specs.Weight.{by_asking}
-use Rattle.marks.proofs.Columns.{Loop, turn-start, turn-asks, turn_again, turn-zero, turn-done}
+use Rattle.marks.proofs.Columns.{Loop}
 use Rattle.marks.proofs.finish_column.Given as goal
 
 abbrev pub invariant-loop-at : goal.invariant-loop-at

@@ -3,7 +3,6 @@ use Rattle.line.specs.declared.Family.TheVariants.{Finishes}
 use Rattle.marks.specs.Root.{lent, Admitted}
 use Rattle.marks.proofs.Whole.{admitted, refuses, plain}
 use mathlib.Core.Path.{◌∙◌, sym}
-use Rattle.std.proofs.Common.{rules}
 use Rattle.marks.proofs.finish_profile.Goals as goal
 
 pub finish_accepted-requires : goal.finish_accepted-requires

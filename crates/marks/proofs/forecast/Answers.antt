@@ -1,6 +1,5 @@
 -- `marks::forecast` meets its contract: what is accepted is asked, and a refusal leaves all as it was.
 use mathlib.Core.Path.{◌∙◌, sym}
-use Rattle.std.proofs.Common.{rules}
 use Rattle.line.specs.declared.Family.TheVariants.{Base}
 use Rattle.marks.specs.Root.{lent}
 use Rattle.marks.proofs.Whole.{admitted, unasked}

@@ -1,8 +1,6 @@
 -- `marks::join` meets its contract: the zone that loses is cleared, whichever it is.
-use mathlib.Core.Path.{◌∙◌}
 use native.Mathlib.Omega.{arith}
 use lib.ListN.{length-set}
-use Rattle.std.proofs.Common.{rules}
 use Rattle.marks.proofs.Steps.{join_since, join_longest}
 use Rattle.marks.proofs.join.Goals as goal
 

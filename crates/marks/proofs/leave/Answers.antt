@@ -1,6 +1,5 @@
 -- `marks::leave` meets its contract: the root's return and any other, each by its law.
 use Rattle.marks.proofs.Columns.{returned-last, returned-inner}
-use Rattle.std.proofs.Common.{rules}
 use Rattle.marks.proofs.leave.Goals as goal
 
 pub returns-then-a-eq0 : goal.returns-then-a-eq0

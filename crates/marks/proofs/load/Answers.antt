@@ -1,7 +1,6 @@
 -- `marks::load` meets its contract: eight numbers are read, and then cleared.
 use native.Mathlib.Omega.{arith}
 use lib.ListN.{length-set}
-use Rattle.std.proofs.Common.{rules}
 use Rattle.marks.proofs.load.Goals as goal
 
 pub bounds-t-1-2 : goal.bounds-t-1-2

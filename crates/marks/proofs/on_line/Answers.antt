@@ -1,7 +1,6 @@
 -- `marks::on_line` meets its contract: what a line asks for and leaves, by its kind.
 use mathlib.Core.Logic.{inl, inr}
 use Rattle.marks.proofs.Columns.{leave-asks, enter_asks, sync-leaves, note-leaves, return_leaves, add-asks, cost-leaves, child-leaves}
-use Rattle.std.proofs.Common.{rules}
 use Rattle.marks.proofs.on_line.Goals as goal
 
 pub add_marked-requires : goal.add_marked-requires

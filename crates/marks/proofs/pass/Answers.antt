@@ -1,6 +1,5 @@
 -- `marks::pass` meets its contract: one mark is cleared.
 use Rattle.marks.proofs.Steps.{passed-done}
-use Rattle.std.proofs.Common.{rules}
 use Rattle.marks.proofs.pass.Goals as goal
 
 pub returns : goal.returns

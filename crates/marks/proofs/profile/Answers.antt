@@ -4,7 +4,6 @@ use Rattle.walk.proofs.Weight.{no_factors}
 use Rattle.marks.specs.Root.{lent, Admitted}
 use Rattle.marks.proofs.Whole.{admitted, refuses, plain}
 use mathlib.Core.Path.{◌∙◌, sym}
-use Rattle.std.proofs.Common.{rules}
 use Rattle.marks.proofs.profile.Goals as goal
 
 pub accepted-requires : goal.accepted-requires

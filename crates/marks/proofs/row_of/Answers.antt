@@ -1,6 +1,5 @@
 -- `marks::row_of` meets its contract: a finish's row is that around it.
 use mathlib.Core.Path.{◌∙◌, sym}
-use Rattle.std.proofs.Common.{rules}
 use Rattle.marks.proofs.Finish.{row-around, row_named}
 use Rattle.marks.proofs.row_of.Goals as goal
 

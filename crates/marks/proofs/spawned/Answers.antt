@@ -1,8 +1,6 @@
 -- `marks::spawned` meets its contract: of the child and the longest before it, the one that loses is cleared.
-use mathlib.Core.Path.{◌∙◌}
 use native.Mathlib.Omega.{arith}
 use lib.ListN.{length-set}
-use Rattle.std.proofs.Common.{rules}
 use Rattle.marks.proofs.Steps.{spawned_longer, spawned-shorter}
 use Rattle.marks.proofs.spawned.Goals as goal
 

@@ -1,6 +1,5 @@
 -- `marks::spend` meets its contract: one mark is set.
 use Rattle.marks.proofs.Steps.{spent-done}
-use Rattle.std.proofs.Common.{rules}
 use Rattle.marks.proofs.spend.Goals as goal
 
 pub returns : goal.returns

@@ -1,7 +1,6 @@
 -- `marks::store` meets its contract: eight numbers are written.
 use native.Mathlib.Omega.{arith}
 use lib.ListN.{length-set}
-use Rattle.std.proofs.Common.{rules}
 use Rattle.marks.proofs.store.Goals as goal
 
 pub bounds-t-1 : goal.bounds-t-1

@@ -1,9 +1,8 @@
-use Rattle.std.proofs.Common.{rules}
 use borrow.Author.Fill.{fill_none, fill_more}
 use mathlib.Core.Path.{◌≡◌, refl, ◌∙◌, ap}
 use mathlib.Core.List.{List, ◌++◌, append-nil}
 use lib.Seq.{drop-length}
-use Prim.Native.Nat.{ℕ, ◌≤◌, ◌-◌}
+use Prim.Native.Nat.{ℕ}
 use native.Mathlib.Omega.{arith}
 use lib.ListN.{length, drop, set, replicate, length-set}
 use Rattle.marks.proofs.wipe.Goals as goal

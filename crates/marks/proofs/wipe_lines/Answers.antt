@@ -3,7 +3,6 @@ use mathlib.Core.Path.{ap, ◌∙◌}
 use Prim.Native.Nat.{ℕ}
 use lib.ListN.{replicate}
 use borrow.Rule.Slice.PartMut.{mid_len}
-use Rattle.std.proofs.Common.{rules}
 use Rattle.marks.proofs.Shown.{wiped}
 use Rattle.marks.proofs.wipe_lines.Goals as goal
 

@@ -2,7 +2,6 @@
 -- own.
 use mathlib.Core.Path.{◌≡◌, ◌∙◌}
 use lib.ListN.{length, replicate}
-use Rattle.std.proofs.Common.{rules}
 use Rattle.walk.proofs.Zeros.{cleared-all}
 use Rattle.marks.proofs.Heavier.{depth-some, heavier-asks, heavier-leaves}
 use Rattle.marks.proofs.with_heavier.Goals as goal

@@ -1,9 +1,5 @@
-use Rattle.std.proofs.Common.{rules}
-use Prim.Native.Nat.{◌-◌, ◌≤◌}
-use mathlib.Core.Path.{◌≡◌, refl, ◌∙◌, sym}
+use mathlib.Core.Path.{refl, ◌∙◌, sym}
 use native.Mathlib.Omega.{arith}
-use lib.ListN.{length}
-use Rattle.names.specs.Places.{end_of}
 use Rattle.names.proofs.Lines.{end_on, end_feed, end-text}
 use Rattle.names.proofs.end.Goals as goal
 

@@ -1,10 +1,8 @@
-use Rattle.std.proofs.Common.{rules}
-use Prim.Native.Nat.{◌-◌, ◌≤◌}
-use mathlib.Core.Path.{◌≡◌, refl, ap, ◌∙◌, sym}
+use mathlib.Core.Path.{refl, ap, ◌∙◌, sym}
 use native.Mathlib.Omega.{arith}
 use borrow.Author.Tests.{not-true, not-false}
-use Rattle.names.specs.Names.{is_name, bad_from, first_bad}
-use Rattle.names.proofs.Lines.{Begins, begins-next, shown-parts}
+use Rattle.names.specs.Names.{is_name}
+use Rattle.names.proofs.Lines.{begins-next, shown-parts}
 use Rattle.names.proofs.Names.{bad-start, bad-here, bad-on, bad-end}
 use Rattle.names.proofs.first_bad.Goals as goal
 

@@ -1,13 +1,9 @@
 -- `names::first_bad` meets its contract. The invariant: a line of either text begins for this row, and no row before it
 -- is bad. The measure is how many rows are left. Assumes nothing.
-use Rattle.std.proofs.Common.{rules}
 use Prim.Native.Nat.{◌-◌, ◌≤◌}
-use mathlib.Core.Path.{◌≡◌, refl, ap, ◌∙◌, sym}
-use native.Mathlib.Omega.{arith}
-use borrow.Author.Tests.{not-true, not-false}
-use Rattle.names.specs.Names.{is_name, bad_from, first_bad}
-use Rattle.names.proofs.Lines.{Begins, begins-next, shown-parts}
-use Rattle.names.proofs.Names.{bad-start, bad-here, bad-on, bad-end}
+use mathlib.Core.Path.{◌≡◌}
+use Rattle.names.specs.Names.{bad_from, first_bad}
+use Rattle.names.proofs.Lines.{Begins}
 use Rattle.names.proofs.first_bad.Given as goal
 
 abbrev pub invariant-loop-row : goal.invariant-loop-row

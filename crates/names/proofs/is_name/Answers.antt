@@ -1,11 +1,10 @@
-use Rattle.std.proofs.Common.{rules}
-use Prim.Native.Nat.{◌+◌, ◌-◌, ◌≤◌}
+use Prim.Native.Nat.{◌+◌}
 use mathlib.Core.Bool.{Bool, ◌&&◌}
-use mathlib.Core.Path.{◌≡◌, ap, ◌∙◌, sym}
+use mathlib.Core.Path.{ap, ◌∙◌, sym}
 use native.Mathlib.Omega.{arith}
 use borrow.Author.Tests.{not-true, not-false}
-use lib.ListN.{length, drop}
-use Rattle.names.specs.Names.{is_name, name_chars}
+use lib.ListN.{drop}
+use Rattle.names.specs.Names.{name_chars}
 use Rattle.names.proofs.Names.{name-start, name-empty, chars-more, chars-end}
 use Rattle.names.proofs.is_name.Goals as goal
 

@@ -1,14 +1,9 @@
 -- `names::is_name` meets its contract. The invariant: it is a name if the characters from `i` on are those of one. The
 -- measure is what is left of the text. Assumes nothing.
-use Rattle.std.proofs.Common.{rules}
-use Prim.Native.Nat.{◌+◌, ◌-◌, ◌≤◌}
-use mathlib.Core.Bool.{Bool, ◌&&◌}
-use mathlib.Core.Path.{◌≡◌, ap, ◌∙◌, sym}
-use native.Mathlib.Omega.{arith}
-use borrow.Author.Tests.{not-true, not-false}
+use Prim.Native.Nat.{◌-◌, ◌≤◌}
+use mathlib.Core.Path.{◌≡◌}
 use lib.ListN.{length, drop}
 use Rattle.names.specs.Names.{is_name, name_chars}
-use Rattle.names.proofs.Names.{name-start, name-empty, chars-more, chars-end}
 use Rattle.names.proofs.is_name.Given as goal
 
 abbrev pub invariant-loop-i : goal.invariant-loop-i

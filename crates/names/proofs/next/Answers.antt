@@ -1,5 +1,4 @@
 -- `names::next` meets its contract. Assumes nothing.
-use Rattle.std.proofs.Common.{rules}
 use borrow.Author.Tests.{lt-ltb, le-ltb}
 use Rattle.names.proofs.next.Goals as goal
 

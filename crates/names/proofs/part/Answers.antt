@@ -1,5 +1,4 @@
 -- `names::part` meets its contract. Assumes nothing.
-use Rattle.std.proofs.Common.{rules}
 use Rattle.names.proofs.Lines.{part_none, part-behind, part-rest}
 use Rattle.names.proofs.part.Goals as goal
 

@@ -1,5 +1,4 @@
 -- `nyolifuwe::by_marks` meets its contract: each family's engine. Assumes nothing.
-use Rattle.std.proofs.Common.{rules}
 use Rattle.nyolifuwe.proofs.by_marks.Goals as goal
 
 pub returns-in-Base : goal.returns-in-Base

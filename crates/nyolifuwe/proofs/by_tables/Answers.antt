@@ -1,5 +1,4 @@
 -- `nyolifuwe::by_tables` meets its contract: each family's engine. Assumes nothing.
-use Rattle.std.proofs.Common.{rules}
 use Rattle.nyolifuwe.proofs.by_tables.Goals as goal
 
 pub returns-in-Base : goal.returns-in-Base

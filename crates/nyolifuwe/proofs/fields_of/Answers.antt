@@ -1,5 +1,4 @@
 -- `nyolifuwe::fields_of` meets its contract: a frame of each kind has the fields that are given for it. Assumes nothing.
-use Rattle.std.proofs.Common.{rules}
 use Rattle.nyolifuwe.proofs.fields_of.Goals as goal
 
 pub returns-in-Site : goal.returns-in-Site

@@ -3,7 +3,6 @@
 use Rattle.line.specs.declared.Family.TheVariants.{Base}
 use Rattle.trace.specs.Promise.{Engine, Lent}
 use Rattle.nyolifuwe.proofs.Profiled.{by_list, answer-line, without-room, with-room}
-use Rattle.std.proofs.Common.{rules}
 use Rattle.nyolifuwe.proofs.forecast_marks.Goals as goal
 
 pub returns-then-answer-lt4 : goal.returns-then-answer-lt4

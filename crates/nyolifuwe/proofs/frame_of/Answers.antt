@@ -4,10 +4,8 @@ use mathlib.Core.Path.{◌∙◌}
 use native.Mathlib.Omega.{arith}
 use borrow.Author.Tests.{not-true, not-false}
 use Rattle.line.specs.declared.Family.TheVariants.{Base, Finishes}
-use Rattle.line.specs.Table.{Fields}
 use Rattle.line.proofs.RoundTrip.{narrow-fits}
 use Rattle.nyolifuwe.proofs.Decided.{framed-narrow, framed-wide}
-use Rattle.std.proofs.Common.{rules}
 use Rattle.nyolifuwe.proofs.frame_of.Goals as goal
 
 pub returns-then-not-narrow : goal.returns-then-not-narrow

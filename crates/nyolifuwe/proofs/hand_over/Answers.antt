@@ -5,7 +5,6 @@ use native.Mathlib.Omega.{arith}
 use Rattle.nyolifuwe.specs.Inside.{line_in}
 use Rattle.nyolifuwe.specs.Engines.{numbered}
 use Rattle.nyolifuwe.proofs.Decided.{refused, given}
-use Rattle.std.proofs.Common.{rules}
 use Rattle.nyolifuwe.proofs.hand_over.Goals as goal
 
 pub code-requires : goal.code-requires

@@ -7,7 +7,6 @@ use lib.ListN.{length, drop}
 use Rattle.nyolifuwe.specs.Inside.{line_asked}
 use Rattle.nyolifuwe.specs.Asking.{numbers_of, why_numbered}
 use Rattle.nyolifuwe.proofs.Decided.{refused, given}
-use Rattle.std.proofs.Common.{rules}
 use Rattle.nyolifuwe.proofs.hand_why.Goals as goal
 
 pub code-requires : goal.code-requires

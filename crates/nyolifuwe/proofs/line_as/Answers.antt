@@ -1,5 +1,4 @@
 -- `nyolifuwe::line_as` meets its contract: each family's reader. Assumes nothing.
-use Rattle.std.proofs.Common.{rules}
 use Rattle.nyolifuwe.proofs.line_as.Goals as goal
 
 pub returns-in-Base : goal.returns-in-Base

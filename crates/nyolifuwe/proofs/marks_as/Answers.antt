@@ -2,7 +2,6 @@
 -- answer. Assumes nothing.
 use Rattle.trace.specs.Promise.{Engine, Lent}
 use Rattle.nyolifuwe.proofs.Profiled.{plain, answer-line, without-room, with-room}
-use Rattle.std.proofs.Common.{rules}
 use Rattle.nyolifuwe.proofs.marks_as.Goals as goal
 
 pub returns-then-answer-lt4 : goal.returns-then-answer-lt4

@@ -1,5 +1,4 @@
 -- `nyolifuwe::numbers_of` meets its contract: an answer of each case has the numbers that are given for it. Assumes nothing.
-use Rattle.std.proofs.Common.{rules}
 use Rattle.nyolifuwe.proofs.numbers_of.Goals as goal
 
 pub returns-in-NotCost : goal.returns-in-NotCost

@@ -1,6 +1,5 @@
 -- `nyolifuwe::nyo_compact` meets its contract: the compactor, with its count told, or no room for the count. Assumes
 -- nothing.
-use Rattle.std.proofs.Common.{rules}
 use Rattle.nyolifuwe.proofs.Shelf.{shelf_line, shelf_unroomy, shelf_told}
 use Rattle.nyolifuwe.proofs.nyo_compact.Goals as goal
 

@@ -1,5 +1,4 @@
 -- `nyolifuwe::nyo_csv_read` meets its contract: without room for the count, and with it. Assumes nothing.
-use Rattle.std.proofs.Common.{rules}
 use lib.ListN.{length}
 use Rattle.nyolifuwe.proofs.Sheets.{csv_untaken, csv_taken, csv_record}
 use Rattle.nyolifuwe.proofs.nyo_csv_read.Goals as goal

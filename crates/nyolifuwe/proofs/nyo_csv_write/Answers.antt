@@ -4,7 +4,6 @@ use lib.ListN.{length}
 use Rattle.sheet.specs.Writing.{writing}
 use Rattle.nyolifuwe.proofs.Decided.{untold, tells}
 use Rattle.nyolifuwe.proofs.Sheets.{csv_1, csv_4, csv_is, csv_at_0}
-use Rattle.std.proofs.Common.{rules}
 use Rattle.nyolifuwe.proofs.nyo_csv_write.Goals as goal
 
 pub returns-then-count-gt255 : goal.returns-then-count-gt255

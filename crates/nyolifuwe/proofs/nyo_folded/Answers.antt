@@ -1,5 +1,4 @@
 -- `nyolifuwe::nyo_folded` meets its contract: the writer, with its count told, or no room for the count. Assumes nothing.
-use Rattle.std.proofs.Common.{rules}
 use lib.ListN.{length}
 use Rattle.nyolifuwe.proofs.Stacks.{stacks_line, stacks_unroomy, stacks_told}
 use Rattle.nyolifuwe.proofs.nyo_folded.Goals as goal

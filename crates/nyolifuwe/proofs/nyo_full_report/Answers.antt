@@ -3,7 +3,6 @@
 use lib.ListN.{length}
 use Rattle.report.specs.Report.{full_report}
 use Rattle.nyolifuwe.proofs.Decided.{untold, counted_is, tells, report_1, report_4, report_at_0}
-use Rattle.std.proofs.Common.{rules}
 use Rattle.nyolifuwe.proofs.nyo_full_report.Goals as goal
 
 pub returns-then-count-gt255 : goal.returns-then-count-gt255

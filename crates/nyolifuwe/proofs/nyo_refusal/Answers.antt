@@ -3,7 +3,6 @@
 use lib.ListN.{length}
 use Rattle.report.specs.Refusal.{print_refusal}
 use Rattle.nyolifuwe.proofs.Decided.{untold, counted_is, tells, print_1_number, print_1_line, print_4, print_at_0}
-use Rattle.std.proofs.Common.{rules}
 use Rattle.nyolifuwe.proofs.nyo_refusal.Goals as goal
 
 pub returns-then-number-gt255 : goal.returns-then-number-gt255

@@ -1,7 +1,6 @@
 -- `nyolifuwe::nyo_why` meets its contract: asking why, with the answer handed over, or no room for the answer. Assumes
 -- nothing.
 use native.Mathlib.Omega.{arith}
-use Rattle.std.proofs.Common.{rules}
 use Rattle.nyolifuwe.proofs.Asking.{asked-line, why_unroomy, why_given}
 use Rattle.nyolifuwe.proofs.nyo_why.Goals as goal
 

@@ -1,9 +1,7 @@
-use Rattle.std.proofs.Common.{rules}
-use Prim.Native.Nat.{◌≤◌, ◌-◌}
-use mathlib.Core.Path.{◌≡◌, refl, ◌∙◌, ap}
+use mathlib.Core.Path.{refl, ◌∙◌, ap}
 use native.Mathlib.Omega.{arith}
 use lib.ListN.{length}
-use Rattle.nyolifuwe.proofs.Front.{fronted, fronted-length, front-more, front-all}
+use Rattle.nyolifuwe.proofs.Front.{fronted-length, front-more, front-all}
 use Rattle.nyolifuwe.proofs.put.Goals as goal
 
 pub loop-i-init : goal.loop-i-init

@@ -1,11 +1,9 @@
 -- `nyolifuwe::put` meets its contract. The invariant: the first `i` numbers are over the front. The measure is what
 -- is left. Assumes nothing.
-use Rattle.std.proofs.Common.{rules}
 use Prim.Native.Nat.{◌≤◌, ◌-◌}
-use mathlib.Core.Path.{◌≡◌, refl, ◌∙◌, ap}
-use native.Mathlib.Omega.{arith}
+use mathlib.Core.Path.{◌≡◌}
 use lib.ListN.{length}
-use Rattle.nyolifuwe.proofs.Front.{fronted, fronted-length, front-more, front-all}
+use Rattle.nyolifuwe.proofs.Front.{fronted}
 use Rattle.nyolifuwe.proofs.put.Given as goal
 
 abbrev pub invariant-loop-i : goal.invariant-loop-i

@@ -7,7 +7,6 @@ use lib.ListN.{length, drop}
 use Rattle.line.specs.Table.{fields_of}
 use Rattle.nyolifuwe.specs.Lines.{numbers}
 use Rattle.nyolifuwe.proofs.Decided.{refused, given, read_2, read_4, read_as, read_at_0}
-use Rattle.std.proofs.Common.{rules}
 use Rattle.nyolifuwe.proofs.read_as.Goals as goal
 
 pub returns-then-line-ne-LINE : goal.returns-then-line-ne-LINE

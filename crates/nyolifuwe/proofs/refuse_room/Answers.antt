@@ -2,7 +2,6 @@
 use mathlib.Core.Path.{◌∙◌, sym}
 use mathlib.Core.Logic.{inl, inr}
 use mathlib.Core.Bool.{false}
-use Rattle.std.proofs.Common.{rules}
 use Rattle.trace.proofs.Checks.{room-last}
 use Rattle.nyolifuwe.proofs.refuse_room.Goals as goal
 

@@ -3,7 +3,6 @@
 use mathlib.Core.List.{[]}
 use Rattle.trace.specs.Promise.{Engine, Lent}
 use Rattle.nyolifuwe.proofs.Profiled.{plain, answer-line, without-room, with-room}
-use Rattle.std.proofs.Common.{rules}
 use Rattle.nyolifuwe.proofs.tables_as.Goals as goal
 
 pub returns-then-answer-lt4 : goal.returns-then-answer-lt4

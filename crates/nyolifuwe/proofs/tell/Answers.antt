@@ -3,7 +3,6 @@ use mathlib.Core.Path.{refl, ap, sym}
 use native.Mathlib.Omega.{arith}
 use lib.Seq.{set_split}
 use Rattle.nyolifuwe.specs.Inside.{line_of}
-use Rattle.std.proofs.Common.{rules}
 use Rattle.nyolifuwe.proofs.tell.Goals as goal
 
 pub code-requires : goal.code-requires

@@ -10,7 +10,6 @@ use Rattle.report.specs.Room.{write, fitting}
 use Rattle.report.proofs.Decisions.{fitting-text}
 use Rattle.nyolifuwe.specs.Lines.{fields_in}
 use Rattle.nyolifuwe.proofs.Decided.{untold, tells, fitting_at_0, write_4_frame, write_4_out, write_4_count, write-framed, write-refused, framed_at_0}
-use Rattle.std.proofs.Common.{rules}
 use Rattle.nyolifuwe.proofs.write_as.Goals as goal
 
 pub returns-then-frame-lt-FIELDS : goal.returns-then-frame-lt-FIELDS

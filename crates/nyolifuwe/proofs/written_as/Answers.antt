@@ -1,5 +1,4 @@
 -- `nyolifuwe::written_as` meets its contract: each family's writer. Assumes nothing.
-use Rattle.std.proofs.Common.{rules}
 use Rattle.nyolifuwe.proofs.written_as.Goals as goal
 
 pub returns-in-Base : goal.returns-in-Base

@@ -1,8 +1,7 @@
-use Rattle.std.proofs.Common.{rules}
-use Prim.Native.Nat.{◌≤◌, ◌<◌, ◌-◌}
-use mathlib.Core.Path.{◌≡◌, refl, ◌∙◌}
+use Prim.Native.Nat.{◌<◌}
+use mathlib.Core.Path.{refl, ◌∙◌}
 use native.Mathlib.Omega.{arith}
-use lib.ListN.{length, take, length-set}
+use lib.ListN.{length, length-set}
 use Rattle.report.proofs.Parts.{copy_more, copy_all}
 use Rattle.report.proofs.copy.Goals as goal
 

@@ -1,11 +1,8 @@
 -- `report::copy` meets its contract. The invariant: the first `i` are copied. The measure is what is left. Assumes
 -- nothing.
-use Rattle.std.proofs.Common.{rules}
-use Prim.Native.Nat.{◌≤◌, ◌<◌, ◌-◌}
-use mathlib.Core.Path.{◌≡◌, refl, ◌∙◌}
-use native.Mathlib.Omega.{arith}
-use lib.ListN.{length, take, length-set}
-use Rattle.report.proofs.Parts.{copy_more, copy_all}
+use Prim.Native.Nat.{◌≤◌, ◌-◌}
+use mathlib.Core.Path.{◌≡◌}
+use lib.ListN.{length, take}
 use Rattle.report.proofs.copy.Given as goal
 
 abbrev pub invariant-loop-i : goal.invariant-loop-i

@@ -1,5 +1,4 @@
 -- `report::is_printed` meets its contract. Assumes nothing.
-use Rattle.std.proofs.Common.{rules}
 use Rattle.report.proofs.Choice.{root-asked, calls-asked}
 use Rattle.report.proofs.is_printed.Goals as goal
 

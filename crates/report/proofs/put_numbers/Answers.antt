@@ -1,10 +1,9 @@
-use Rattle.std.proofs.Common.{rules}
-use Prim.Native.Nat.{ℕ, ◌+◌, ◌*◌, ◌≤◌, ◌-◌}
+use Prim.Native.Nat.{ℕ, ◌+◌, ◌*◌, ◌-◌}
 use mathlib.Core.List.{List, ◌++◌, append-nil, flat_map}
-use mathlib.Core.Path.{◌≡◌, refl, ◌∙◌, ap, sym}
+use mathlib.Core.Path.{refl, ◌∙◌, ap}
 use native.Mathlib.Omega.{arith}
 use borrow.Rule.Slice.PartMut.{same_len_mid}
-use lib.ListN.{length, take, drop, drop_of_length-le}
+use lib.ListN.{take, drop_of_length-le}
 use lib.Seq.{take_all}
 use Rattle.digits.specs.Digits.{digits}
 use Rattle.report.proofs.Lines.{numbers_more}

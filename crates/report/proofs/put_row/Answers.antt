@@ -1,5 +1,4 @@
 -- `report::put_row` meets its contract. Assumes nothing.
-use Rattle.std.proofs.Common.{rules}
 use Prim.Native.Nat.{ℕ, ◌+◌, ◌*◌}
 use mathlib.Core.Path.{◌∙◌, ap, sym}
 use native.Mathlib.Nat.{add-sub_cancel_left}

@@ -1,9 +1,5 @@
-use Rattle.std.proofs.Common.{rules}
-use Prim.Native.Nat.{ℕ, ◌-◌, ◌≤◌}
 use mathlib.Core.Path.{◌≡◌, refl, ap, ◌∙◌, sym}
 use native.Mathlib.Omega.{arith}
-use lib.ListN.{length}
-use Rattle.report.specs.Room.{Lays}
 use Rattle.report.specs.Pieces.{piece, pieces}
 use Rattle.report.proofs.Laying.{lays_nothing, lays_next, lays_as}
 use Rattle.report.proofs.Lines.{flat_map_none, next_row, fits-row}

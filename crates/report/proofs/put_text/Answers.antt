@@ -5,7 +5,6 @@ use mathlib.Core.Path.{refl, ap}
 use native.Mathlib.Nat.{sub-zero}
 use lib.ListN.{length, drop}
 use Rattle.report.proofs.Decisions.{refused, written, fitting_short, fitting-text}
-use Rattle.std.proofs.Common.{rules}
 use Rattle.report.proofs.put_text.Goals as goal
 
 pub returns-then-out-n : goal.returns-then-out-n

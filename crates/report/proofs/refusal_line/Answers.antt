@@ -1,5 +1,4 @@
 -- `report::refusal_line` meets its contract: three parts, one behind the other, before the line feed. Assumes nothing.
-use Rattle.std.proofs.Common.{rules}
 use Prim.Native.Nat.{ℕ, ◌+◌}
 use mathlib.Core.List.{List, [], ◌∷◌, ◌++◌}
 use mathlib.Core.Path.{◌≡◌, ◌∙◌, ap}

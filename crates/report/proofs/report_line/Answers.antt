@@ -1,5 +1,4 @@
 -- `report::report_line` meets its contract: two parts, one behind the other, before the line feed. Assumes nothing.
-use Rattle.std.proofs.Common.{rules}
 use Prim.Native.Nat.{ℕ, ◌+◌, ◌*◌}
 use mathlib.Core.List.{List, [], ◌∷◌, ◌++◌, append_assoc, flat_map}
 use mathlib.Core.Path.{refl, ◌∙◌, ap}

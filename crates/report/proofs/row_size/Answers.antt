@@ -1,5 +1,4 @@
 -- `report::row_size` meets its contract. Assumes nothing.
-use Rattle.std.proofs.Common.{rules}
 use mathlib.Core.Path.{◌∙◌, sym}
 use native.Mathlib.Omega.{arith}
 use Rattle.report.proofs.Choice.{line-counted, none-counted}

@@ -1,9 +1,7 @@
-use Rattle.std.proofs.Common.{rules}
-use Prim.Native.Nat.{ℕ, ◌*◌, ◌-◌, ◌≤◌}
+use Prim.Native.Nat.{ℕ}
 use mathlib.Core.Path.{◌≡◌, ap, ◌∙◌, sym}
 use native.Mathlib.Omega.{arith}
 use lib.ListN.{length, length-append}
-use Rattle.report.specs.Rows.{width}
 use Rattle.report.specs.Pieces.{piece, pieces}
 use Rattle.report.proofs.Lines.{flat_map_none, next_row}
 use Rattle.report.proofs.rows_size.Goals as goal

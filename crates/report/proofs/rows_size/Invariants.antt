@@ -1,13 +1,10 @@
 -- `report::rows_size` meets its contract. The invariant: the first rows are counted. The measure is how many are left.
 -- Assumes nothing.
-use Rattle.std.proofs.Common.{rules}
-use Prim.Native.Nat.{ℕ, ◌*◌, ◌-◌, ◌≤◌}
-use mathlib.Core.Path.{◌≡◌, ap, ◌∙◌, sym}
-use native.Mathlib.Omega.{arith}
-use lib.ListN.{length, length-append}
+use Prim.Native.Nat.{◌*◌, ◌-◌, ◌≤◌}
+use mathlib.Core.Path.{◌≡◌}
+use lib.ListN.{length}
 use Rattle.report.specs.Rows.{width}
-use Rattle.report.specs.Pieces.{piece, pieces}
-use Rattle.report.proofs.Lines.{flat_map_none, next_row}
+use Rattle.report.specs.Pieces.{pieces}
 use Rattle.report.proofs.rows_size.Given as goal
 
 abbrev pub invariant-loop-row : goal.invariant-loop-row

@@ -1,5 +1,4 @@
 -- `report::write` meets its contract: each answer is what is decided by the tests that led to it. Assumes nothing.
-use Rattle.std.proofs.Common.{rules}
 use Prim.Native.Nat.{ℕ, ◌+◌}
 use mathlib.Core.List.{◌++◌}
 use mathlib.Core.Path.{◌≡◌, ◌∙◌, ap, sym}

@@ -1,5 +1,4 @@
 -- `report::write_full_report` meets its contract. Assumes nothing.
-use Rattle.std.proofs.Common.{rules}
 use mathlib.Core.Path.{sym}
 use lib.ListN.{length}
 use Rattle.report.proofs.Choice.{decided_full}

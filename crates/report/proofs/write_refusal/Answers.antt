@@ -2,7 +2,6 @@
 -- nothing.
 use lib.ListN.{length}
 use Rattle.report.proofs.Decisions.{refused, print_1_number, print_1_line, print_fitting}
-use Rattle.std.proofs.Common.{rules}
 use Rattle.report.proofs.write_refusal.Goals as goal
 
 pub returns-then-number-gt255 : goal.returns-then-number-gt255

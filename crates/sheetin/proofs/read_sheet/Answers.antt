@@ -1,5 +1,4 @@
 -- `sheetin::read_sheet` meets its contract: the header, the records, the room, and only then the rows. Assumes nothing.
-use Rattle.std.proofs.Common.{rules}
 use native.Mathlib.Omega.{arith}
 use borrow.Author.Tests.{not-true, not-false}
 use Rattle.sheetin.proofs.Front.{rest-is}

@@ -1,11 +1,7 @@
-use Rattle.std.proofs.Common.{rules}
-use Prim.Native.Nat.{◌-◌}
-use mathlib.Core.Path.{◌≡◌}
 use native.Mathlib.Omega.{arith}
-use lib.ListN.{length, get_or}
-use Rattle.trace.specs.Rows.{columns}
+use lib.ListN.{get_or}
 use Rattle.digits.proofs.Figures.{decimal-length, decimal-few}
-use Rattle.sheetout.proofs.Counting.{Sized, sized_none, sized_more, sized_all}
+use Rattle.sheetout.proofs.Counting.{sized_none, sized_more, sized_all}
 use Rattle.sheetout.proofs.numbers_size.Goals as goal
 
 pub loop-k-init : goal.loop-k-init

@@ -1,5 +1,4 @@
 -- `sheetout::put_header` meets its contract: two pieces, one behind the other. Assumes nothing.
-use Rattle.std.proofs.Common.{rules}
 use native.Mathlib.Omega.{arith}
 use Rattle.sheetout.proofs.Counting.{header-length, lays_header}
 use Rattle.sheetout.proofs.put_header.Goals as goal

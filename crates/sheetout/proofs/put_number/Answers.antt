@@ -1,5 +1,4 @@
 -- `sheetout::put_number` meets its contract. Assumes nothing.
-use Rattle.std.proofs.Common.{rules}
 use mathlib.Core.List.{[], ◌∷◌}
 use native.Mathlib.Omega.{arith}
 use Rattle.report.proofs.Laying.{lays_next}

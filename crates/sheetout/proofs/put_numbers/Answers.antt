@@ -1,11 +1,8 @@
-use Rattle.std.proofs.Common.{rules}
-use Prim.Native.Nat.{◌-◌, ◌≤◌}
 use mathlib.Core.List.{flat_map}
-use mathlib.Core.Path.{◌≡◌, refl, ap, ◌∙◌, sym}
+use mathlib.Core.Path.{refl, ap, ◌∙◌, sym}
 use native.Mathlib.Omega.{arith}
-use lib.ListN.{length, take, get_or}
+use lib.ListN.{take, get_or}
 use lib.Seq.{take_all}
-use Rattle.report.specs.Room.{Lays}
 use Rattle.report.proofs.Laying.{lays_nothing, lays_next, lays_as}
 use Rattle.sheetout.specs.Pieces.{number_text}
 use Rattle.report.proofs.Lines.{flat_map_none}

@@ -1,17 +1,11 @@
 -- `sheetout::put_numbers` meets its contract. The invariant: the first numbers are laid. The measure is how many are
 -- left. Assumes nothing.
-use Rattle.std.proofs.Common.{rules}
 use Prim.Native.Nat.{◌-◌, ◌≤◌}
 use mathlib.Core.List.{flat_map}
-use mathlib.Core.Path.{◌≡◌, refl, ap, ◌∙◌, sym}
-use native.Mathlib.Omega.{arith}
-use lib.ListN.{length, take, get_or}
-use lib.Seq.{take_all}
+use mathlib.Core.Path.{◌≡◌}
+use lib.ListN.{length, take}
 use Rattle.report.specs.Room.{Lays}
-use Rattle.report.proofs.Laying.{lays_nothing, lays_next, lays_as}
 use Rattle.sheetout.specs.Pieces.{number_text}
-use Rattle.report.proofs.Lines.{flat_map_none}
-use Rattle.sheetout.proofs.Counting.{next_of, fits-of}
 use Rattle.sheetout.proofs.put_numbers.Given as goal
 
 abbrev pub invariant-loop-k : goal.invariant-loop-k

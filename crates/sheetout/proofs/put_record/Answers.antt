@@ -1,5 +1,4 @@
 -- `sheetout::put_record` meets its contract: three pieces, one behind the other. Assumes nothing.
-use Rattle.std.proofs.Common.{rules}
 use native.Mathlib.Omega.{arith}
 use Rattle.digits.proofs.Figures.{decimal-length}
 use Rattle.sheetout.proofs.Counting.{record_size_is, lays_record}

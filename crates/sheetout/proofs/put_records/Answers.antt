@@ -1,5 +1,4 @@
-use Rattle.std.proofs.Common.{rules}
-use Prim.Native.Nat.{ℕ, ◌*◌, ◌-◌, ◌≤◌}
+use Prim.Native.Nat.{ℕ, ◌*◌}
 use mathlib.Core.List.{flat_map}
 use mathlib.Core.Path.{◌≡◌, refl, ap, ◌∙◌, sym}
 use native.Mathlib.Nat.{add-sub_cancel_left}
@@ -8,7 +7,6 @@ use borrow.Rule.Slice.PartMut.{mid_of}
 use lib.ListN.{length}
 use Rattle.trace.specs.Rows.{columns}
 use Rattle.report.specs.Report.{first}
-use Rattle.report.specs.Room.{Lays}
 use Rattle.report.proofs.Laying.{lays_nothing, lays_next, lays_as}
 use Rattle.sheetout.specs.Pieces.{record_text, row_text}
 use Rattle.report.proofs.Lines.{flat_map_none, next_row, fits-row}

@@ -1,5 +1,4 @@
-use Rattle.std.proofs.Common.{rules}
-use Prim.Native.Nat.{ℕ, ◌*◌, ◌-◌, ◌≤◌}
+use Prim.Native.Nat.{ℕ, ◌*◌}
 use mathlib.Core.List.{flat_map}
 use mathlib.Core.Path.{◌≡◌, ap, ◌∙◌}
 use native.Mathlib.Nat.{add-sub_cancel_left}
@@ -9,7 +8,7 @@ use lib.ListN.{length, length-take, length-drop}
 use Rattle.trace.specs.Rows.{columns}
 use Rattle.report.specs.Report.{first}
 use Rattle.sheetout.specs.Pieces.{record_text, row_text}
-use Rattle.sheetout.proofs.Counting.{Counted, counted_none, counted-more}
+use Rattle.sheetout.proofs.Counting.{counted_none, counted-more}
 use Rattle.sheetout.proofs.records_size.Goals as goal
 
 pub loop-row-init : goal.loop-row-init

@@ -1,17 +1,13 @@
-use Prim.Native.Nat.{ℕ, ◌+◌, ◌*◌, ◌-◌, ◌<◌}
-use mathlib.Core.List.{List, []}
+use Prim.Native.Nat.{ℕ, ◌+◌, ◌-◌}
 use mathlib.Core.Path.{◌≡◌, ap, ◌∙◌}
 use mathlib.Core.Logic.{inl, inr}
 use native.Mathlib.Omega.{arith}
-use Rattle.std.proofs.Common.{rules}
 use Rattle.line.specs.declared.Family.TheVariants.{Finishes}
 use Rattle.trace.specs.Tree.{larger}
-use Rattle.weigh.specs.Weighed.{Weigh}
 use Rattle.walk.specs.declared.Cycles.{Cycles}
 use Rattle.walk.specs.Measure.{cycles}
-use Rattle.walk.specs.Weight.{by_asking}
-use Rattle.tables.proofs.Bodies.{begins, Loop, loop-start, loop-asks, Next, loop-less, loop_again, loop-done, loop-reaches, body-leaves}
-use Rattle.tables.proofs.Items.{line-fits, blocks-fit, join_asks, note-leaves, Costs, rows-asks, spend-asks, cost-leaves, deeper, room, credit_asks, body-asks, Back, back_long, count-asks, called-asks, spawned-asks}
+use Rattle.tables.proofs.Bodies.{begins, loop-start, loop-asks, Next, loop-less, loop_again, loop-done, loop-reaches, body-leaves}
+use Rattle.tables.proofs.Items.{line-fits, blocks-fit, join_asks, note-leaves, Costs, rows-asks, spend-asks, cost-leaves, deeper, room, credit_asks, body-asks, Back, count-asks, called-asks, spawned-asks}
 use Rattle.tables.proofs.Finish.{reach_of, item-keeps, asks-kind, asks-finish, cost-reaches, note-reaches, finish-reaches, Passes, start_fits, call_deeper, call_credit, callee-is, callee-asks, Passed, stop-fits, end_fits, work-before, span-before, call_counts, pass_leaves, pass_reaches, Forks, forked, reached-fits, async-leaves, async-reaches, Nests, nested, finish-leaves}
 use Rattle.tables.proofs.+finish_readers.Invariants.{how}
 use Rattle.tables.proofs.+finish_readers.Goals as goal

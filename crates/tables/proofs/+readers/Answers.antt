@@ -1,14 +1,12 @@
-use Prim.Native.Nat.{ℕ, ◌+◌, ◌*◌, ◌-◌, ◌^◌, ◌<◌}
-use mathlib.Core.List.{List}
+use Prim.Native.Nat.{◌+◌, ◌^◌, ◌<◌}
 use lib.ListN.{length}
-use mathlib.Core.Path.{refl, ◌∙◌}
+use mathlib.Core.Path.{refl}
 use mathlib.Core.Logic.{inl, inr}
 use native.Mathlib.Omega.{arith}
-use Rattle.std.proofs.Common.{rules}
 use Rattle.line.specs.declared.Family.TheVariants.{Base}
 use Rattle.walk.specs.Weight.{by_asking}
-use Rattle.tables.proofs.Bodies.{untold, begins, Loop, loop-start, loop-asks, Next, loop-less, loop_again, loop-done, body-leaves}
-use Rattle.tables.proofs.Items.{line-fits, blocks-fit, join_asks, sync-leaves, note-leaves, Costs, rows-asks, spend-asks, cost-leaves, Calls, at_part, parted, deeper, room, credit_asks, body-asks, Back, back_long, count-asks, called-asks, spawned-asks, call_leaves, spawn_leaves}
+use Rattle.tables.proofs.Bodies.{untold, begins, loop-start, loop-asks, Next, loop-less, loop_again, loop-done, body-leaves}
+use Rattle.tables.proofs.Items.{line-fits, blocks-fit, join_asks, sync-leaves, note-leaves, Costs, rows-asks, spend-asks, cost-leaves, Calls, at_part, parted, deeper, room, credit_asks, body-asks, Back, count-asks, called-asks, spawned-asks, call_leaves, spawn_leaves}
 use Rattle.tables.proofs.+readers.Goals as goal
 
 pub body-read_items-f-requires : goal.body-read_items-f-requires

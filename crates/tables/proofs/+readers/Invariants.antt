@@ -1,15 +1,8 @@
 -- The three readers meet their contracts: what each step asks for and leaves is that of the item that is read.
-use Prim.Native.Nat.{ℕ, ◌+◌, ◌*◌, ◌-◌, ◌^◌, ◌<◌}
-use mathlib.Core.List.{List}
-use lib.ListN.{length}
-use mathlib.Core.Path.{refl, ◌∙◌}
-use mathlib.Core.Logic.{inl, inr}
-use native.Mathlib.Omega.{arith}
-use Rattle.std.proofs.Common.{rules}
+use Prim.Native.Nat.{◌+◌, ◌*◌, ◌-◌}
 use Rattle.line.specs.declared.Family.TheVariants.{Base}
 use Rattle.walk.specs.Weight.{by_asking}
-use Rattle.tables.proofs.Bodies.{untold, begins, Loop, loop-start, loop-asks, Next, loop-less, loop_again, loop-done, body-leaves}
-use Rattle.tables.proofs.Items.{line-fits, blocks-fit, join_asks, sync-leaves, note-leaves, Costs, rows-asks, spend-asks, cost-leaves, Calls, at_part, parted, deeper, room, credit_asks, body-asks, Back, back_long, count-asks, called-asks, spawned-asks, call_leaves, spawn_leaves}
+use Rattle.tables.proofs.Bodies.{untold, Loop}
 use Rattle.tables.proofs.+readers.Given as goal
 
 -- the depth left falls from item to body, a body is above its items, and they above each of them

@@ -1,10 +1,7 @@
 -- `tables::accepted` meets its contract: what is cleared, read, counted and moved comes to the promise.
-use Prim.Native.Nat.{ℕ}
-use mathlib.Core.List.{List}
 use mathlib.Core.Path.{◌≡◌, ◌∙◌}
 use lib.ListN.{length}
 use native.Mathlib.Omega.{arith}
-use Rattle.std.proofs.Common.{rules}
 use Rattle.weigh.specs.Weighed.{Tabled}
 use Rattle.walk.specs.Weight.{by_asking}
 use Rattle.walk.proofs.Weight.{factors_tabled}

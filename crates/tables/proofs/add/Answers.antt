@@ -1,5 +1,4 @@
 -- `tables::add` meets its contract: what is read is put back with the row added to it.
-use Rattle.std.proofs.Common.{rules}
 use Rattle.tables.proofs.add.Goals as goal
 
 pub sum-all-requires : goal.sum-all-requires

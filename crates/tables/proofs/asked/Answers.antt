@@ -1,5 +1,4 @@
 -- `tables::asked` meets its contract: the list is checked, and the rows' factors are those of its entries.
-use Rattle.std.proofs.Common.{rules}
 use Rattle.trace.specs.Promise.{tables}
 use Rattle.walk.specs.Weight.{Factors}
 use Rattle.walk.proofs.Profiled.{list_refused, list_factors, forecast_promise}

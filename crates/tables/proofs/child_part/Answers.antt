@@ -1,7 +1,6 @@
 -- `tables::child_part` meets its contract, by its two cases.
 use mathlib.Core.Path.{◌∙◌, sym}
 use Rattle.tables.proofs.Held.{child-called, child-spawned}
-use Rattle.std.proofs.Common.{rules}
 use Rattle.tables.proofs.child_part.Goals as goal
 
 pub returns-then-kind-ne2 : goal.returns-then-kind-ne2

@@ -1,8 +1,5 @@
 -- `tables::clear` meets its contract: the word says which rows are in use, and the walk clears these.
-use mathlib.Core.Path.{◌∙◌}
-use lib.ListN.{length-set}
 use Rattle.tables.proofs.TakeIn.{clear-asks, cleared-table}
-use Rattle.std.proofs.Common.{rules}
 use Rattle.tables.proofs.clear.Goals as goal
 
 pub clear_fours-requires : goal.clear_fours-requires

@@ -1,15 +1,9 @@
 -- `tables::clear_fours` meets its contract. The invariant: the numbers up to four `c` are clear, and `left` is the word from
 -- there on. The measure is `left`.
-use mathlib.Core.Path.{◌≡◌, refl, ◌∙◌, sym}
-use Prim.Native.Nat.{◌*◌, ◌/◌, ◌^◌, ◌<◌}
-use native.Mathlib.Nat.{div-one}
-use native.Mathlib.Omega.{arith}
-use lib.Count.{count_trailing_zeros}
+use mathlib.Core.Path.{◌≡◌}
+use Prim.Native.Nat.{◌*◌, ◌/◌, ◌^◌}
 use lib.ListN.{length}
 use Rattle.tables.specs.Walks.{Cleared}
-use Rattle.tables.proofs.Bits.{within, falls, farther}
-use Rattle.tables.proofs.Loops.{cleared-none}
-use Rattle.tables.proofs.Walks.{clear-on, clear-done}
 use Rattle.tables.proofs.clear_fours.Given as goal
 
 abbrev pub invariant-loop-left : goal.invariant-loop-left

@@ -2,7 +2,6 @@
 use Prim.Native.Nat.{◌+◌}
 use native.Mathlib.Omega.{arith}
 use Rattle.tables.proofs.Loops.{cleared-same}
-use Rattle.std.proofs.Common.{rules}
 use Rattle.tables.proofs.clear_next.Goals as goal
 
 pub returns-then-from-w : goal.returns-then-from-w

@@ -1,10 +1,8 @@
-use mathlib.Core.Path.{◌≡◌, refl}
-use Prim.Native.Nat.{◌+◌, ◌-◌, ◌≤◌}
+use mathlib.Core.Path.{refl}
+use Prim.Native.Nat.{◌+◌}
 use native.Mathlib.Omega.{arith}
-use lib.ListN.{length, length-set}
-use Rattle.tables.specs.Walks.{Cleared}
+use lib.ListN.{length-set}
 use Rattle.tables.proofs.Loops.{cleared-none, cleared-one, cleared-then, cleared-same}
-use Rattle.std.proofs.Common.{rules}
 use Rattle.tables.proofs.clear_rows.Goals as goal
 
 pub loop-i-init : goal.loop-i-init

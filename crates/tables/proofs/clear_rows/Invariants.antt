@@ -1,11 +1,8 @@
 -- `tables::clear_rows` meets its contract. The invariant: the rows up to `i` are clear. The measure is what is left.
-use mathlib.Core.Path.{◌≡◌, refl}
-use Prim.Native.Nat.{◌+◌, ◌-◌, ◌≤◌}
-use native.Mathlib.Omega.{arith}
-use lib.ListN.{length, length-set}
+use mathlib.Core.Path.{◌≡◌}
+use Prim.Native.Nat.{◌-◌, ◌≤◌}
+use lib.ListN.{length}
 use Rattle.tables.specs.Walks.{Cleared}
-use Rattle.tables.proofs.Loops.{cleared-none, cleared-one, cleared-then, cleared-same}
-use Rattle.std.proofs.Common.{rules}
 use Rattle.tables.proofs.clear_rows.Given as goal
 
 abbrev pub invariant-loop-i : goal.invariant-loop-i

@@ -1,6 +1,5 @@
 -- `tables::forecast` meets its contract: what is accepted is asked, and a refusal leaves all as it was.
 use mathlib.Core.Path.{◌∙◌, sym}
-use Rattle.std.proofs.Common.{rules}
 use Rattle.line.specs.declared.Family.TheVariants.{Base}
 use Rattle.tables.proofs.Whole.{admitted, unasked}
 use Rattle.tables.proofs.forecast.Goals as goal

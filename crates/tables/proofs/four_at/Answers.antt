@@ -1,5 +1,4 @@
 -- `tables::four_at` meets its contract, row by row.
-use Rattle.std.proofs.Common.{rules}
 use Rattle.tables.proofs.four_at.Goals as goal
 
 pub returns : goal.returns

@@ -1,7 +1,6 @@
 -- `tables::join` meets its contract: the prefix takes in the table of the chain that wins, and that of the loser goes.
 use Prim.Native.Nat.{◌+◌, ◌^◌, ◌<◌}
 use native.Mathlib.Omega.{arith}
-use Rattle.std.proofs.Common.{rules}
 use Rattle.tables.specs.Blocks.{Shows, behind}
 use Rattle.tables.proofs.Held.{some_longest}
 use Rattle.tables.proofs.Steps.{load_fits, prefix_fits, iprefix_fits, join_none, join_since, join_longest, since_takes, longest_takes}

@@ -1,5 +1,4 @@
 -- `tables::no_four` meets its contract, row by row.
-use Rattle.std.proofs.Common.{rules}
 use Rattle.tables.proofs.no_four.Goals as goal
 
 pub returns : goal.returns

@@ -1,7 +1,6 @@
 -- `tables::part` meets its contract, by its two cases.
 use mathlib.Core.Path.{sym}
 use Rattle.tables.proofs.Held.{part-first, part-later}
-use Rattle.std.proofs.Common.{rules}
 use Rattle.tables.proofs.part.Goals as goal
 
 pub returns-then-f-eq0 : goal.returns-then-f-eq0

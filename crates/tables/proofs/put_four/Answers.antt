@@ -1,6 +1,4 @@
 -- `tables::put_four` meets its contract, row by row.
-use mathlib.Core.Path.{◌∙◌}
-use Rattle.std.proofs.Common.{rules}
 use Rattle.tables.proofs.Fours.{laid_so}
 use native.Mathlib.Omega.{arith}
 use Rattle.tables.proofs.put_four.Goals as goal

@@ -1,5 +1,4 @@
 -- `tables::put_pair` meets its contract, store by store.
-use Rattle.std.proofs.Common.{rules}
 use lib.ListN.{length-set}
 use native.Mathlib.Omega.{arith}
 use Rattle.tables.proofs.put_pair.Goals as goal

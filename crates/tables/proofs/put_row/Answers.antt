@@ -2,7 +2,6 @@
 use Prim.Native.Nat.{◌/◌}
 use native.Mathlib.Omega.{arith}
 use Rattle.tables.proofs.Bits.{shifted_one}
-use Rattle.std.proofs.Common.{rules}
 use Rattle.tables.proofs.put_row.Goals as goal
 
 pub returns : goal.returns

@@ -1,10 +1,7 @@
 use mathlib.Core.Path.{◌≡◌, refl, ◌∙◌}
 use Rattle.tables.proofs.OnSpan.{moved_none, moved_more}
-use Rattle.std.proofs.Common.{rules}
-use Prim.Native.Nat.{◌-◌, ◌≤◌}
 use native.Mathlib.Omega.{arith}
-use Rattle.tables.specs.Root.{Moved}
-use lib.ListN.{length, length-set}
+use lib.ListN.{length-set}
 use Rattle.tables.proofs.settle.Goals as goal
 
 pub loop-i-init : goal.loop-i-init

@@ -1,12 +1,9 @@
 -- `tables::settle` meets its contract. The invariant: the first `i` rows are moved out, and the rest are as they were. The
 -- measure is what is left.
-use mathlib.Core.Path.{◌≡◌, refl, ◌∙◌}
-use Rattle.tables.proofs.OnSpan.{moved_none, moved_more}
-use Rattle.std.proofs.Common.{rules}
+use mathlib.Core.Path.{◌≡◌}
 use Prim.Native.Nat.{◌-◌, ◌≤◌}
-use native.Mathlib.Omega.{arith}
 use Rattle.tables.specs.Root.{Moved}
-use lib.ListN.{length, length-set}
+use lib.ListN.{length}
 use Rattle.tables.proofs.settle.Given as goal
 
 abbrev pub invariant-loop-i : goal.invariant-loop-i

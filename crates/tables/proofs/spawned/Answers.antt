@@ -2,7 +2,6 @@
 -- cleared.
 use Prim.Native.Nat.{◌+◌, ◌^◌, ◌<◌}
 use native.Mathlib.Omega.{arith}
-use Rattle.std.proofs.Common.{rules}
 use Rattle.tables.specs.Blocks.{Shows, behind}
 use Rattle.tables.proofs.Held.{some_longest}
 use Rattle.tables.proofs.Steps.{load_fits, prefix_fits, iprefix_fits, spawned-first, spawned_longer, spawned-shorter, since_takes}

@@ -1,6 +1,5 @@
 -- `tables::spend` meets its contract: the cost is put into the continuation's table, its numbers and its bit.
 use Rattle.tables.proofs.Steps.{load_fits, row_fits, since-room, spent-done}
-use Rattle.std.proofs.Common.{rules}
 use native.Mathlib.Omega.{arith}
 use Rattle.tables.proofs.spend.Goals as goal
 

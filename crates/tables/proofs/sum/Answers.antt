@@ -1,5 +1,4 @@
 -- `tables::sum` meets its contract: each measure has its own sum.
-use Rattle.std.proofs.Common.{rules}
 use Rattle.tables.proofs.sum.Goals as goal
 
 pub returns : goal.returns

@@ -1,5 +1,4 @@
 -- `tables::sums` meets its contract, row by row.
-use Rattle.std.proofs.Common.{rules}
 use Rattle.tables.proofs.sums.Goals as goal
 
 pub returns : goal.returns

@@ -1,7 +1,5 @@
 -- `tables::take_four` meets its contract: what is read of the four rows is what is stored.
-use mathlib.Core.Path.{◌∙◌}
 use Rattle.tables.proofs.Fours.{four_taken, four_fit}
-use Rattle.std.proofs.Common.{rules}
 use native.Mathlib.Omega.{arith}
 use Rattle.tables.proofs.take_four.Goals as goal
 

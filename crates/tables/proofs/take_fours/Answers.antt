@@ -1,10 +1,8 @@
-use mathlib.Core.Path.{◌≡◌, refl, ◌∙◌, sym}
-use Prim.Native.Nat.{◌*◌, ◌/◌, ◌^◌, ◌<◌}
+use mathlib.Core.Path.{refl, ◌∙◌, sym}
+use Prim.Native.Nat.{◌*◌, ◌<◌}
 use native.Mathlib.Nat.{div-one}
 use native.Mathlib.Omega.{arith}
 use lib.Count.{count_trailing_zeros}
-use lib.ListN.{length}
-use Rattle.tables.specs.Walks.{Taken}
 use Rattle.tables.proofs.Bits.{within, falls, farther}
 use Rattle.tables.proofs.Loops.{apart_in, taken_none, sums-fit}
 use Rattle.tables.proofs.Walks.{take_on, take_done}

@@ -1,15 +1,9 @@
 -- `tables::take_fours` meets its contract. The invariant: the numbers up to four `c` are taken, and `left` is the word from
 -- there on. The measure is `left`.
-use mathlib.Core.Path.{◌≡◌, refl, ◌∙◌, sym}
-use Prim.Native.Nat.{◌*◌, ◌/◌, ◌^◌, ◌<◌}
-use native.Mathlib.Nat.{div-one}
-use native.Mathlib.Omega.{arith}
-use lib.Count.{count_trailing_zeros}
+use mathlib.Core.Path.{◌≡◌}
+use Prim.Native.Nat.{◌*◌, ◌/◌, ◌^◌}
 use lib.ListN.{length}
 use Rattle.tables.specs.Walks.{Taken}
-use Rattle.tables.proofs.Bits.{within, falls, farther}
-use Rattle.tables.proofs.Loops.{apart_in, taken_none, sums-fit}
-use Rattle.tables.proofs.Walks.{take_on, take_done}
 use Rattle.tables.proofs.take_fours.Given as goal
 
 abbrev pub invariant-loop-left : goal.invariant-loop-left

@@ -1,5 +1,4 @@
 -- `tables::take_in` meets its contract: the words say which rows are in use, and the walk takes these.
-use Rattle.std.proofs.Common.{rules}
 use Rattle.tables.proofs.TakeIn.{walk-asks, took_in}
 use Rattle.tables.proofs.take_in.Goals as goal
 

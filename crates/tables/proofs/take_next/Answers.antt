@@ -2,7 +2,6 @@
 use Prim.Native.Nat.{◌+◌}
 use native.Mathlib.Omega.{arith}
 use Rattle.tables.proofs.Loops.{fewer, taken-same}
-use Rattle.std.proofs.Common.{rules}
 use Rattle.tables.proofs.take_next.Goals as goal
 
 pub take_four-requires : goal.take_four-requires

@@ -1,7 +1,5 @@
 -- `tables::take_row` meets its contract: what is read of the row is what is stored.
 use Rattle.tables.proofs.Fours.{row-taken, row-fit}
-use mathlib.Core.Path.{◌∙◌}
-use Rattle.std.proofs.Common.{rules}
 use native.Mathlib.Omega.{arith}
 use Rattle.tables.proofs.take_row.Goals as goal
 

@@ -1,9 +1,6 @@
-use mathlib.Core.Path.{◌≡◌, refl, ◌∙◌}
+use mathlib.Core.Path.{refl, ◌∙◌}
 use native.Mathlib.Omega.{arith}
-use Rattle.std.proofs.Common.{rules}
-use lib.ListN.{length}
-use Prim.Native.Nat.{◌+◌, ◌-◌, ◌%◌, ◌≤◌}
-use Rattle.tables.specs.Walks.{Taken}
+use Prim.Native.Nat.{◌+◌, ◌≤◌}
 use Rattle.tables.proofs.Loops.{fewer, apart_in, taken_none, taken_then, taken-same, sums-fit}
 use Rattle.tables.proofs.take_rows.Goals as goal
 

@@ -1,12 +1,9 @@
 -- `tables::take_rows` meets its contract. The invariant: the numbers up to `i`, which is even, are taken. The measure is what
 -- is left.
-use mathlib.Core.Path.{◌≡◌, refl, ◌∙◌}
-use native.Mathlib.Omega.{arith}
-use Rattle.std.proofs.Common.{rules}
+use mathlib.Core.Path.{◌≡◌}
 use lib.ListN.{length}
-use Prim.Native.Nat.{◌+◌, ◌-◌, ◌%◌, ◌≤◌}
+use Prim.Native.Nat.{◌-◌, ◌%◌, ◌≤◌}
 use Rattle.tables.specs.Walks.{Taken}
-use Rattle.tables.proofs.Loops.{fewer, apart_in, taken_none, taken_then, taken-same, sums-fit}
 use Rattle.tables.proofs.take_rows.Given as goal
 
 abbrev pub invariant-loop-i : goal.invariant-loop-i

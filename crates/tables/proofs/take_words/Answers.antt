@@ -1,7 +1,6 @@
 -- `tables::take_words` meets its contract, store by store.
 use native.Mathlib.Omega.{arith}
 use lib.ListN.{length-set}
-use Rattle.std.proofs.Common.{rules}
 use Rattle.tables.proofs.take_words.Goals as goal
 
 pub bounds-t-b-2 : goal.bounds-t-b-2

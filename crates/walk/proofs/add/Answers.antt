@@ -1,5 +1,4 @@
 -- `walk::add` meets its contract: the sum stands where the number stood.
-use Rattle.std.proofs.Common.{rules}
 use Rattle.walk.proofs.add.Goals as goal
 
 pub returns : goal.returns

@@ -1,5 +1,4 @@
 -- `walk::add_instructions` meets its contract: the sum stands where the number stood.
-use Rattle.std.proofs.Common.{rules}
 use Rattle.walk.proofs.add_instructions.Goals as goal
 
 pub returns : goal.returns

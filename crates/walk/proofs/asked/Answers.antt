@@ -1,6 +1,5 @@
 -- `walk::asked` meets its contract: the line that is asked heavier, another, or the row's factor.
 use mathlib.Core.Path.{ap, ◌∙◌, sym}
-use Rattle.std.proofs.Common.{rules}
 use Rattle.forecast.specs.Rewritten.{divided}
 use Rattle.walk.proofs.Weight.{factor_there, line-asked, factor_asked, line-heavier, line_other}
 use Rattle.walk.proofs.asked.Goals as goal

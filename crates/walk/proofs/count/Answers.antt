@@ -1,5 +1,4 @@
 -- `walk::count` meets its contract: one number grows by 1.
-use Rattle.std.proofs.Common.{rules}
 use Rattle.trace.specs.Column.{Column, slot}
 use Rattle.walk.proofs.Rows.{grown_one}
 use Rattle.walk.proofs.count.Goals as goal

@@ -1,5 +1,4 @@
 -- `walk::instructions_at` meets its contract: the next line's kind decides.
-use Rattle.std.proofs.Common.{rules}
 use Rattle.walk.proofs.Weight.{next_carries, next_carries_none}
 use Rattle.walk.proofs.instructions_at.Goals as goal
 

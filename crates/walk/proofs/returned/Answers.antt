@@ -3,7 +3,6 @@ use mathlib.Core.Path.{ap, ◌∙◌}
 use mathlib.Core.List.{List}
 use Prim.Native.Nat.{ℕ, ◌+◌}
 use lib.ListN.{get_or}
-use Rattle.std.proofs.Common.{rules}
 use Rattle.walk.specs.declared.Cycles.{Cycles}
 use Rattle.walk.specs.Gain.{returned}
 use Rattle.walk.proofs.Return.{credited-at}

@@ -5,7 +5,6 @@ use Prim.Native.Nat.{ℕ, ◌+◌}
 use native.Mathlib.Omega.{arith}
 use lib.ListN.{get_or}
 use lib.Seq.{get_or-set_other}
-use Rattle.std.proofs.Common.{rules}
 use Rattle.trace.specs.Column.{Column, slot}
 use Rattle.walk.specs.Gain.{one, Grown}
 use Rattle.walk.proofs.Rows.{grown_one, grown_twice}

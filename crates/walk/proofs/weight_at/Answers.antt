@@ -1,6 +1,5 @@
 -- `walk::weight_at` meets its contract: what is asked of the value, or the value as it stands behind the last number.
 use mathlib.Core.Path.{ap, ◌∙◌, sym}
-use Rattle.std.proofs.Common.{rules}
 use Rattle.walk.specs.Weight.{by_asking}
 use Rattle.walk.proofs.Weight.{asked-of, unasked}
 use Rattle.walk.proofs.weight_at.Goals as goal

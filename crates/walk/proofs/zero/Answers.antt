@@ -1,10 +1,9 @@
-use Rattle.std.proofs.Common.{rules}
 use borrow.Author.Fill.{fill_none, fill_more}
 use mathlib.Core.Path.{◌≡◌, refl, ◌∙◌, ap}
 use mathlib.Core.List.{List, ◌++◌}
-use Prim.Native.Nat.{ℕ, ◌≤◌, ◌-◌}
+use Prim.Native.Nat.{ℕ}
 use native.Mathlib.Omega.{arith}
-use lib.ListN.{length, drop, set, replicate, length-set}
+use lib.ListN.{drop, set, replicate, length-set}
 use Rattle.walk.proofs.zero.Goals as goal
 
 pub loop-i-init : goal.loop-i-init

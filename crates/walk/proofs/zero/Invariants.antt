@@ -1,11 +1,8 @@
 -- `walk::zero` meets its contract. The invariant: the first `i` numbers are cleared. The measure is what is left.
-use Rattle.std.proofs.Common.{rules}
-use borrow.Author.Fill.{fill_none, fill_more}
-use mathlib.Core.Path.{◌≡◌, refl, ◌∙◌, ap}
-use mathlib.Core.List.{List, ◌++◌}
-use Prim.Native.Nat.{ℕ, ◌≤◌, ◌-◌}
-use native.Mathlib.Omega.{arith}
-use lib.ListN.{length, drop, set, replicate, length-set}
+use mathlib.Core.Path.{◌≡◌}
+use mathlib.Core.List.{◌++◌}
+use Prim.Native.Nat.{◌≤◌, ◌-◌}
+use lib.ListN.{length, drop, replicate}
 use Rattle.walk.proofs.zero.Given as goal
 
 abbrev pub invariant-loop-i : goal.invariant-loop-i

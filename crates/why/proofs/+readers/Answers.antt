@@ -1,11 +1,9 @@
-use Prim.Native.Nat.{ℕ, ◌+◌, ◌*◌, ◌-◌, ◌<◌}
 use mathlib.Core.Path.{ap, subst, sym}
 use mathlib.Core.Logic.{inl, inr}
 use native.Mathlib.Omega.{arith}
-use Rattle.std.proofs.Common.{rules}
 use Rattle.why.specs.declared.Sought.{Sought}
 use Rattle.why.specs.Second.{reached, Asks}
-use Rattle.why.proofs.Second.{line_in_lem, line-fits, join_asks, sync-leaves, note-leaves, cost-asks, cost-leaves, Calls, deeper, body-asks, called-asks, spawned-asks, call_leaves, spawn_leaves, Loop, loop-start, loop-asks, loop-less, loop_again, loop-done, body-leaves}
+use Rattle.why.proofs.Second.{line_in_lem, line-fits, join_asks, sync-leaves, note-leaves, cost-asks, cost-leaves, Calls, deeper, body-asks, called-asks, spawned-asks, call_leaves, spawn_leaves, loop-start, loop-asks, loop-less, loop_again, loop-done, body-leaves}
 use Rattle.why.proofs.+readers.Goals as goal
 
 pub body-read_items-f-requires : goal.body-read_items-f-requires

@@ -1,13 +1,7 @@
 -- The three readers of the second pass meet their contracts: what each step asks for and leaves is that of the item that is
 -- read.
-use Prim.Native.Nat.{ℕ, ◌+◌, ◌*◌, ◌-◌, ◌<◌}
-use mathlib.Core.Path.{ap, subst, sym}
-use mathlib.Core.Logic.{inl, inr}
-use native.Mathlib.Omega.{arith}
-use Rattle.std.proofs.Common.{rules}
-use Rattle.why.specs.declared.Sought.{Sought}
-use Rattle.why.specs.Second.{reached, Asks}
-use Rattle.why.proofs.Second.{line_in_lem, line-fits, join_asks, sync-leaves, note-leaves, cost-asks, cost-leaves, Calls, deeper, body-asks, called-asks, spawned-asks, call_leaves, spawn_leaves, Loop, loop-start, loop-asks, loop-less, loop_again, loop-done, body-leaves}
+use Prim.Native.Nat.{◌+◌, ◌*◌, ◌-◌}
+use Rattle.why.proofs.Second.{Loop}
 use Rattle.why.proofs.+readers.Given as goal
 
 -- the depth left falls from item to body, a body is above its items, and they above each of them

@@ -1,6 +1,5 @@
 -- `why::accepted` meets its contract: a line past the end, one that is no cost, or a cost line.
 use mathlib.Core.Path.{◌∙◌, sym}
-use Rattle.std.proofs.Common.{rules}
 use Rattle.why.proofs.Whole.{marks_in, ends-past, ends-other, line-asks, ends_there}
 use Rattle.why.proofs.accepted.Goals as goal
 

@@ -1,6 +1,5 @@
 -- `why::ask` meets its contract: acceptance first, then the line. Assumes nothing.
 use mathlib.Core.Path.{◌∙◌, sym}
-use Rattle.std.proofs.Common.{rules}
 use Rattle.why.proofs.Whole.{admitted-is, asked-accepted, asked-refused}
 use Rattle.why.proofs.ask.Goals as goal
 

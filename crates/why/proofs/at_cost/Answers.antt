@@ -1,5 +1,4 @@
 -- `why::at_cost` meets its contract: two readings of the root, and what they come to.
-use Rattle.std.proofs.Common.{rules}
 use Rattle.why.proofs.Whole.{depth-some, second_reads, span-above, line-leaves}
 use Rattle.why.proofs.at_cost.Goals as goal
 

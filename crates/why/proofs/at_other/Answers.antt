@@ -1,6 +1,5 @@
 -- `why::at_other` meets its contract.
 use mathlib.Core.Path.{◌∙◌}
-use Rattle.std.proofs.Common.{rules}
 use Rattle.walk.proofs.Zeros.{cleared-all}
 use Rattle.why.proofs.at_other.Goals as goal
 

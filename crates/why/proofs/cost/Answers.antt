@@ -1,5 +1,4 @@
 -- `why::cost` meets its contract: the line's value, and its number where it is not marked.
-use Rattle.std.proofs.Common.{rules}
 use Rattle.why.proofs.cost.Goals as goal
 
 pub returns : goal.returns

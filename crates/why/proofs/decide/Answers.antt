@@ -1,7 +1,6 @@
 -- `why::decide` meets its contract: each answer is what the tests say.
 use borrow.Author.Tests.{lt-ltb, le-ltb}
 use Rattle.trace.specs.Refusals.{most_lines}
-use Rattle.std.proofs.Common.{rules}
 use Rattle.why.proofs.decide.Goals as goal
 
 pub returns-then-through-span : goal.returns-then-through-span

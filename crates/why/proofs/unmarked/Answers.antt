@@ -1,7 +1,6 @@
 -- `why::unmarked` meets its contract: each arm is what the mark says.
 use mathlib.Core.Path.{ap, sym}
 use mathlib.Core.Bool.{Bool, cond}
-use Rattle.std.proofs.Common.{rules}
 use borrow.Author.Tests.{eq-eqb, ne_eqb}
 use Rattle.trace.specs.Refusals.{most_lines}
 use Rattle.why.proofs.unmarked.Goals as goal

@@ -1,5 +1,4 @@
 -- `compact::put::carrying` meets its contract: no instructions are no line. Assumes nothing.
-use Rattle.std.proofs.Common.{rules}
 use native.Mathlib.Omega.{arith}
 use lib.ListN.{length}
 use Rattle.compact.proofs.Passes.{no_carry, carry-fits, a-carry}

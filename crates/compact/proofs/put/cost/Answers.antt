@@ -1,5 +1,4 @@
 -- `compact::put::cost` meets its contract: no cost is no line, and its instructions stand behind it. Assumes nothing.
-use Rattle.std.proofs.Common.{rules}
 use native.Mathlib.Omega.{arith}
 use Rattle.compact.proofs.Passes.{no_cost, cost-fits, behind-fits, a-cost}
 use Rattle.compact.proofs.put.cost.Goals as goal

@@ -1,5 +1,4 @@
 -- `compact::put::cost_size` meets its contract: no cost is no line. Assumes nothing.
-use Rattle.std.proofs.Common.{rules}
 use Rattle.compact.proofs.Passes.{no_size, some_size}
 use Rattle.compact.proofs.put.cost_size.Goals as goal
 

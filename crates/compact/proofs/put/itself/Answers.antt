@@ -1,5 +1,4 @@
 -- `compact::put::itself` meets its contract: the 23 characters are those of the line. Assumes nothing.
-use Rattle.std.proofs.Common.{rules}
 use lib.ListN.{length}
 use Rattle.digits.specs.Digits.{small_form}
 use Rattle.line.specs.Read.{line_at}

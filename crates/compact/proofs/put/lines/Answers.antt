@@ -1,5 +1,4 @@
 -- `compact::put::lines` meets its contract: a cost with its instructions, a sync, the line itself. Assumes nothing.
-use Rattle.std.proofs.Common.{rules}
 use native.Mathlib.Omega.{arith}
 use lib.ListN.{length}
 use Rattle.digits.specs.Digits.{small_form}

@@ -1,5 +1,4 @@
 -- `compact::put::small` meets its contract. Assumes nothing.
-use Rattle.std.proofs.Common.{rules}
 use native.Mathlib.Omega.{arith}
 use borrow.Author.Tests.{le-leb, lt-leb}
 use Rattle.compact.proofs.put.small.Goals as goal

@@ -1,9 +1,7 @@
-use Rattle.std.proofs.Common.{rules}
-use Prim.Native.Nat.{◌≤◌, ◌<◌, ◌-◌}
-use mathlib.Core.Path.{◌≡◌, refl, ◌∙◌}
+use Prim.Native.Nat.{◌<◌}
+use mathlib.Core.Path.{refl, ◌∙◌}
 use native.Mathlib.Omega.{arith}
-use lib.ListN.{length, take, length-set}
-use Rattle.digits.specs.Digits.{small_form}
+use lib.ListN.{length, length-set}
 use Rattle.compact.proofs.Letters.{small-more, small_all}
 use Rattle.compact.proofs.put.small_letters.Goals as goal
 

@@ -1,12 +1,9 @@
 -- `compact::put::small_letters` meets its contract. The invariant: the first `i` are there. The measure is what is left.
 -- Assumes nothing.
-use Rattle.std.proofs.Common.{rules}
-use Prim.Native.Nat.{◌≤◌, ◌<◌, ◌-◌}
-use mathlib.Core.Path.{◌≡◌, refl, ◌∙◌}
-use native.Mathlib.Omega.{arith}
-use lib.ListN.{length, take, length-set}
+use Prim.Native.Nat.{◌≤◌, ◌-◌}
+use mathlib.Core.Path.{◌≡◌}
+use lib.ListN.{length, take}
 use Rattle.digits.specs.Digits.{small_form}
-use Rattle.compact.proofs.Letters.{small-more, small_all}
 use Rattle.compact.proofs.put.small_letters.Given as goal
 
 abbrev pub invariant-loop-i : goal.invariant-loop-i

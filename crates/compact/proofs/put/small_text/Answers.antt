@@ -1,5 +1,4 @@
 -- `compact::put::small_text` meets its contract: a part as long as the text is filled with it. Assumes nothing.
-use Rattle.std.proofs.Common.{rules}
 use Prim.Native.Nat.{◌+◌, ◌-◌, ◌≤◌}
 use mathlib.Core.Path.{◌∙◌, ap}
 use native.Mathlib.Omega.{arith}

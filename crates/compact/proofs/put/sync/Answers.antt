@@ -1,5 +1,4 @@
 -- `compact::put::sync` meets its contract. Assumes nothing.
-use Rattle.std.proofs.Common.{rules}
 use mathlib.Core.Path.{ap}
 use lib.ListN.{length}
 use Rattle.line.specs.declared.Frame.TheVariants.{Sync}

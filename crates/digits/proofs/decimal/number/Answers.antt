@@ -1,5 +1,5 @@
 -- `digits::decimal::number` meets its contract, by how many characters there are. Assumes nothing.
-use Rattle.std.proofs.Common.{◌∙◌, rules}
+use Rattle.std.proofs.Common.{◌∙◌}
 use Rattle.digits.proofs.FiguresRead.{reading-empty, reading-one, reading-zero, reading-more}
 use Rattle.digits.proofs.decimal.number.Goals as goal
 

@@ -1,4 +1,4 @@
-use Rattle.std.proofs.Common.{◌≡◌, ℕ, ◌≤◌, List, ◌++◌, length, drop, refl, ap, ◌∙◌, append-nil, arith, length-set, rules}
+use Rattle.std.proofs.Common.{◌≡◌, ℕ, List, ◌++◌, length, refl, ap, ◌∙◌, append-nil, arith, length-set}
 use lib.Seq.{drop-length}
 use Rattle.digits.specs.Decimal.{figures}
 use Rattle.digits.proofs.FiguresWritten.{one_more}

@@ -1,9 +1,7 @@
 -- `digits::decimal::put_figures` meets its contract. The invariant: the figures still to be written of `rest`, before
 -- what is written from `i` on, are the figures of `x`. The measure is `i`. Assumes nothing.
-use Rattle.std.proofs.Common.{◌≡◌, ℕ, ◌≤◌, List, ◌++◌, length, drop, refl, ap, ◌∙◌, append-nil, arith, length-set, rules}
-use lib.Seq.{drop-length}
+use Rattle.std.proofs.Common.{◌≡◌, ◌≤◌, ◌++◌, length, drop}
 use Rattle.digits.specs.Decimal.{figures}
-use Rattle.digits.proofs.FiguresWritten.{one_more}
 use Rattle.digits.proofs.decimal.put_figures.Given as goal
 
 abbrev pub invariant-loop-i : goal.invariant-loop-i

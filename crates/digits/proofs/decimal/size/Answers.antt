@@ -1,5 +1,5 @@
 use Rattle.std.proofs.Common.{arith, rules}
-use Rattle.digits.proofs.FiguresWritten.{Counts, counts_none, counts_more, counts_all}
+use Rattle.digits.proofs.FiguresWritten.{counts_none, counts_more, counts_all}
 use Rattle.digits.proofs.decimal.size.Goals as goal
 
 pub loop-rest-init : goal.loop-rest-init

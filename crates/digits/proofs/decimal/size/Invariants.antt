@@ -1,7 +1,6 @@
 -- `digits::decimal::size` meets its contract. The invariant: what is left has as many figures fewer as were counted.
 -- The measure is what is left. Assumes nothing.
-use Rattle.std.proofs.Common.{arith, rules}
-use Rattle.digits.proofs.FiguresWritten.{Counts, counts_none, counts_more, counts_all}
+use Rattle.digits.proofs.FiguresWritten.{Counts}
 use Rattle.digits.proofs.decimal.size.Given as goal
 
 abbrev pub invariant-loop-rest : goal.invariant-loop-rest

@@ -1,5 +1,5 @@
-use Rattle.std.proofs.Common.{◌-◌, length, arith, rules}
-use Rattle.digits.proofs.FiguresRead.{Reads, reads_none, reads-below, reads-above, reads_large, reads_more, reads_all}
+use Rattle.std.proofs.Common.{arith}
+use Rattle.digits.proofs.FiguresRead.{reads_none, reads-below, reads-above, reads_large, reads_more, reads_all}
 use Rattle.digits.proofs.decimal.value.Goals as goal
 
 pub loop-i-init : goal.loop-i-init

@@ -1,7 +1,7 @@
 -- `digits::decimal::value` meets its contract. The invariant: what is read so far and what is left come to the whole
 -- (`Reads`). The measure is what is left of the length. Assumes nothing.
-use Rattle.std.proofs.Common.{◌-◌, length, arith, rules}
-use Rattle.digits.proofs.FiguresRead.{Reads, reads_none, reads-below, reads-above, reads_large, reads_more, reads_all}
+use Rattle.std.proofs.Common.{◌-◌, length}
+use Rattle.digits.proofs.FiguresRead.{Reads}
 use Rattle.digits.proofs.decimal.value.Given as goal
 
 abbrev pub invariant-loop-i : goal.invariant-loop-i

@@ -1,6 +1,6 @@
-use Rattle.std.proofs.Common.{◌-◌, ◌≤◌, length, get_or, sym, arith, rules}
+use Rattle.std.proofs.Common.{get_or, sym, arith}
 use borrow.Author.Tests.{not-true, not-false}
-use Rattle.digits.proofs.Reading.{Reads, reads-room, reads_more, reads_none, reads-wrong, reads_good, reading-long, worth-small}
+use Rattle.digits.proofs.Reading.{reads-room, reads_more, reads_none, reads-wrong, reads_good, reading-long, worth-small}
 use Rattle.digits.proofs.read.number.Goals as goal
 
 pub returns-then-s-gt8 : goal.returns-then-s-gt8

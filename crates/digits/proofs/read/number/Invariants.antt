@@ -1,8 +1,7 @@
 -- `digits::read::number` meets its contract. The invariant: what is read so far and what is left come to the whole
 -- (`Reads`). The measure is what is left of the length. Assumes nothing.
-use Rattle.std.proofs.Common.{◌-◌, ◌≤◌, length, get_or, sym, arith, rules}
-use borrow.Author.Tests.{not-true, not-false}
-use Rattle.digits.proofs.Reading.{Reads, reads-room, reads_more, reads_none, reads-wrong, reads_good, reading-long, worth-small}
+use Rattle.std.proofs.Common.{◌-◌, ◌≤◌, length}
+use Rattle.digits.proofs.Reading.{Reads}
 use Rattle.digits.proofs.read.number.Given as goal
 
 abbrev pub invariant-loop-i : goal.invariant-loop-i

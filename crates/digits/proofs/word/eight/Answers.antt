@@ -1,5 +1,4 @@
 -- `digits::word::eight` meets its contract. Assumes nothing.
-use Rattle.std.proofs.Common.{rules}
 use Rattle.digits.proofs.Packing.{eight_are, eight_not}
 use Rattle.digits.proofs.word.eight.Goals as goal
 

@@ -1,5 +1,4 @@
 -- `digits::word::four` meets its contract. Assumes nothing.
-use Rattle.std.proofs.Common.{rules}
 use Rattle.digits.proofs.Packing.{four_are, four_not}
 use Rattle.digits.proofs.word.four.Goals as goal
 

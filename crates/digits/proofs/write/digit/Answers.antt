@@ -1,5 +1,5 @@
 -- `digits::write::digit` meets its contract: the test is the definition's. Assumes nothing.
-use Rattle.std.proofs.Common.{rules, le-ltb, lt-ltb}
+use Rattle.std.proofs.Common.{le-ltb, lt-ltb}
 use Rattle.digits.proofs.write.digit.Goals as goal
 
 pub returns-then-d-lt10 : goal.returns-then-d-lt10

@@ -1,4 +1,4 @@
-use Rattle.std.proofs.Common.{◌≡◌, ℕ, ◌-◌, ◌/◌, ◌≤◌, List, ◌++◌, length, drop, set, refl, ap, ◌∙◌, append-nil, arith, length-set, rules}
+use Rattle.std.proofs.Common.{◌≡◌, ℕ, ◌-◌, ◌/◌, List, ◌++◌, length, drop, set, refl, ap, ◌∙◌, append-nil, arith, length-set}
 use lib.Seq.{drop-length}
 use Rattle.digits.specs.Digits.{digits}
 use Rattle.digits.proofs.Writing.{one_more}

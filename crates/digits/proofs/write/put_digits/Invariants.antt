@@ -1,9 +1,7 @@
 -- `digits::write::put_digits` meets its contract. The invariant: the digits still to be written of `rest`, before
 -- what is written from `i` on, are the digits of `x`. The measure is `i`. Assumes nothing.
-use Rattle.std.proofs.Common.{◌≡◌, ℕ, ◌-◌, ◌/◌, ◌≤◌, List, ◌++◌, length, drop, set, refl, ap, ◌∙◌, append-nil, arith, length-set, rules}
-use lib.Seq.{drop-length}
+use Rattle.std.proofs.Common.{◌≡◌, ◌≤◌, ◌++◌, length, drop}
 use Rattle.digits.specs.Digits.{digits}
-use Rattle.digits.proofs.Writing.{one_more}
 use Rattle.digits.proofs.write.put_digits.Given as goal
 
 abbrev pub invariant-loop-i : goal.invariant-loop-i

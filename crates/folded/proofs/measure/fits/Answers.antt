@@ -1,10 +1,6 @@
-use Rattle.std.proofs.Common.{rules}
-use Prim.Native.Nat.{◌-◌}
-use mathlib.Core.Path.{◌≡◌, refl, ◌∙◌}
+use mathlib.Core.Path.{refl, ◌∙◌}
 use native.Mathlib.Omega.{arith}
-use lib.ListN.{length}
-use Rattle.folded.specs.Measure.{Asks}
-use Rattle.folded.proofs.Measuring.{Measuring, measuring_start, measuring_asks, measuring_on, measuring_end}
+use Rattle.folded.proofs.Measuring.{measuring_start, measuring_asks, measuring_on, measuring_end}
 use Rattle.folded.proofs.measure.fits.Goals as goal
 
 pub without-requires : goal.without-requires

@@ -1,12 +1,10 @@
 -- `folded::measure::fits` meets its contract. The invariant is that of the measuring; the measure is how many lines are
 -- left. Assumes nothing.
-use Rattle.std.proofs.Common.{rules}
 use Prim.Native.Nat.{◌-◌}
-use mathlib.Core.Path.{◌≡◌, refl, ◌∙◌}
-use native.Mathlib.Omega.{arith}
+use mathlib.Core.Path.{◌≡◌}
 use lib.ListN.{length}
 use Rattle.folded.specs.Measure.{Asks}
-use Rattle.folded.proofs.Measuring.{Measuring, measuring_start, measuring_asks, measuring_on, measuring_end}
+use Rattle.folded.proofs.Measuring.{Measuring}
 use Rattle.folded.proofs.measure.fits.Given as goal
 
 abbrev pub invariant-loop-n : goal.invariant-loop-n

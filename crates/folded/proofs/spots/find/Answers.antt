@@ -1,9 +1,7 @@
-use Rattle.std.proofs.Common.{rules}
-use Prim.Native.Nat.{◌+◌, ◌-◌, ◌≤◌}
-use mathlib.Core.Path.{◌≡◌, refl, ◌∙◌, sym, subst}
+use Prim.Native.Nat.{◌+◌}
+use mathlib.Core.Path.{refl, ◌∙◌, sym, subst}
 use native.Mathlib.Omega.{arith}
-use lib.ListN.{length}
-use Rattle.names.proofs.Lines.{Begins, begins-next, shown-parts}
+use Rattle.names.proofs.Lines.{begins-next, shown-parts}
 use Rattle.folded.specs.Spots.{Found}
 use Rattle.folded.proofs.Found.{found-more}
 use Rattle.folded.proofs.spots.find.Goals as goal

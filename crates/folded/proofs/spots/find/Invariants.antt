@@ -1,13 +1,10 @@
 -- `folded::spots::find` meets its contract. The invariant: a line of either text begins for this row, and those before it
 -- are found. The measure is how many rows are left. Assumes nothing.
-use Rattle.std.proofs.Common.{rules}
-use Prim.Native.Nat.{◌+◌, ◌-◌, ◌≤◌}
-use mathlib.Core.Path.{◌≡◌, refl, ◌∙◌, sym, subst}
-use native.Mathlib.Omega.{arith}
+use Prim.Native.Nat.{◌-◌, ◌≤◌}
+use mathlib.Core.Path.{◌≡◌}
 use lib.ListN.{length}
-use Rattle.names.proofs.Lines.{Begins, begins-next, shown-parts}
+use Rattle.names.proofs.Lines.{Begins}
 use Rattle.folded.specs.Spots.{Found}
-use Rattle.folded.proofs.Found.{found-more}
 use Rattle.folded.proofs.spots.find.Given as goal
 
 abbrev pub invariant-loop-row : goal.invariant-loop-row

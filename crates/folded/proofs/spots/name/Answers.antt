@@ -1,5 +1,4 @@
 -- `folded::spots::name` meets its contract: a part of either text comes back. Assumes nothing.
-use Rattle.std.proofs.Common.{rules}
 use mathlib.Core.Path.{◌∙◌}
 use Rattle.folded.proofs.spots.name.Goals as goal
 

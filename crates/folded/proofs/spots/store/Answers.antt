@@ -1,5 +1,4 @@
 -- `folded::spots::store` meets its contract. Assumes nothing.
-use Rattle.std.proofs.Common.{rules}
 use native.Mathlib.Omega.{arith}
 use lib.ListN.{length-set}
 use Rattle.folded.proofs.spots.store.Goals as goal

@@ -1,5 +1,4 @@
 -- `folded::write::put_cost` meets its contract. Assumes nothing.
-use Rattle.std.proofs.Common.{rules}
 use native.Mathlib.Omega.{arith}
 use Rattle.folded.proofs.Writing.{cost-length, lays_cost}
 use Rattle.folded.proofs.write.put_cost.Goals as goal

@@ -1,5 +1,4 @@
 -- `folded::write::put_line` meets its contract, kind by kind. Assumes nothing.
-use Rattle.std.proofs.Common.{rules}
 use native.Mathlib.Omega.{arith}
 use Rattle.folded.proofs.Writing.{some_open, within, stack-asked, cost-fits, cost-from, cost-left, close_asked, return_left, passed-left, site_left, made-room, made-left}
 use Rattle.folded.proofs.write.put_line.Goals as goal

@@ -1,11 +1,8 @@
-use Rattle.std.proofs.Common.{rules}
-use Prim.Native.Nat.{ℕ, ◌-◌, ◌≤◌}
-use mathlib.Core.List.{List}
+use Prim.Native.Nat.{ℕ}
 use mathlib.Core.Path.{◌≡◌, refl, ap, ◌∙◌, sym}
 use native.Mathlib.Omega.{arith}
-use lib.ListN.{length, take, get_or}
+use lib.ListN.{take, get_or}
 use Rattle.names.specs.Names.{shown}
-use Rattle.report.specs.Room.{Lays}
 use Rattle.report.proofs.Laying.{lays_next, lays_as}
 use Rattle.folded.specs.Text.{joined}
 use Rattle.folded.specs.Write.{piece}

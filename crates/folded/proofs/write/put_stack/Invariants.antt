@@ -1,18 +1,12 @@
 -- `folded::write::put_stack` meets its contract. The invariant: the names of the first `k` rows are laid. The measure is
 -- how many are left. Assumes nothing.
-use Rattle.std.proofs.Common.{rules}
 use Prim.Native.Nat.{ℕ, ◌-◌, ◌≤◌}
 use mathlib.Core.List.{List}
-use mathlib.Core.Path.{◌≡◌, refl, ap, ◌∙◌, sym}
-use native.Mathlib.Omega.{arith}
-use lib.ListN.{length, take, get_or}
+use mathlib.Core.Path.{◌≡◌}
+use lib.ListN.{length, take}
 use Rattle.names.specs.Names.{shown}
 use Rattle.report.specs.Room.{Lays}
-use Rattle.report.proofs.Laying.{lays_next, lays_as}
 use Rattle.folded.specs.Text.{joined}
-use Rattle.folded.specs.Write.{piece}
-use Rattle.folded.proofs.Stacks.{joined-take, next_fits}
-use Rattle.folded.proofs.Writing.{common-few, common-fewer, common-laid}
 use Rattle.folded.proofs.write.put_stack.Given as goal
 
 abbrev pub invariant-loop-k : goal.invariant-loop-k

@@ -1,10 +1,6 @@
-use Rattle.std.proofs.Common.{rules}
-use Prim.Native.Nat.{ℕ, ◌-◌}
-use mathlib.Core.List.{List}
-use mathlib.Core.Path.{◌≡◌, refl, ap, ◌∙◌}
-use lib.ListN.{length, set, length-set}
-use Rattle.folded.specs.Write.{Asks}
-use Rattle.folded.proofs.Writing.{Writing, text-some, writing_start, writing-asks, writing-on, writing-end}
+use mathlib.Core.Path.{refl, ap, ◌∙◌}
+use lib.ListN.{length, length-set}
+use Rattle.folded.proofs.Writing.{text-some, writing_start, writing-asks, writing-on, writing-end}
 use Rattle.folded.proofs.write.text.Goals as goal
 
 pub bounds-t-0 : goal.bounds-t-0

@@ -1,12 +1,11 @@
 -- `folded::write::text` meets its contract. The invariant is that of the writing; the measure is how many lines are left.
 -- Assumes nothing.
-use Rattle.std.proofs.Common.{rules}
 use Prim.Native.Nat.{ℕ, ◌-◌}
 use mathlib.Core.List.{List}
-use mathlib.Core.Path.{◌≡◌, refl, ap, ◌∙◌}
-use lib.ListN.{length, set, length-set}
+use mathlib.Core.Path.{◌≡◌}
+use lib.ListN.{length, set}
 use Rattle.folded.specs.Write.{Asks}
-use Rattle.folded.proofs.Writing.{Writing, text-some, writing_start, writing-asks, writing-on, writing-end}
+use Rattle.folded.proofs.Writing.{Writing}
 use Rattle.folded.proofs.write.text.Given as goal
 
 abbrev pub invariant-loop-n : goal.invariant-loop-n

@@ -1,5 +1,4 @@
 -- `report::lay::character` meets its contract. Assumes nothing.
-use Rattle.std.proofs.Common.{rules}
 use Rattle.report.proofs.Laying.{lays_one}
 use Rattle.report.proofs.lay.character.Goals as goal
 

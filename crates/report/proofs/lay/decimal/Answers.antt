@@ -1,5 +1,4 @@
 -- `report::lay::decimal` meets its contract: a part as long as the number is filled with its digits. Assumes nothing.
-use Rattle.std.proofs.Common.{rules}
 use Prim.Native.Nat.{ℕ, ◌+◌}
 use mathlib.Core.Path.{◌∙◌, ap, sym}
 use native.Mathlib.Omega.{arith}

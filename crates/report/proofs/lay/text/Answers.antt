@@ -1,5 +1,4 @@
 -- `report::lay::text` meets its contract: a part as long as the text is filled with it. Assumes nothing.
-use Rattle.std.proofs.Common.{rules}
 use Prim.Native.Nat.{◌+◌, ◌-◌}
 use mathlib.Core.Path.{refl, ◌∙◌, ap}
 use borrow.Rule.Slice.PartMut.{put_mid}

@@ -1,5 +1,4 @@
 -- `sheetin::check::header_end` meets its contract: the first name of the table, and then the others. Assumes nothing.
-use Rattle.std.proofs.Common.{rules}
 use Prim.Native.Nat.{ℕ}
 use mathlib.Core.Path.{ap, ◌∙◌}
 use native.Mathlib.Nat.{sub-zero}

@@ -1,5 +1,4 @@
-use Rattle.std.proofs.Common.{rules}
-use Prim.Native.Nat.{ℕ, ◌+◌, ◌-◌, ◌≤◌}
+use Prim.Native.Nat.{ℕ, ◌+◌, ◌≤◌}
 use mathlib.Core.Path.{◌≡◌, ap, ◌∙◌}
 use native.Mathlib.Nat.{add-sub_cancel_left}
 use native.Mathlib.Omega.{arith}
@@ -7,7 +6,7 @@ use borrow.Author.Tests.{not-true, not-false}
 use lib.ListN.{length, take, drop, length-drop}
 use Rattle.sheet.specs.Grammar.{before, ends_bare}
 use Rattle.sheetin.proofs.Front.{no_pass, pass_no, rest-is, shift_pass}
-use Rattle.sheetin.proofs.Head.{Heading, heading_none, heading_no, heading_more, heading_end}
+use Rattle.sheetin.proofs.Head.{heading_none, heading_no, heading_more, heading_end}
 use Rattle.sheetin.proofs.check.names_end.Goals as goal
 
 pub loop-h-init : goal.loop-h-init

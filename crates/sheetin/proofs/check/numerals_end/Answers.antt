@@ -4,7 +4,7 @@ use native.Mathlib.Omega.{arith}
 use borrow.Author.Tests.{not-true, not-false}
 use lib.ListN.{length, length-drop}
 use Rattle.sheetin.proofs.Front.{no_pass, pass_no, rest-is, shift_pass}
-use Rattle.sheetin.proofs.Rows.{Numerals, numerals_none, numerals_no, numerals_more, numerals_end}
+use Rattle.sheetin.proofs.Rows.{numerals_none, numerals_no, numerals_more, numerals_end}
 use Rattle.sheetin.proofs.check.numerals_end.Goals as goal
 
 pub loop-left-init : goal.loop-left-init

@@ -1,12 +1,10 @@
-use Rattle.std.proofs.Common.{rules}
-use Prim.Native.Nat.{◌-◌}
 use mathlib.Core.Path.{ap}
 use native.Mathlib.Omega.{arith}
 use borrow.Author.Tests.{not-true, not-false}
 use lib.ListN.{length, length-drop}
 use mathlib.Core.Bool.{false≢true}
 use Rattle.sheetin.proofs.Front.{rest-is}
-use Rattle.sheetin.proofs.Rows.{Records, records-none, records_full, records-wrong, records-more, records_good}
+use Rattle.sheetin.proofs.Rows.{records-none, records_full, records-wrong, records-more, records_good}
 use Rattle.sheetin.proofs.check.records_end.Goals as goal
 
 pub loop-at-init : goal.loop-at-init

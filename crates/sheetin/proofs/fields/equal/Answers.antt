@@ -1,8 +1,5 @@
-use Rattle.std.proofs.Common.{rules}
-use Prim.Native.Nat.{◌-◌}
-use lib.ListN.{length}
 use native.Mathlib.Omega.{arith}
-use Rattle.sheetin.proofs.Scan.{Same, same_none, same_lengths, same_not, same_more, same-all}
+use Rattle.sheetin.proofs.Scan.{same_none, same_lengths, same_not, same_more, same-all}
 use Rattle.sheetin.proofs.fields.equal.Goals as goal
 
 pub returns-then-a-b : goal.returns-then-a-b

@@ -1,10 +1,8 @@
 -- `sheetin::fields::equal` meets its contract. The invariant: all characters so far are the same. The measure is what
 -- is left. Assumes nothing.
-use Rattle.std.proofs.Common.{rules}
 use Prim.Native.Nat.{◌-◌}
 use lib.ListN.{length}
-use native.Mathlib.Omega.{arith}
-use Rattle.sheetin.proofs.Scan.{Same, same_none, same_lengths, same_not, same_more, same-all}
+use Rattle.sheetin.proofs.Scan.{Same}
 use Rattle.sheetin.proofs.fields.equal.Given as goal
 
 abbrev pub invariant-loop-i : goal.invariant-loop-i

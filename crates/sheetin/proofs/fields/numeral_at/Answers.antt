@@ -1,5 +1,4 @@
 -- `sheetin::fields::numeral_at` meets its contract. Assumes nothing.
-use Rattle.std.proofs.Common.{rules}
 use native.Mathlib.Omega.{arith}
 use borrow.Author.Tests.{not-true, not-false}
 use Rattle.sheetin.proofs.Front.{get, no_get, numeral_no, numeral-other, numeral_yes}

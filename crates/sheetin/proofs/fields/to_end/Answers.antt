@@ -1,8 +1,6 @@
-use Rattle.std.proofs.Common.{rules}
-use Prim.Native.Nat.{◌-◌}
-use lib.ListN.{length, get_or}
+use lib.ListN.{get_or}
 use Rattle.sheet.specs.Grammar.{ends_bare}
-use Rattle.sheetin.proofs.Scan.{Scans, scans_none, scans_hit, scans_more, scans_end, bare-comma, bare-cr, bare_neither}
+use Rattle.sheetin.proofs.Scan.{scans_none, scans_hit, scans_more, scans_end, bare-comma, bare-cr, bare_neither}
 use Rattle.sheetin.proofs.fields.to_end.Goals as goal
 
 pub loop-i-init : goal.loop-i-init

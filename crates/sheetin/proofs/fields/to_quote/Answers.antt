@@ -1,9 +1,6 @@
-use Rattle.std.proofs.Common.{rules}
-use Prim.Native.Nat.{◌-◌}
-use lib.ListN.{length}
 use borrow.Author.Tests.{eq-eqb, ne_eqb}
 use Rattle.sheet.specs.Grammar.{ends_quoted}
-use Rattle.sheetin.proofs.Scan.{Scans, scans_none, scans_hit, scans_more, scans_end}
+use Rattle.sheetin.proofs.Scan.{scans_none, scans_hit, scans_more, scans_end}
 use Rattle.sheetin.proofs.fields.to_quote.Goals as goal
 
 pub loop-i-init : goal.loop-i-init

@@ -1,10 +1,8 @@
-use Rattle.std.proofs.Common.{rules}
-use Prim.Native.Nat.{◌-◌}
 use mathlib.Core.Path.{ap}
 use native.Mathlib.Omega.{arith}
 use lib.ListN.{length, length-drop, length-set}
 use Rattle.sheetin.proofs.Front.{rest-is}
-use Rattle.sheetin.proofs.Stores.{Filling, filling_none, filling_more, filling_end}
+use Rattle.sheetin.proofs.Stores.{filling_none, filling_more, filling_end}
 use Rattle.sheetin.proofs.fill.fill_numerals.Goals as goal
 
 pub loop-k-init : goal.loop-k-init

@@ -1,5 +1,4 @@
-use Rattle.std.proofs.Common.{rules}
-use Prim.Native.Nat.{◌+◌, ◌*◌, ◌-◌}
+use Prim.Native.Nat.{◌+◌, ◌*◌}
 use mathlib.Core.Path.{ap, ◌∙◌}
 use native.Mathlib.Omega.{arith}
 use lib.ListN.{length, length-drop}
@@ -7,7 +6,7 @@ use native.Mathlib.Nat.{add-sub_cancel_left}
 use borrow.Rule.Slice.PartMut.{mid_len}
 use Rattle.trace.specs.Rows.{columns}
 use Rattle.sheetin.proofs.Front.{rest-is}
-use Rattle.sheetin.proofs.Stores.{Storing, storing_none, storing_more, storing_end}
+use Rattle.sheetin.proofs.Stores.{storing_none, storing_more, storing_end}
 use Rattle.sheetin.proofs.fill.fill_records.Goals as goal
 
 pub loop-row-init : goal.loop-row-init

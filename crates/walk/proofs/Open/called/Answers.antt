@@ -1,5 +1,4 @@
 -- `walk::Open::called` meets its contract: the child is added to the work and to the continuation.
-use Rattle.std.proofs.Common.{rules}
 use Rattle.walk.proofs.Open.called.Goals as goal
 
 pub returns : goal.returns

@@ -1,5 +1,4 @@
 -- `walk::Open::child_longer` meets its contract: the sum is compared.
-use Rattle.std.proofs.Common.{rules}
 use Rattle.walk.proofs.Open.child_longer.Goals as goal
 
 pub returns : goal.returns

@@ -1,5 +1,4 @@
 -- `walk::Open::joined` meets its contract: each arm is what the answer says.
-use Rattle.std.proofs.Common.{rules}
 use Rattle.walk.proofs.Open.joined.Goals as goal
 
 pub returns-then-later : goal.returns-then-later

@@ -1,5 +1,4 @@
 -- `walk::Open::spawned` meets its contract: each arm is what the answer says.
-use Rattle.std.proofs.Common.{rules}
 use Rattle.walk.proofs.Open.spawned.Goals as goal
 
 pub returns-then-longer : goal.returns-then-longer

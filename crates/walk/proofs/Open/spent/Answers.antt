@@ -1,5 +1,4 @@
 -- `walk::Open::spent` meets its contract: the work and the continuation have the cost besides.
-use Rattle.std.proofs.Common.{rules}
 use Rattle.walk.proofs.Open.spent.Goals as goal
 
 pub returns : goal.returns

@@ -1,5 +1,4 @@
 -- `why::Seen::then` meets its contract.
-use Rattle.std.proofs.Common.{rules}
 use Rattle.why.proofs.Seen.then.Goals as goal
 
 pub returns : goal.returns

@@ -1,5 +1,4 @@
 -- `why::Sought::called` meets its contract.
-use Rattle.std.proofs.Common.{rules}
 use Rattle.why.proofs.Sought.called.Goals as goal
 
 pub returns : goal.returns

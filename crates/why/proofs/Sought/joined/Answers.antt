@@ -3,7 +3,6 @@ use mathlib.Core.Path.{ap}
 use native.Mathlib.Omega.{arith}
 use Rattle.why.specs.declared.Seen.{Seen}
 use Rattle.why.proofs.Second.{heavier_le}
-use Rattle.std.proofs.Common.{rules}
 use Rattle.why.proofs.Sought.joined.Goals as goal
 
 pub then-requires : goal.then-requires

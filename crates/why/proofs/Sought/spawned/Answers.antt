@@ -2,7 +2,6 @@
 use mathlib.Core.Path.{ap, sym, subst}
 use mathlib.Core.Bool.{Bool, cond}
 use Prim.Native.Nat.{◌+◌, ◌≤◌, ◌<◌}
-use Rattle.std.proofs.Common.{rules}
 use borrow.Author.Tests.{lt-ltb, le-ltb}
 use Rattle.walk.specs.declared.Cycles.{Cycles}
 use Rattle.why.specs.declared.Seen.{Seen}

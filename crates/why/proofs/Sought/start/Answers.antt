@@ -1,5 +1,4 @@
 -- `why::Sought::start` meets its contract.
-use Rattle.std.proofs.Common.{rules}
 use Rattle.why.proofs.Sought.start.Goals as goal
 
 pub returns : goal.returns

@@ -1,5 +1,4 @@
 -- `compact::step::State::add_cost` meets its contract: each measure by its own sum. Assumes nothing.
-use Rattle.std.proofs.Common.{rules}
 use Rattle.compact.proofs.step.State.add_cost.Goals as goal
 
 pub returns : goal.returns

@@ -4,7 +4,6 @@ use mathlib.Core.Bool.{false}
 use mathlib.Core.Path.{◌≡◌, ap, ◌∙◌}
 use native.Mathlib.Omega.{arith}
 use Rattle.compact.specs.Machine.{flushed}
-use Rattle.std.proofs.Common.{rules}
 use Rattle.compact.proofs.step.State.enter.Goals as goal
 
 pub returns-then-spawns-self : goal.returns-then-spawns-self

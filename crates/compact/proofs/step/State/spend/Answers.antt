@@ -1,5 +1,4 @@
 -- `compact::step::State::spend` meets its contract: each answer follows from the tests that led to it. Assumes nothing.
-use Rattle.std.proofs.Common.{rules}
 use mathlib.Core.Logic.{inl, inr}
 use mathlib.Core.Path.{◌∙◌, sym}
 use native.Mathlib.Omega.{arith}

@@ -1,5 +1,4 @@
 -- `compact::step::State::step` meets its contract: each kind has its own step. Assumes nothing.
-use Rattle.std.proofs.Common.{rules}
 use borrow.Author.Tests.{eq-eqb, ne_eqb}
 use Rattle.compact.proofs.step.State.step.Goals as goal
 
