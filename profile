@@ -89,25 +89,31 @@ esac
 
 program=target/bin/profile
 log=target/profile.log
-# made as a build begins and kept where it succeeds; holds the emulator's folder, where one is needed
+# made as a build begins and kept where it succeeds
 stamp=target/profile.stamp
 
-# whether the program is there and can be started, and no source is newer
+# whether the program is there, and no source is newer
 is_built() {
-    [ -x "$program" ] && [ -f "$stamp" ] && read -r emulator <"$stamp" || return
-    [ -z "$emulator" ] || [ -x "$emulator/bin/qemu-x86_64" ] || return
-    [ -z "$(find crates crates.txt -name must-fail -prune -o \
-        \( -name '*.rt' -o -name '*.antt' -o -name crates.txt \) -newer "$stamp" -print)" ]
+    [ -x "$program" ] && [ -f "$stamp" ] &&
+        [ -z "$(find crates crates.txt \( -name must-fail -o -name out \) -prune -o \
+            \( -name '*.rt' -o -name '*.antt' -o -name crates.txt \) -newer "$stamp" -print)" ]
 }
 
-# proves and builds the program and says which crate is done; all that rt says stands in the log
+# proves and builds the program, and runs it on nothing; all that is said goes to standard output
+prove_and_build() {
+    (cd crates/profile && rt run 2>&1 </dev/null >/dev/null) &&
+        mkdir -p target/bin && cp crates/profile/out/profile "$program.new" && mv "$program.new" "$program" && echo built
+}
+
+# does so, and says which crate is done; all that rt says stands in the log
 build() {
-    # a processor other than x86-64 needs the kit's emulator and loader
-    emulator= machine=$(uname -m)
-    [ "$machine" = x86_64 ] || emulator=$(dirname "$(dirname "$(rt doc)")")/on/$machine/toolchain
-    printf '%s\n' "$emulator" >"$stamp.new"
-    { rt check profile 2>&1 </dev/null && echo built; } | while IFS= read -r said; do
-        case $said in 'rt: '*) say "${said#rt: }" ;; esac
+    : >"$stamp.new"
+    crate=
+    prove_and_build 2>&1 | while IFS= read -r said; do
+        case $said in
+        'crate '*) crate=${said#crate } crate=${crate%%:*} ;;
+        logic=proved*) say "$crate proved" ;;
+        esac
         printf '%s\n' "$said"
     done >"$log"
     [ "$(tail -n 1 "$log")" = built ] && mv "$stamp.new" "$stamp"
@@ -131,11 +137,7 @@ if ! is_built; then
 fi
 
 # the program writes nothing where its input cannot be read, and says so itself
-if [ -z "$emulator" ]; then
-    answer=$("$program")
-else
-    answer=$("$emulator/bin/qemu-x86_64" "$emulator/lib/ld-linux-x86-64.so.2" --library-path "$emulator/lib" "$program")
-fi || fail 'the program ended without an answer'
+answer=$("$program") || fail 'the program ended without an answer'
 [ -n "$answer" ] || exit 3
 printf '%s\n' "$answer" 2>/dev/null || fail "$cannot_write"
 

@@ -19,9 +19,9 @@ else
     echo "no c++ here: the header was not tried as C++"
 fi
 
-# All that the archive that is shipped wants of its caller's C library, as docs/LINKING.md says.
+# All that the archive wants of its caller's C library, as docs/LINKING.md says.
 wants=$(nm -u "$lib/libnyolifuwe.a" | sed -n 's/^ *U //p' | sort -u | grep -vxE 'memcpy|memset' || :)
-if [ "$(uname -m)" = x86_64 ] && [ -n "$wants" ]; then
+if [ -n "$wants" ]; then
     echo "the archive wants other functions than memcpy and memset: $wants"
     exit 1
 fi

@@ -3,48 +3,50 @@
 
 #![tactic(auto)]
 
-ghost use Rattle.std.specs.Prelude.{◌≤◌, length};
-ghost use Rattle.libc.specs.Io.{Moved};
+ghost use Rattle.std.specs.Prelude.{◌<◌, ◌≤◌, length, take, IfOk};
+ghost use Rattle.std.specs.Io.KnownBytes.{Consumes, IsAtEnd};
 
-use libc::{STDERR_FILENO, STDIN_FILENO, STDOUT_FILENO};
+use std::io;
+use std::io::Read;
 
-// Reads until the room is full or the input ends, and answers as `libc::read` does: how many bytes it put at the start
-// of the room, or -1 where a read failed. (`io::read_full` does not tell a failure from the input's end.)
-fn read_input(room: &mut [u8]) -> isize
+// As many bytes as are read of an input: more than `program::print` takes.
+const MOST: usize = 65536;
+
+// Reads until the room is full or the input ends, and answers how many bytes it put at the start of the room; or the
+// error of the first read that failed. Where a reader's bytes are known, those are its next ones, and all of them where
+// the room is not full.
+fn read_input<R: Read>(from: &mut R, room: &mut [u8]) -> io::Result<usize>
     requires { length room.old ≤ 65536 }
-    ensures { Moved (length room.old) result }
+    ensures count { IfOk result (λ n. n ≤ length room.old) }
+    ensures bytes { IfOk result (λ n. Consumes (R.remaining from.old) (R.remaining from.new) (take n room.new)) }
+    ensures end { IfOk result (λ n. n < length room.old → IsAtEnd (R.remaining from.new)) }
 {
     let mut n = 0;
     while n < room.len() {
-        let got = libc::read(STDIN_FILENO, &mut room[n..]);
-        if got < 0 {
-            return -1;
-        }
-        let more = io::count(got, &room[n..]);
+        let more = from.read(&mut room[n..])?;
         if more == 0 {
-            return n as isize;
+            return Ok(n);
         }
         n += more;
     }
-    n as isize
+    Ok(n)
 }
 
 // Prints what comes of an input.
-fn answer(input: &[u8]) {
+fn answer(rt: &(impl Print + Eprint), input: &[u8]) {
     let mut out = [0u8; program::ROOM];
     let m = program::print(input, &mut out);
-    if !io::write_all(STDOUT_FILENO, &out[..m]) {
-        io::write_all(STDERR_FILENO, b"profile: the answer cannot be written\n");
+    if rt.write_all(&out[..m]).is_err() {
+        let _ = rt.eprintln("profile: the answer cannot be written");
     }
 }
 
-fn main() {
-    let mut input = io::large_buffer();
-    let got = read_input(&mut input);
-    if got < 0 {
-        io::write_all(STDERR_FILENO, b"profile: the input cannot be read\n");
-        return;
+fn main(rt: HostRuntime) {
+    let mut input = [0u8; MOST];
+    match read_input(&mut rt.stdin(), &mut input) {
+        Ok(n) => answer(&rt, &input[..n]),
+        Err(_) => {
+            let _ = rt.eprintln("profile: the input cannot be read");
+        }
     }
-    let n = io::count(got, &input);
-    answer(&input[..n]);
 }
