@@ -1,5 +1,5 @@
--- What the walks over a lent tally share: the machine values of the types, and what is passed beside the tally, which
--- is plain data and so is had for nothing.
+-- The machine values of a lent tally and of what is passed beside it, which is plain data and so is had for nothing: for
+-- proofs by hand of functions that lend one.
 use mathlib.Core.Path.{refl}
 use mathlib.Core.List.{[], ◌∷◌, List}
 use Prim.Native.Nat.{ℕ, ◌<◌, ◌^◌}

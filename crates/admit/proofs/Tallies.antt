@@ -37,8 +37,8 @@ undeclared-is before s h = go (eqb s 0) refl
     go false e = ap not (h.each s (omega (arith, eqb-false s 0 e))) ∙ above (leb s (sites before)) refl
 
 -- 12: one more is open than the limit
-too_deep-is : (D d : ℕ) → ltb D (suc d) ≡ leb D d
-too_deep-is D d = go (leb D d) refl
+too_deep_is : (D d : ℕ) → ltb D (suc d) ≡ leb D d
+too_deep_is D d = go (leb D d) refl
   where
     go : (b : Bool) → leb D d ≡ b → ltb D (suc d) ≡ b
     go true e = lt-ltb D (suc d) (omega (arith, leb-true D d e))
@@ -143,7 +143,7 @@ module _ (D M : ℕ) (before : List Frame) (against : Bool) (h : Numbered before
       → cond (eqb (length o) 0) (refuse t 7) (cond (eqb s 0) (refuse t 11) (cond (ltb (sites before) s) (refuse t 11) (cond (leb D (length o)) (refuse t 12) (next (behind (sites before) (length o + 1))))))
       ≡ outcome (cond (after_root before) 7 (cond (eqb s 0 || not (declared s before)) 11 (cond (ltb D (suc (length o))) 12 0))) (tally_of (before ++ f ∷ [])) t
   make_is f s z e =
-      rw (too_deep-is D (length o))
+      rw (too_deep_is D (length o))
       (make (after_root before) (eqb (length o) 0) (eqb s 0 || not (declared s before)) (eqb s 0) (ltb (sites before) s) (leb D (length o)) (behind (sites before) (length o + 1)) (tally_of (before ++ f ∷ [])) t
       (none_open o) (next-is before f (sites before) (length o + 1) (omega (arith, z)) e) (undeclared-is before s h))
 
@@ -163,6 +163,6 @@ module _ (D M : ℕ) (before : List Frame) (against : Bool) (h : Numbered before
       (none_open o) (next-is before (Instructions v) (sites before) (length o) (omega arith) refl) g
   step_is (Async s) g = make_is (Async s) s refl (omega arith)
   step_is Finish g =
-      rw (too_deep-is D (length o))
+      rw (too_deep_is D (length o))
       (deepen (after_root before) (eqb (length o) 0) (leb D (length o)) (behind (sites before) (length o + 1)) (tally_of (before ++ Finish ∷ [])) t
       (none_open o) (next-is before Finish (sites before) (length o + 1) (omega arith) (omega arith)))

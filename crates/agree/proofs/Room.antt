@@ -32,23 +32,23 @@ read_never g s n m k e h = go (eqb (length s) 23) (wrong s) (table_of g (fields 
     go true false none q = let y : 6 ≡ m = cc in omega arith
     go false b x q = let y : 2 ≡ m = cc in omega arith
 
-fault-never : (a b c d e f g : Bool) → ◌≡◌ {A = ℕ} (cond a 7 (cond b 22 (cond c 8 (cond d 9 (cond e 10 (cond f 11 (cond g 12 0))))))) 4 → ⊥
-fault-never true b c d e f g q = omega arith
-fault-never false true c d e f g q = omega arith
-fault-never false false true d e f g q = omega arith
-fault-never false false false true e f g q = omega arith
-fault-never false false false false true f g q = omega arith
-fault-never false false false false false true g q = omega arith
-fault-never false false false false false false true q = omega arith
-fault-never false false false false false false false q = omega arith
+fault_never : (a b c d e f g : Bool) → ◌≡◌ {A = ℕ} (cond a 7 (cond b 22 (cond c 8 (cond d 9 (cond e 10 (cond f 11 (cond g 12 0))))))) 4 → ⊥
+fault_never true b c d e f g q = omega arith
+fault_never false true c d e f g q = omega arith
+fault_never false false true d e f g q = omega arith
+fault_never false false false true e f g q = omega arith
+fault_never false false false false true f g q = omega arith
+fault_never false false false false false true g q = omega arith
+fault_never false false false false false false true q = omega arith
+fault_never false false false false false false false q = omega arith
 
-scan-never : (g : Family) (D M : ℕ) (s : List ℕ) (before : List Frame) (n count k : ℕ) → scan D M before (reads_from_of g s n count) ≡ refused 4 k → ⊥
-scan-never g D M s before n zero k e = go (after_root before) e
+scan_never : (g : Family) (D M : ℕ) (s : List ℕ) (before : List Frame) (n count k : ℕ) → scan D M before (reads_from_of g s n count) ≡ refused 4 k → ⊥
+scan_never g D M s before n zero k e = go (after_root before) e
   where
     go : (b : Bool) → cond b (accepted before) (refused 14 (length before)) ≡ refused 4 k → ⊥
     go true q = clash (cc)
     go false q = let y : ◌≡◌ {A = ℕ} 14 4 = cc in omega arith
-scan-never g D M s before n (suc count) k e = go (λ f. scan-never g D M s (before ++ f ∷ []) (suc n) count k) (read_at_of g s n) refl e
+scan_never g D M s before n (suc count) k e = go (λ f. scan_never g D M s (before ++ f ∷ []) (suc n) count k) (read_at_of g s n) refl e
   where
     rs : List Read
     rs = reads_from_of g s (suc n) count
@@ -57,7 +57,7 @@ scan-never g D M s before n (suc count) k e = go (λ f. scan-never g D M s (befo
     on j f true rec q = rec q
     on j f false rec q =
         let y : fault D M before f ≡ 4 = cc in
-        fault-never (after_root before) (stray before f) (misplaced before f) (above_m M f) (place_again before f) (undeclared before f) (too_deep D before f) y
+        fault_never (after_root before) (stray before f) (misplaced before f) (above_m M f) (place_again before f) (undeclared before f) (too_deep D before f) y
 
     go : ((f : Frame) → scan D M (before ++ f ∷ []) rs ≡ refused 4 k → ⊥) → (r : Read) → read_at_of g s n ≡ r → judged D M before r (λ f. scan D M (before ++ f ∷ []) rs) ≡ refused 4 k → ⊥
     go rec (Refused m j) r q = (let y : m ≡ 4 = cc in read_never g (line_at s n) n m j r y)
@@ -83,7 +83,7 @@ module _ (g : Family) (s : List ℕ) (D M : ℕ) where
   pub never_four : (k : ℕ) → verdict_of g s D M true ≡ refused (refusal_for s D M) k → refusal_for s D M < 4
   never_four k e = elim (room-last (length s) D M) [
     | inl c ↦ elim (by-checks g s D M true) [
-      | inl h ↦ absurd (scan-never g D M s [] 0 (line_count s) k (sym h.1 ∙ e ∙ ap (λ (n : ℕ). refused n k) c.1))
+      | inl h ↦ absurd (scan_never g D M s [] 0 (line_count s) k (sym h.1 ∙ e ∙ ap (λ (n : ℕ). refused n k) c.1))
       | inr h ↦ absurd (h.0 c.0)
     ]
     | inr c ↦ omega (arith, c.0, c.1.1 false)

@@ -66,7 +66,7 @@ rows_next : (before : List Frame) (f : Frame) (v : List Frame) → InTable Base 
 rows_next before f v k = ap (map (row_of (before ++ f ∷ v))) (open_next before f v) ∙ rows_step before f v (open_at (before ++ f ∷ v) (length before)) k
 
 -- Something that is made of lines, from the last to the first, with the rows open at each: over line numbers, and by
--- the rows as they rowStep.
+-- the rows as `row_step` moves them
 module _ {A : Type 0} (h : List ℕ → Frame → A → A) (z : A) where
   abbrev over : List Frame → ℕ → List Frame → A
   over t j [] = z

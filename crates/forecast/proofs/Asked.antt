@@ -37,11 +37,11 @@ factor_range (e ∷ es) s h =
     let a = good e es h in
     either_range (eqb s e.row) e.factor (row_factor es s) a.0 (factor_range es s a.1)
 
-pub factor_of-range : (es : List Entry) (t : List Frame) (F : ℕ) → bad_factor es ≡ false → (1 ≤ factor_of es t F) × (factor_of es t F ≤ 1000)
-factor_of-range [] t F h = (omega arith, omega arith)
-factor_of-range (e ∷ es) t F h =
+pub factor_of_range : (es : List Entry) (t : List Frame) (F : ℕ) → bad_factor es ≡ false → (1 ≤ factor_of es t F) × (factor_of es t F ≤ 1000)
+factor_of_range [] t F h = (omega arith, omega arith)
+factor_of_range (e ∷ es) t F h =
     let a = good e es h in
-    either_range (has F (of_row t e.row)) e.factor (factor_of es t F) a.0 (factor_of-range es t F a.1)
+    either_range (has F (of_row t e.row)) e.factor (factor_of es t F) a.0 (factor_of_range es t F a.1)
 
 -- a cost divided by its row's factor stays in the table
 pub entries-tabled : (es : List Entry) → bad_factor es ≡ false → Tabled (by_entries es)

@@ -1,4 +1,4 @@
--- What the walks over a lent slice of entries share: the machine values of an entry and of a list by value.
+-- The machine values of an entry and of a list by value: for proofs by hand of functions that lend entries.
 use mathlib.Core.Path.{subst}
 use mathlib.Core.List.{List, [], ◌∷◌}
 use seplogic.Ra.Ura.{Ura}

@@ -28,7 +28,7 @@ use Rattle.forecast.specs.Rewritten.{divided, factor_of, factor_at, rewritten_fr
 use Rattle.forecast.specs.Asked.{bad_factor, asking}
 use Rattle.forecast.specs.Gain.{named, named_at, loses, lost, OffSpan}
 use Rattle.forecast.proofs.Divided.{divided-one, divided-none, divided-most}
-use Rattle.forecast.proofs.Asked.{factor_of-range}
+use Rattle.forecast.proofs.Asked.{factor_of_range}
 
 -- ── an empty list ──
 
@@ -67,7 +67,7 @@ value-rewritten es t k v h = value_line es t 0 (root ∷ []) t k v h
 module _ (es : List Entry) (good : bad_factor es ≡ false) (t : List Frame) where
   pub least : (o : List ℕ) → 1 ≤ factor_at es t o
   least [] = omega arith
-  least (F ∷ o) = (factor_of-range es t F good).0
+  least (F ∷ o) = (factor_of_range es t F good).0
 
   lighter : (g : ℕ → ℕ) → ((v : ℕ) → g v ≤ v) → (f : Frame) → value (costing g f) ≤ value f
   lighter g h (Site s p) = omega arith
@@ -106,17 +106,17 @@ module _ (es : List Entry) (good : bad_factor es ≡ false) (t : List Frame) whe
   same-instructions s = sym (ilocal_alike t u alike s)
 
   -- LAW: total work, total span, and work and span of every row are at most the plain ones
-  pub no_more-work : total (rewritten es t) ≤ total t
-  no_more-work = total-most t u alike most
+  pub no_more_work : total (rewritten es t) ≤ total t
+  no_more_work = total-most t u alike most
 
-  pub no_more-span : (a b : ℕ) → Span t root a → Span (rewritten es t) root b → b ≤ a
-  no_more-span = span-most t u alike most root
+  pub no_more_span : (a b : ℕ) → Span t root a → Span (rewritten es t) root b → b ≤ a
+  no_more_span = span-most t u alike most root
 
-  pub no_more-row-work : (s : ℕ) → work (rewritten es t) s ≤ work t s
-  no_more-row-work = work-most t u alike most
+  pub no_more_row_work : (s : ℕ) → work (rewritten es t) s ≤ work t s
+  no_more_row_work = work-most t u alike most
 
-  pub no_more-row-span : (s a b : ℕ) → Spans t s a → Spans (rewritten es t) s b → b ≤ a
-  no_more-row-span = spans_most t u alike most
+  pub no_more_row_span : (s a b : ℕ) → Spans t s a → Spans (rewritten es t) s b → b ≤ a
+  no_more_row_span = spans_most t u alike most
 
   -- ── what the span can lose ──
 
@@ -229,7 +229,7 @@ module _ (t : List Frame) (c : List ℕ) where
         go : (o : List ℕ) → open_at t k ≡ o → divided (value_at t k) (factor_at es t o) ≡ value_at t k
         go [] e = divided-one (value_at t k)
         go (F ∷ o) e = elim (off_factor es off F k (ap (first_is F) e ∙ eq-eqb F F refl) h) [
-          | inl z ↦ (ap (λ (v : ℕ). divided v (factor_of es t F)) z ∙ divided-none (factor_of es t F) (factor_of-range es t F good).0 ∙ sym z)
+          | inl z ↦ (ap (λ (v : ℕ). divided v (factor_of es t F)) z ∙ divided-none (factor_of es t F) (factor_of_range es t F good).0 ∙ sym z)
           | inr z ↦ (ap (divided (value_at t k)) z ∙ divided-one (value_at t k))
         ]
 
@@ -251,7 +251,7 @@ pub off-span : (es : List Entry) → bad_factor es ≡ false → (t : List Frame
 off-span es good t c x off a b y z =
     omega (
       arith,
-      no_more-span es good t a b y z,
+      no_more_span es good t a b y z,
       y.weighs,
       x.heaviest y.chain y.is_chain,
       same-weight t c es good off c x.chain.costs (all_in c c (λ k h. h)),

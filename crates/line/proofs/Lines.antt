@@ -1,4 +1,4 @@
--- What the line reader rests on: a line's parts, its five numerals, and readLineOf by cases.
+-- What the line reader rests on: a line's parts, its five numerals, and `read_line_of` by cases.
 -- Assumes nothing.
 use Prim.Native.Nat.{ℕ, ◌+◌, ◌*◌, ◌/◌, ◌^◌, ◌≤◌, ◌<◌}
 use mathlib.Core.Bool.{Bool, true, false, not, cond, ◌&&◌, and_assoc}
@@ -37,7 +37,7 @@ pub same-table : (x : Fields) → (x.kind ≡ 3 → ⊥) → (x.kind ≡ 4 → �
     → (n : ℕ) {r : Read} → r ≡ tabled (table x) n → r ≡ tabled (table_of Finishes x) n
 same-table x a b c d n h = h ∙ simp (ne_eqb x.kind 3 a, ne_eqb x.kind 4 b, ne_eqb x.kind 0x12 c, ne_eqb x.kind 0x13 d)
 
--- readLineOf by cases
+-- `read_line_of` by cases
 module _ (g : Family) (s : List ℕ) (n : ℕ) where
   read_of : (a b : Bool) → eqb (length s) 23 ≡ a → wrong s ≡ b → read_line_of g s n ≡ cond a (cond b (Refused 5 n) (tabled (table_of g (fields s)) n)) (Refused 2 0)
   read_of a b e f = ap (λ (x : Bool). cond x (cond (wrong s) (Refused 5 n) (tabled (table_of g (fields s)) n)) (Refused 2 0)) e ∙ ap (λ (x : Bool). cond a (cond x (Refused 5 n) (tabled (table_of g (fields s)) n)) (Refused 2 0)) f

@@ -83,12 +83,12 @@ module _ (g : Family) where
   same-small-of s z n e = sym (read_small s g n) ∙ ap (λ (l : List ℕ). read_line_of g l n) e ∙ read_small z g n
 
   -- LAW: so do the lines of a text and of its small-letter form
-  pub read_at-small-of : (s : List ℕ) (n : ℕ) → read_at_of g (small_form s) n ≡ read_at_of g s n
-  read_at-small-of s n = ap (λ (l : List ℕ). read_line_of g l n) (small-part s (width * n) width) ∙ read_small (line_at s n) g n
+  pub read_at_small_of : (s : List ℕ) (n : ℕ) → read_at_of g (small_form s) n ≡ read_at_of g s n
+  read_at_small_of s n = ap (λ (l : List ℕ). read_line_of g l n) (small-part s (width * n) width) ∙ read_small (line_at s n) g n
 
 -- those of document 01's family
 pub same-small : (s z : List ℕ) (n : ℕ) → small_form s ≡ small_form z → read_line s n ≡ read_line z n
 same-small = same-small-of Base
 
-pub read_at-small : (s : List ℕ) (n : ℕ) → read_at (small_form s) n ≡ read_at s n
-read_at-small = read_at-small-of Base
+pub read_at_small : (s : List ℕ) (n : ℕ) → read_at (small_form s) n ≡ read_at s n
+read_at_small = read_at_small_of Base

@@ -526,9 +526,9 @@ fn finish_item(
 // Columns 5 and 7 of a row: what a cost line of it weighs, and its instructions, where the line is marked.
 fn add_marked(trace: &[u8], at: usize, row: usize, marks: &[u8], rows: &mut [u64], asking: &[u64])
     requires at_in_bounds { at < length marks.now }
-    requires column_fits { ColumnFits rows.old row Column.on_span
+    requires cycles_fit { ColumnFits rows.old row Column.on_span
         (marked (get_or marks.now at 0) (weight_at asking.now trace.now at row)) }
-    requires column_fits_2 { ColumnFits rows.old row Column.ion_span
+    requires instructions_fit { ColumnFits rows.old row Column.ion_span
         (marked (get_or marks.now at 0) (instructions_at trace.now at)) }
     ensures { Grown rows.old (marked_gain row (get_or marks.now at 0)
         (weight_at asking.now trace.now at row) (instructions_at trace.now at))

@@ -16,7 +16,7 @@ use Rattle.sheet.specs.Text.{sheet_text}
 use Rattle.sheet.specs.Writing.{writing}
 use Rattle.sheet.specs.Grammar.{Sheet, sheet, bad, sheet_of}
 use Rattle.sheet.specs.Reading.{Taken, fill, taken, reading, Reads}
-use Rattle.sheet.specs.Reading.{refuse as turn, answer as tellOf, leave as leaveRows}
+use Rattle.sheet.specs.Reading.{refuse as turn, answer as tell_of, leave as leave_rows}
 use Rattle.sheet.proofs.Apart.{bad-few}
 use Rattle.nyolifuwe.specs.Texts.{Tells}
 use Rattle.nyolifuwe.specs.Sheets.{csv_write, csv_read, code_of, sites, Takes}
@@ -61,7 +61,7 @@ csv_untaken s rows count few =
     let e : csv_read s (length rows) (length count) ≡ turn 4 0 = simp (lt-ltb _ _ few) in
     record {
       answered = sym (ap code_of e);
-      rows_left = sym (ap (λ (t : Taken). leaveRows t rows) e);
+      rows_left = sym (ap (λ (t : Taken). leave_rows t rows) e);
       count_left = sym (ap (λ (t : Taken). leave (sites t) count) e);
     }
 
@@ -78,19 +78,19 @@ csv_taken s rows rows' count count' {given = given} some w g k =
     rw e (takes (reading s (length rows)) w g k)
 
 -- the record in the reader's answer
-pub csv_record : (s : List ℕ) (room : ℕ) {r : Counted} → r ≡ tellOf (reading s room) → record_in r ≤ 65536
+pub csv_record : (s : List ℕ) (room : ℕ) {r : Counted} → r ≡ tell_of (reading s room) → record_in r ≤ 65536
 unfolding reading
 csv_record s room {r} e = go (sheet_of s) refl
   where
-    room-enough : (b : Bool) (n : ℕ) (xs : List ℕ) → record_in (tellOf (cond b (turn 16 0) (fill n xs))) ≡ 0
+    room-enough : (b : Bool) (n : ℕ) (xs : List ℕ) → record_in (tell_of (cond b (turn 16 0) (fill n xs))) ≡ 0
     room-enough true n xs = refl
     room-enough false n xs = refl
 
     go : (x : Sheet) → sheet_of s ≡ x → record_in r ≤ 65536
     go (sheet n xs) h =
         omega
-        (arith, ap record_in e, ap (λ (y : Sheet). record_in (tellOf (taken y room))) h, room-enough (ltb room (columns * n)) (n - 1) xs)
-    go (bad k) h = omega (arith, ap record_in e, ap (λ (y : Sheet). record_in (tellOf (taken y room))) h, bad-few s k h)
+        (arith, ap record_in e, ap (λ (y : Sheet). record_in (tell_of (taken y room))) h, room-enough (ltb room (columns * n)) (n - 1) xs)
+    go (bad k) h = omega (arith, ap record_in e, ap (λ (y : Sheet). record_in (tell_of (taken y room))) h, bad-few s k h)
 
 -- LAW: a decision of the writer leaves one code and one outcome
 pub one_telling : {d : Decision} {given given' : ℕ} {text text' text'' written written' written'' : List ℕ}

@@ -1,4 +1,4 @@
--- For the walks of the exported forecasts, by hand: that lent entries can be taken by value, and what is known of them then.
+-- For proofs by hand over a call of `forecast::taken`: that lent entries can be taken by value, and what is known of them then.
 use mathlib.Core.Path.{◌≡◌, subst}
 use mathlib.Core.List.{List, [], ◌∷◌}
 use lib.ListN.{length}

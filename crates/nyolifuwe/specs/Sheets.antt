@@ -5,7 +5,7 @@ use Rattle.trace.specs.Rows.{columns}
 use Rattle.report.specs.Room.{Decision, write, refuse, fitting, leave}
 use Rattle.sheet.specs.Text.{sheet_text}
 use Rattle.sheet.specs.Reading.{Taken, fill, reading}
-use Rattle.sheet.specs.Reading.{refuse as turn, leave as leaveRows}
+use Rattle.sheet.specs.Reading.{refuse as turn, leave as leave_rows}
 use Rattle.nyolifuwe.specs.Code.{coded}
 
 -- "writing, the report writer's 1 and 4 for its input", and 4 where there is no room for the number of characters,
@@ -33,5 +33,5 @@ sites (turn number line) = refuse number line
 -- a reader that decided so gave this code, and made these two rooms of what the rows' and the count's room held before
 pub record Takes (t : Taken) (given : ℕ) (rows rows' count count' : List ℕ) : Type 0 where
   pub answered : given ≡ code_of t
-  pub rows_left : rows' ≡ leaveRows t rows
+  pub rows_left : rows' ≡ leave_rows t rows
   pub count_left : count' ≡ leave (sites t) count

@@ -311,8 +311,8 @@ fn by_tables(
     family: Family,
 ) -> Answer
     ensures { PromiseOf family Engine.tables trace.now depth sites
-        (record { scratch = scratch.entry.now; rows = rows.old; marks = [] }) result
-        (record { scratch = scratch.exit.now; rows = rows.new; marks = [] }) }
+        (record { scratch = scratch.old; rows = rows.old; marks = [] }) result
+        (record { scratch = scratch.new; rows = rows.new; marks = [] }) }
 {
     match family {
         Family::Base => tables::profile(trace, depth, sites, scratch, rows),
@@ -331,8 +331,8 @@ fn tables_as(
     family: Family,
 ) -> u64
     ensures { ProfilesOf family Engine.tables trace.now depth sites
-        (record { scratch = scratch.entry.now; rows = rows.old; marks = [] }) answer.old result
-        (record { scratch = scratch.exit.now; rows = rows.new; marks = [] }) answer.new }
+        (record { scratch = scratch.old; rows = rows.old; marks = [] }) answer.old result
+        (record { scratch = scratch.new; rows = rows.new; marks = [] }) answer.new }
 {
     if answer.len() < 4 {
         return refuse_room(trace.len(), depth as usize, sites as usize);
@@ -352,8 +352,8 @@ pub extern "C" fn nyo_tables(
     answer: &mut [u64],
 ) -> u64
     ensures { Profiles Engine.tables trace.now depth sites
-        (record { scratch = scratch.entry.now; rows = rows.old; marks = [] }) answer.old result
-        (record { scratch = scratch.exit.now; rows = rows.new; marks = [] }) answer.new }
+        (record { scratch = scratch.old; rows = rows.old; marks = [] }) answer.old result
+        (record { scratch = scratch.new; rows = rows.new; marks = [] }) answer.new }
 {
     tables_as(trace, depth, sites, scratch, rows, answer, Family::Base)
 }
@@ -369,8 +369,8 @@ pub extern "C" fn nyo_finish_tables(
     answer: &mut [u64],
 ) -> u64
     ensures { ProfilesOf Finishes Engine.tables trace.now depth sites
-        (record { scratch = scratch.entry.now; rows = rows.old; marks = [] }) answer.old result
-        (record { scratch = scratch.exit.now; rows = rows.new; marks = [] }) answer.new }
+        (record { scratch = scratch.old; rows = rows.old; marks = [] }) answer.old result
+        (record { scratch = scratch.new; rows = rows.new; marks = [] }) answer.new }
 {
     tables_as(trace, depth, sites, scratch, rows, answer, Family::Finishes)
 }
@@ -386,8 +386,8 @@ fn by_marks(
     family: Family,
 ) -> Answer
     ensures { PromiseOf family Engine.marks trace.now depth sites
-        (record { scratch = scratch.entry.now; rows = rows.old; marks = marks.old }) result
-        (record { scratch = scratch.exit.now; rows = rows.new; marks = marks.new }) }
+        (record { scratch = scratch.old; rows = rows.old; marks = marks.old }) result
+        (record { scratch = scratch.new; rows = rows.new; marks = marks.new }) }
 {
     match family {
         Family::Base => marks::profile(trace, depth, sites, scratch, marks, rows),
@@ -407,9 +407,9 @@ fn marks_as(
     family: Family,
 ) -> u64
     ensures { ProfilesOf family Engine.marks trace.now depth sites
-        (record { scratch = scratch.entry.now; rows = rows.old; marks = marks.old })
+        (record { scratch = scratch.old; rows = rows.old; marks = marks.old })
         answer.old result
-        (record { scratch = scratch.exit.now; rows = rows.new; marks = marks.new })
+        (record { scratch = scratch.new; rows = rows.new; marks = marks.new })
         answer.new }
 {
     if answer.len() < 4 {
@@ -439,9 +439,9 @@ pub extern "C" fn nyo_marks(
     answer: &mut [u64],
 ) -> u64
     ensures { Profiles Engine.marks trace.now depth sites
-        (record { scratch = scratch.entry.now; rows = rows.old; marks = marks.old })
+        (record { scratch = scratch.old; rows = rows.old; marks = marks.old })
         answer.old result
-        (record { scratch = scratch.exit.now; rows = rows.new; marks = marks.new })
+        (record { scratch = scratch.new; rows = rows.new; marks = marks.new })
         answer.new }
 {
     marks_as(
@@ -468,9 +468,9 @@ pub extern "C" fn nyo_finish_marks(
     answer: &mut [u64],
 ) -> u64
     ensures { ProfilesOf Finishes Engine.marks trace.now depth sites
-        (record { scratch = scratch.entry.now; rows = rows.old; marks = marks.old })
+        (record { scratch = scratch.old; rows = rows.old; marks = marks.old })
         answer.old result
-        (record { scratch = scratch.exit.now; rows = rows.new; marks = marks.new })
+        (record { scratch = scratch.new; rows = rows.new; marks = marks.new })
         answer.new }
 {
     marks_as(
@@ -496,8 +496,8 @@ fn forecast_tables(
     answer: &mut [u64],
 ) -> u64
     ensures { ForecastsOf Engine.tables list trace.now depth sites
-        (record { scratch = scratch.entry.now; rows = rows.old; marks = [] }) answer.old result
-        (record { scratch = scratch.exit.now; rows = rows.new; marks = [] }) answer.new }
+        (record { scratch = scratch.old; rows = rows.old; marks = [] }) answer.old result
+        (record { scratch = scratch.new; rows = rows.new; marks = [] }) answer.new }
 {
     if answer.len() < 4 {
         return refuse_room(trace.len(), depth as usize, sites as usize);
@@ -518,9 +518,9 @@ fn forecast_marks(
     answer: &mut [u64],
 ) -> u64
     ensures { ForecastsOf Engine.marks list trace.now depth sites
-        (record { scratch = scratch.entry.now; rows = rows.old; marks = marks.old })
+        (record { scratch = scratch.old; rows = rows.old; marks = marks.old })
         answer.old result
-        (record { scratch = scratch.exit.now; rows = rows.new; marks = marks.new })
+        (record { scratch = scratch.new; rows = rows.new; marks = marks.new })
         answer.new }
 {
     if answer.len() < 4 {
@@ -551,8 +551,8 @@ pub extern "C" fn nyo_forecast_tables(
     answer: &mut [u64],
 ) -> u64
     ensures { Forecasts Engine.tables entries.now trace.now depth sites
-        (record { scratch = scratch.entry.now; rows = rows.old; marks = [] }) answer.old result
-        (record { scratch = scratch.exit.now; rows = rows.new; marks = [] }) answer.new }
+        (record { scratch = scratch.old; rows = rows.old; marks = [] }) answer.old result
+        (record { scratch = scratch.new; rows = rows.new; marks = [] }) answer.new }
 {
     let list = forecast::taken(entries);
     forecast_tables(trace, depth, sites, list, scratch, rows, answer)
@@ -571,9 +571,9 @@ pub extern "C" fn nyo_forecast_marks(
     answer: &mut [u64],
 ) -> u64
     ensures { Forecasts Engine.marks entries.now trace.now depth sites
-        (record { scratch = scratch.entry.now; rows = rows.old; marks = marks.old })
+        (record { scratch = scratch.old; rows = rows.old; marks = marks.old })
         answer.old result
-        (record { scratch = scratch.exit.now; rows = rows.new; marks = marks.new })
+        (record { scratch = scratch.new; rows = rows.new; marks = marks.new })
         answer.new }
 {
     let list = forecast::taken(entries);

@@ -127,7 +127,7 @@ fn rows_size(rows: &[u64], n: usize, idle: bool) -> usize
 // A row's line, where the row is printed, is laid into the output at a place; the answer is the place behind it.
 fn put_row(rows: &[u64], row: usize, idle: bool, out: &mut [u8], at: usize) -> usize
     requires row_bound { (row ≤ 255) × (columns * (row + 1) ≤ length rows.now) }
-    requires row_in_bounds { at + length (piece idle rows.now row) ≤ length out.old }
+    requires room { at + length (piece idle rows.now row) ≤ length out.old }
     ensures { Lays at (piece idle rows.now row) out.old result out.new }
 {
     if !is_printed(rows, row, idle) {
@@ -143,7 +143,7 @@ fn put_row(rows: &[u64], row: usize, idle: bool, out: &mut [u8], at: usize) -> u
 // characters they are.
 fn put_rows(rows: &[u64], n: usize, idle: bool, out: &mut [u8]) -> usize
     requires n_bound { (n ≤ 256) × (columns * n ≤ length rows.now) }
-    requires n_in_bounds { length (pieces idle rows.now n) ≤ length out.old }
+    requires room { length (pieces idle rows.now n) ≤ length out.old }
     ensures { Lays 0 (pieces idle rows.now n) out.old result out.new }
 {
     let mut end = 0;

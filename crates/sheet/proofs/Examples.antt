@@ -122,8 +122,8 @@ room_short = refl
 rows_short : writing rows 3 1000 ≡ refused 4 0
 rows_short = refl
 
-too_many-sites : writing rows 256 0 ≡ refused 1 0
-too_many-sites = refl
+too_many_sites : writing rows 256 0 ≡ refused 1 0
+too_many_sites = refl
 
 -- n rows of zeros
 abbrev zeros : ℕ → List ℕ

@@ -16,21 +16,21 @@ use Rattle.sheet.specs.Text.{line_ends, column_names, row_name, follows, row_rec
 use Rattle.sheet.specs.Writing.{writing}
 use Rattle.sheet.specs.Grammar.{sheet, sheet_of}
 use Rattle.sheet.specs.Reading.{Taken, fill, reading, Reads}
-use Rattle.sheet.specs.Reading.{answer as tell, leave as fillIn}
+use Rattle.sheet.specs.Reading.{answer as tell, leave as fill_in}
 use Rattle.sheet.specs.Spelling.{as_is, Fields, nil, next, begin, Spells, over, ends}
 use Rattle.sheet.proofs.Spelled.{Small, Given, spelled_is_good}
 use Rattle.sheet.proofs.Good.{good_is_spelled}
 use Rattle.sheet.proofs.Decisions.{writing-accepts, fills}
 
 -- the writer's fields are bare, and it ends every record
-fields-as_is : (ts : List (List ℕ)) → Fields ts (flat_map follows ts)
+fields_as_is : (ts : List (List ℕ)) → Fields ts (flat_map follows ts)
 unfolding flat_map
-fields-as_is [] = nil
-fields-as_is (t ∷ ts) = next as_is (fields-as_is ts)
+fields_as_is [] = nil
+fields_as_is (t ∷ ts) = next as_is (fields_as_is ts)
 
 record_as_is : (t : List ℕ) (ts : List (List ℕ)) (rs : List (List (List ℕ))) {u : List ℕ} → Spells rs u → Spells ((t ∷ ts) ∷ rs) (record_text (t ∷ ts) ++ u)
 unfolding record_text
-record_as_is t ts rs {u} q = subst (λ (l : List ℕ). Spells ((t ∷ ts) ∷ rs) l) same (ends (begin as_is (fields-as_is ts)) q)
+record_as_is t ts rs {u} q = subst (λ (l : List ℕ). Spells ((t ∷ ts) ∷ rs) l) same (ends (begin as_is (fields_as_is ts)) q)
   where
     same : (t ++ flat_map follows ts) ++ (line_ends ++ u) ≡ (t ++ (flat_map follows ts ++ line_ends)) ++ u
     same =
@@ -38,14 +38,14 @@ record_as_is t ts rs {u} q = subst (λ (l : List ℕ). Spells ((t ∷ ts) ∷ rs
         ∙ ap (λ (l : List ℕ). t ++ l) (sym (append_assoc (flat_map follows ts) line_ends u))
         ∙ sym (append_assoc t (flat_map follows ts ++ line_ends) u)
 
-rows-as_is : (rows which : List ℕ) → Spells (row_records rows which) (flat_map record_text (row_records rows which))
+rows_as_is : (rows which : List ℕ) → Spells (row_records rows which) (flat_map record_text (row_records rows which))
 unfolding flat_map
-rows-as_is rows [] = over
-rows-as_is rows (r ∷ which) = record_as_is _ _ (row_records rows which) (rows-as_is rows which)
+rows_as_is rows [] = over
+rows_as_is rows (r ∷ which) = record_as_is _ _ (row_records rows which) (rows_as_is rows which)
 
 pub written_spells : (rows : List ℕ) (count : ℕ) → Spells (sheet_records rows count) (sheet_text rows count)
 unfolding sheet_text flat_map
-written_spells rows count = record_as_is row_name column_names (row_records rows (first (count + 1))) (rows-as_is rows (first (count + 1)))
+written_spells rows count = record_as_is row_name column_names (row_records rows (first (count + 1))) (rows_as_is rows (first (count + 1)))
 
 -- what the writer writes is good, and holds the rows
 pub written_good : (rows : List ℕ) (count : ℕ) → Given rows count
@@ -60,7 +60,7 @@ module _ (rows : List ℕ) (count : ℕ) (small : Small rows) (out out' : List �
       → (c ≡ Sites count) × (room' ≡ take (columns * (count + 1)) rows ++ drop (columns * (count + 1)) room)
   round_trip w r h = (
     r.answered ∙ ap tell is,
-    r.left ∙ ap (λ (t : Taken). fillIn t room) is ∙ ap (λ (k : ℕ). take k' rows ++ drop k room) (length-take-le k' rows a.1),
+    r.left ∙ ap (λ (t : Taken). fill_in t room) is ∙ ap (λ (k : ℕ). take k' rows ++ drop k room) (length-take-le k' rows a.1),
   )
     where
       s : List ℕ

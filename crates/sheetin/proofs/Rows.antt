@@ -24,9 +24,9 @@ there-also : (v : ℕ) (x : Found (List ℕ)) → there (also v x) ≡ there x
 there-also v none = refl
 there-also v (found vs u) = refl
 
-there-no_more : (x : Found Unit) → there (no_more x) ≡ x
-there-no_more none = refl
-there-no_more (found tt u) = refl
+there_no_more : (x : Found Unit) → there (no_more x) ≡ x
+there_no_more none = refl
+there_no_more (found tt u) = refl
 
 -- the numbers so far are there, and `left` more are asked
 pub record Numerals (s : List ℕ) (at left : ℕ) : Type 0 where
@@ -63,7 +63,7 @@ module _ (s u : List ℕ) (at : ℕ) (e : u ≡ drop at s) {g : Got} (t : Gets u
 pub numerals_end : (s u : List ℕ) (at left : ℕ) → u ≡ drop at s → Numerals s at left → left ≡ 0
     → there (next_numerals columns s) ≡ line_end u
 numerals_end s u at left e r z =
-    sym r.rest ∙ ap (λ (k : ℕ). there (next_numerals k (drop at s))) z ∙ there-no_more (line_end (drop at s)) ∙ ap line_end (sym e)
+    sym r.rest ∙ ap (λ (k : ℕ). there (next_numerals k (drop at s))) z ∙ there_no_more (line_end (drop at s)) ∙ ap line_end (sym e)
 
 -- a record by its first field
 module _ (r : ℕ) {s : List ℕ} {g : Got} (t : Gets s (numeral s) g) where

@@ -17,7 +17,7 @@ use Rattle.digits.specs.Decimal.{size_of, decimal}
 use Rattle.digits.proofs.Figures.{decimal-length, decimal-few}
 use Rattle.sheetout.specs.Pieces.{header_text, number_text, record_text, row_text}
 use Rattle.sheet.specs.Text.{row_name, column_names, names, row_fields, row_records, follows, line_ends, sheet_text}
-use Rattle.sheet.specs.Text.{record_text as fieldsText}
+use Rattle.sheet.specs.Text.{record_text as fields_text}
 use Rattle.sheet.proofs.Names.{table, names-joined}
 use Rattle.sheet.proofs.Spelled.{Small, row_small, Given}
 use Rattle.report.proofs.Lines.{row-length, flat_map_none, next_row}
@@ -129,25 +129,25 @@ unfolding flat_map
 fields_are [] = refl
 fields_are (x ∷ xs) = ap (λ (l : List ℕ). number_text x ++ l) (fields_are xs)
 
-row_is : (rows : List ℕ) (r : ℕ) → fieldsText (row_fields rows r) ≡ row_text rows r
-unfolding record_text fieldsText
+row_is : (rows : List ℕ) (r : ℕ) → fields_text (row_fields rows r) ≡ row_text rows r
+unfolding record_text fields_text
 row_is rows r = ap (λ (l : List ℕ). decimal r ++ (l ++ line_ends)) (fields_are (numbers_of rows r))
 
-rows_are : (rows which : List ℕ) → flat_map fieldsText (row_records rows which) ≡ flat_map (row_text rows) which
+rows_are : (rows which : List ℕ) → flat_map fields_text (row_records rows which) ≡ flat_map (row_text rows) which
 unfolding flat_map
 rows_are rows [] = refl
 rows_are rows (r ∷ which) =
-    ap (λ (l : List ℕ). l ++ flat_map fieldsText (row_records rows which)) (row_is rows r)
+    ap (λ (l : List ℕ). l ++ flat_map fields_text (row_records rows which)) (row_is rows r)
     ∙ ap (λ (l : List ℕ). row_text rows r ++ l) (rows_are rows which)
 
-header_is : fieldsText names ≡ header_text
-unfolding fieldsText header_text
+header_is : fields_text names ≡ header_text
+unfolding fields_text header_text
 header_is = sym (append_assoc row_name (flat_map follows column_names) line_ends)
 
 text-is : (rows : List ℕ) (count : ℕ) → sheet_text rows count ≡ header_text ++ flat_map (row_text rows) (first (count + 1))
 unfolding sheet_text flat_map
 text-is rows count =
-    ap (λ (l : List ℕ). l ++ flat_map fieldsText (row_records rows (first (count + 1)))) header_is
+    ap (λ (l : List ℕ). l ++ flat_map fields_text (row_records rows (first (count + 1)))) header_is
     ∙ ap (λ (l : List ℕ). header_text ++ l) (rows_are rows (first (count + 1)))
 
 pub text-length : (rows : List ℕ) (count : ℕ)

@@ -14,7 +14,7 @@ use Rattle.tables.proofs.Fours.{Laid, of_pair, by_two, pair_laid}
 
 pub moved_none : (t rows : List ℕ) → Moved 0 t rows t rows
 moved_none t rows =
-    record { on_span_sum = λ s h. absurd (omega arith); ion_span_sum = λ s h. absurd (omega arith); others = λ i h. refl; gone = λ i h. absurd (omega arith); rest = λ i h. refl }
+    record { on_span_is = λ s h. absurd (omega arith); ion_span_is = λ s h. absurd (omega arith); others = λ i h. refl; gone = λ i h. absurd (omega arith); rest = λ i h. refl }
 
 module _ (i m : ℕ) (t₀ rows₀ t rows : List ℕ) (lt : i < m) (room : 2 * m ≤ length t) (long : columns * m ≤ length rows) (h : Moved i t₀ rows₀ t rows) where
   -- the row's cycles are put out, and then its instructions
@@ -33,21 +33,21 @@ module _ (i m : ℕ) (t₀ rows₀ t rows : List ℕ) (lt : i < m) (room : 2 * m
   pub moved_more : Moved (i + 1) t₀ rows₀ (paired t (2 * i) no_pair) both
   moved_more =
       record {
-        on_span_sum = λ s l. moved s l (dec_lt s i);
-        ion_span_sum = λ s l. imoved s l (dec_lt s i);
+        on_span_is = λ s l. moved s l (dec_lt s i);
+        ion_span_is = λ s l. imoved s l (dec_lt s i);
         others = λ j k. kept j (k i (omega arith)).0 (k i (omega arith)).1 ∙ h.others j (λ s l. k s (omega arith));
         gone = λ j l. cleared j l (dec_lt j (2 * i));
         rest = λ j l. stored.off j (λ x y. omega arith) ∙ h.rest j (omega arith);
       }
     where
       moved : (s : ℕ) → s < i + 1 → Dec (s < i) → get_or both (slot s Column.on_span) 0 ≡ get_or t₀ (2 * s) 0
-      moved s l (yes d) = kept (slot s Column.on_span) (λ e. omega arith) (λ e. omega arith) ∙ h.on_span_sum s d
+      moved s l (yes d) = kept (slot s Column.on_span) (λ e. omega arith) (λ e. omega arith) ∙ h.on_span_is s d
       moved s l (no d) =
           let e : s ≡ i = omega arith in
           rw e (get_or-set_other first (slot i Column.ion_span) (slot i Column.on_span) (get_or t (2 * i + 1) 0) 0 (λ e. omega arith) ∙ get_or-set_same rows (slot i Column.on_span) (get_or t (2 * i) 0) 0 (omega arith) ∙ h.rest (2 * i) (omega arith))
 
       imoved : (s : ℕ) → s < i + 1 → Dec (s < i) → get_or both (slot s Column.ion_span) 0 ≡ get_or t₀ (2 * s + 1) 0
-      imoved s l (yes d) = kept (slot s Column.ion_span) (λ e. omega arith) (λ e. omega arith) ∙ h.ion_span_sum s d
+      imoved s l (yes d) = kept (slot s Column.ion_span) (λ e. omega arith) (λ e. omega arith) ∙ h.ion_span_is s d
       imoved s l (no d) =
           let e : s ≡ i = omega arith in
           rw e (get_or-set_same first (slot i Column.ion_span) (get_or t (2 * i + 1) 0) 0 (simp length-set (omega arith)) ∙ h.rest (2 * i + 1) (omega arith))

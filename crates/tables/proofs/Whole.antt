@@ -160,8 +160,8 @@ module _ {y : Family} {s : List ℕ} {D M : ℕ} {scratch rows : List ℕ} {coun
             go (no q) (no p) =
                 moved.others (slot k j) (λ x y. (λ e. q (slot_apart k x j Column.on_span e).1, λ e. p (slot_apart k x j Column.ion_span e).1))
                 ∙ root.cells y tables s D M (lent scratch rows) a.t a.is count a.count_is how tabled before took c rows₂ u.rows_same left.0 rows₃ counts k j h q p
-            go (yes e) p = rw e (moved.on_span_sum k (omega arith) ∙ table (2 * k) (omega arith) ∙ number-cycles (2 * (count + 1)) (chain_of 0 0 b) worth k (omega arith))
-            go (no q) (yes e) = rw e (moved.ion_span_sum k (omega arith) ∙ table (2 * k + 1) (omega arith) ∙ number-instructions (2 * (count + 1)) (chain_of 0 0 b) worth k (omega arith))
+            go (yes e) p = rw e (moved.on_span_is k (omega arith) ∙ table (2 * k) (omega arith) ∙ number-cycles (2 * (count + 1)) (chain_of 0 0 b) worth k (omega arith))
+            go (no q) (yes e) = rw e (moved.ion_span_is k (omega arith) ∙ table (2 * k + 1) (omega arith) ∙ number-instructions (2 * (count + 1)) (chain_of 0 0 b) worth k (omega arith))
 
         rest : (i : ℕ) → columns * (count + 1) ≤ i → get_or rows₄ i 0 ≡ get_or rows i 0
         rest i h = go (dec_lt i (length rows))

@@ -21,8 +21,8 @@ pub record Admitted (y : Family) (s : List ℕ) (D M : ℕ) (scratch rows : List
 
 -- the first m rows of t were moved to columns 5 and 7
 pub record Moved (m : ℕ) (t rows t' rows' : List ℕ) : Type 0 where
-  pub on_span_sum : (s : ℕ) → s < m → get_or rows' (slot s Column.on_span) 0 ≡ get_or t (2 * s) 0
-  pub ion_span_sum : (s : ℕ) → s < m → get_or rows' (slot s Column.ion_span) 0 ≡ get_or t (2 * s + 1) 0
+  pub on_span_is : (s : ℕ) → s < m → get_or rows' (slot s Column.on_span) 0 ≡ get_or t (2 * s) 0
+  pub ion_span_is : (s : ℕ) → s < m → get_or rows' (slot s Column.ion_span) 0 ≡ get_or t (2 * s + 1) 0
   pub others : (i : ℕ) → ((s : ℕ) → s < m → (i ≡ slot s Column.on_span → ⊥) × (i ≡ slot s Column.ion_span → ⊥)) → get_or rows' i 0 ≡ get_or rows i 0
   pub gone : (i : ℕ) → i < 2 * m → get_or t' i 0 ≡ 0
   pub rest : (i : ℕ) → 2 * m ≤ i → get_or t' i 0 ≡ get_or t i 0

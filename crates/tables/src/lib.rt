@@ -174,7 +174,7 @@ fn take_row(t: &mut [u64], b: usize, e: usize, g: usize, from: usize)
 fn take_rows(t: &mut [u64], b: usize, e: usize, g: usize, from: usize, stop: usize)
     requires apart { Apart stop b e g t.old }
     requires sums_fit { SumsFit stop b t.old }
-    requires from_value { (from % 2 ≡ 0) × (stop % 2 ≡ 0) }
+    requires both_even { (from % 2 ≡ 0) × (stop % 2 ≡ 0) }
     ensures { Taken b e g stop from stop t.old t.new }
 {
     let mut i = from;
@@ -629,9 +629,9 @@ fn finish_call(
 ) -> Reach
     requires { OfARow (λ row. ItemAsks Finishes (by_asking []) trace.now 2 row deep f.around t.old rows.old
         (w + 1) w) }
-    ensures of_each_row { OfEachRow (λ row. ItemLeaves Finishes (by_asking []) trace.now row f.around
+    ensures item_leaves { OfEachRow (λ row. ItemLeaves Finishes (by_asking []) trace.now row f.around
         t.old rows.old (w + 1) w result.around t.new rows.new) }
-    ensures of_each_row_2 { OfEachRow (λ row. ItemReaches (by_asking []) trace.now row f t.old (w + 1) w
+    ensures item_reaches { OfEachRow (λ row. ItemReaches (by_asking []) trace.now row f t.old (w + 1) w
         result) }
 {
     let around = f.around;
@@ -674,9 +674,9 @@ fn finish_async(
 ) -> Reach
     requires { OfARow (λ row. ItemAsks Finishes (by_asking []) trace.now 0x12 row deep f.around t.old rows.old
         (w + 1) w) }
-    ensures of_each_row { OfEachRow (λ row. ItemLeaves Finishes (by_asking []) trace.now row f.around
+    ensures item_leaves { OfEachRow (λ row. ItemLeaves Finishes (by_asking []) trace.now row f.around
         t.old rows.old (w + 1) w result.around t.new rows.new) }
-    ensures of_each_row_2 { OfEachRow (λ row. ItemReaches (by_asking []) trace.now row f t.old (w + 1) w
+    ensures item_reaches { OfEachRow (λ row. ItemReaches (by_asking []) trace.now row f t.old (w + 1) w
         result) }
 {
     let around = f.around;

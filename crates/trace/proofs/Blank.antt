@@ -141,14 +141,14 @@ module _ (h : Body → ℕ) (same : (b : Body) → h (blank_body b) ≡ h b) whe
   row-blank zero b = same b
   row-blank (suc s) b = made-blank (suc s) b
 
-  outer_row-blank : (s : ℕ) (b : Body) → outer_row h s (blank_body b) ≡ outer_row h s b
-  outer_row-blank zero b = same b
-  outer_row-blank (suc s) b = outer_blank (suc s) b
+  outer_row_blank : (s : ℕ) (b : Body) → outer_row h s (blank_body b) ≡ outer_row h s b
+  outer_row_blank zero b = same b
+  outer_row_blank (suc s) b = outer_blank (suc s) b
 
 cell-blank : (b : Body) (s : ℕ) (k : Column) → cell (blank_body b) s k ≡ cell b s k
 cell-blank b s Column.calls = row-blank (λ g. 1) (λ g. refl) s b
-cell-blank b s Column.work = outer_row-blank work_of work-blank s b
-cell-blank b s Column.span = outer_row-blank span_of span-blank s b
+cell-blank b s Column.work = outer_row_blank work_of work-blank s b
+cell-blank b s Column.span = outer_row_blank span_of span-blank s b
 cell-blank b s Column.local = row-blank local_of (direct-blank leaf_cycles cycles-leaf) s b
 cell-blank b s Column.on_span = ap (on_row its_cycles s) (chain-blank b)
 cell-blank b s Column.ilocal = row-blank ilocal_of (direct-blank leaf_instructions instructions-leaf) s b

@@ -9,7 +9,7 @@ use Rattle.digits.proofs.Laws.{small-length, form_again}
 use Rattle.line.specs.declared.Family.{Family}
 use Rattle.line.specs.declared.Read.{Read}
 use Rattle.line.specs.Read.{width}
-use Rattle.line.proofs.Small.{read_at-small-of}
+use Rattle.line.proofs.Small.{read_at_small_of}
 use Rattle.trace.specs.declared.Answer.{Answer}
 use Rattle.trace.specs.Refusals.{line_count, checks, Verdict, refused, scan, reads_from_of, reads_of, verdict_of}
 use Rattle.trace.specs.Promise.{Engine, Lent, enough, PromiseOf}
@@ -18,7 +18,7 @@ use Rattle.trace.proofs.Outcome.{promise_unique_of}
 
 reads-from-small : (g : Family) (s : List ℕ) (n count : ℕ) → reads_from_of g (small_form s) n count ≡ reads_from_of g s n count
 reads-from-small g s n zero = refl
-reads-from-small g s n (suc count) = ap₂ (λ (r : Read) (l : List Read). r ∷ l) (read_at-small-of g s n) (reads-from-small g s (suc n) count)
+reads-from-small g s n (suc count) = ap₂ (λ (r : Read) (l : List Read). r ∷ l) (read_at_small_of g s n) (reads-from-small g s (suc n) count)
 
 module _ (g : Family) (s : List ℕ) where
   count_small : line_count (small_form s) ≡ line_count s

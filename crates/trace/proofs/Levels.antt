@@ -67,14 +67,14 @@ Beside (Finish ∷ t) (suc i) (suc j) = Beside t i j
 -- ── what both say of an item's first line ──
 
 module _ (hit : Type 0) (over : Bool) (out : List Frame → ℕ → Type 0) where
-  climb-note : (x : Note) (k : ℕ) (t : List Frame) (i : ℕ) → Climb hit over out k (note_line x ∷ t) (suc i) ≡ Climb hit over out k t i
-  climb-note (site s p) k t i = refl
-  climb-note (carry v) k t i = refl
+  Climb-note : (x : Note) (k : ℕ) (t : List Frame) (i : ℕ) → Climb hit over out k (note_line x ∷ t) (suc i) ≡ Climb hit over out k t i
+  Climb-note (site s p) k t i = refl
+  Climb-note (carry v) k t i = refl
 
-  climb-leaf : (l : Leaf) (k : ℕ) (t : List Frame) (i : ℕ) → Climb hit over out (suc k) (line_of l ∷ t) (suc i) ≡ Climb hit over out (suc k) t i
-  climb-leaf (spend v) k t i = refl
-  climb-leaf sync k t i = refl
-  climb-leaf (note x) k t i = climb-note x (suc k) t i
+  Climb-leaf : (l : Leaf) (k : ℕ) (t : List Frame) (i : ℕ) → Climb hit over out (suc k) (line_of l ∷ t) (suc i) ≡ Climb hit over out (suc k) t i
+  Climb-leaf (spend v) k t i = refl
+  Climb-leaf sync k t i = refl
+  Climb-leaf (note x) k t i = Climb-note x (suc k) t i
 
   Climb-opening : (w : Way) (s k : ℕ) (t : List Frame) (i : ℕ) → Climb hit over out k (opening w s ∷ t) (suc i) ≡ Climb hit over out (suc k) t i
   Climb-opening call s k t i = refl
@@ -84,10 +84,10 @@ module _ (hit : Type 0) (over : Bool) (out : List Frame → ℕ → Type 0) wher
   Climb-opening finish s k t i = refl
 
 -- directly in the invocation, where syncs may be passed
-climb-own : (hit : Type 0) (out : List Frame → ℕ → Type 0) (l : Leaf) (t : List Frame) (i : ℕ) → Climb hit true out zero (line_of l ∷ t) (suc i) ≡ Climb hit true out zero t i
-climb-own hit out (spend v) t i = refl
-climb-own hit out sync t i = refl
-climb-own hit out (note x) t i = climb-note hit true out x zero t i
+Climb-own : (hit : Type 0) (out : List Frame → ℕ → Type 0) (l : Leaf) (t : List Frame) (i : ℕ) → Climb hit true out zero (line_of l ∷ t) (suc i) ≡ Climb hit true out zero t i
+Climb-own hit out (spend v) t i = refl
+Climb-own hit out sync t i = refl
+Climb-own hit out (note x) t i = Climb-note hit true out x zero t i
 
 pub beside_leaf : (l : Leaf) (t : List Frame) (i j : ℕ) → Beside (line_of l ∷ t) (suc i) (suc j) ≡ Beside t i j
 beside_leaf (spend v) t i j = refl
@@ -149,7 +149,7 @@ module _ (hit : Type 0) (over : Bool) (out : List Frame → ℕ → Type 0) wher
   -- a climb past a whole body comes one level down
   pub skip : (b : Body) (k : ℕ) (u : List Frame) (i : ℕ) → Climb hit over out (suc k) (lines_of b ++ u) (size b + i) ≡ Climb hit over out k u i
   skip done k u i = rw (one-add i)
-  skip (leaf l r) k u i = rw (suc-add (size r) i) (climb-leaf hit over out l k (lines_of r ++ u) (size r + i) ∙ skip r k u i)
+  skip (leaf l r) k u i = rw (suc-add (size r) i) (Climb-leaf hit over out l k (lines_of r ++ u) (size r + i) ∙ skip r k u i)
   skip (child w s g r) k u i =
       rw (suc-add (size g + size r) i, append_assoc (lines_of g) (lines_of r) u, add_assoc (size g) (size r) i)
       (Climb-opening hit over out w s (suc k) (lines_of g ++ (lines_of r ++ u)) (size g + (size r + i)) ∙ skip g (suc k) (lines_of r ++ u) (size r + i) ∙ skip r k u i)
@@ -171,7 +171,7 @@ module _ (hit : Type 0) (over : Bool) (out : List Frame → ℕ → Type 0) wher
   arrive done k u zero h = refl
   arrive done k u (suc i) h = absurd (omega arith)
   arrive (leaf l r) k u zero h = refl
-  arrive (leaf l r) k u (suc i) h = climb-leaf hit over out l k (lines_of r ++ u) i ∙ arrive r k u i (omega arith)
+  arrive (leaf l r) k u (suc i) h = Climb-leaf hit over out l k (lines_of r ++ u) i ∙ arrive r k u i (omega arith)
   arrive (child w s g r) k u zero h = refl
   arrive (child w s g r) k u (suc i) h = level w s g r (suc k) u (size r) i hit (omega arith) (arrive g (suc k) (lines_of r ++ u) i) (arrive r k u)
 
@@ -182,7 +182,7 @@ module _ (hit : Type 0) (over : Bool) (out : List Frame → ℕ → Type 0) wher
   near (leaf l r) u zero h = refl
   near (leaf (spend v) r) u (suc i) h = near r u i (omega arith)
   near (leaf sync r) u (suc i) h = absurd (omega arith)
-  near (leaf (note x) r) u (suc i) h = climb-note hit over out x zero (lines_of r ++ u) i ∙ near r u i (omega arith)
+  near (leaf (note x) r) u (suc i) h = Climb-note hit over out x zero (lines_of r ++ u) i ∙ near r u i (omega arith)
   near (child w s g r) u zero h = refl
   near (child w s g r) u (suc i) h = level w s g r zero u (bsize r) i hit (omega arith) (arrive g zero (lines_of r ++ u) i) (near r u)
 
@@ -192,13 +192,13 @@ module _ (hit : Type 0) (out : List Frame → ℕ → Type 0) where
   reach done u zero h = refl
   reach done u (suc i) h = absurd (omega arith)
   reach (leaf l r) u zero h = refl
-  reach (leaf l r) u (suc i) h = climb-own hit out l (lines_of r ++ u) i ∙ reach r u i (omega arith)
+  reach (leaf l r) u (suc i) h = Climb-own hit out l (lines_of r ++ u) i ∙ reach r u i (omega arith)
   reach (child w s g r) u zero h = refl
   reach (child w s g r) u (suc i) h = level hit true out w s g r zero u (size r) i hit (omega arith) (arrive hit true out g zero (lines_of r ++ u) i) (reach r u)
 
   pub leave : (b : Body) (u : List Frame) (i : ℕ) → Climb hit true out zero (lines_of b ++ u) (size b + i) ≡ out u i
   leave done u i = rw (one-add i)
-  leave (leaf l r) u i = rw (suc-add (size r) i) (climb-own hit out l (lines_of r ++ u) (size r + i) ∙ leave r u i)
+  leave (leaf l r) u i = rw (suc-add (size r) i) (Climb-own hit out l (lines_of r ++ u) (size r + i) ∙ leave r u i)
   leave (child w s g r) u i =
       rw (suc-add (size g + size r) i, append_assoc (lines_of g) (lines_of r) u, add_assoc (size g) (size r) i)
       (Climb-opening hit true out w s zero (lines_of g ++ (lines_of r ++ u)) (size g + (size r + i)) ∙ skip hit true out g zero (lines_of r ++ u) (size r + i) ∙ leave r u i)
@@ -257,7 +257,7 @@ near_lt (leaf (spend v) r) u (suc i) h = omega (arith, near_lt r u i h)
 near_lt (leaf sync r) u zero h = omega arith
 near_lt (leaf sync r) u (suc i) h = absurd h
 near_lt (leaf (note x) r) u zero h = omega arith
-near_lt (leaf (note x) r) u (suc i) h = omega (arith, near_lt r u i (rw (climb-note (Unit {0}) false Never x zero (lines_of r ++ u) i) at h))
+near_lt (leaf (note x) r) u (suc i) h = omega (arith, near_lt r u i (rw (Climb-note (Unit {0}) false Never x zero (lines_of r ++ u) i) at h))
 near_lt (child w s g r) u zero h = omega arith
 near_lt (child w s g r) u (suc i) h = near_level w s g r u i (near_lt r u) h
 

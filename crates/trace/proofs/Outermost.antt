@@ -90,10 +90,10 @@ module _ (f : Family) (t : List Frame) (s : ℕ) (p : ℕ → ℕ → Type 0) (h
       (is (suc n) g (inner t n (c ∷ o) g (lines_of r ++ u) i f'.1 y pd.0)) d))
 
 -- LAW: what is said of each invocation by its body adds up over the outermost of a row as it does over those of the tree
-pub outer_sum_lem : {f : Family} (D : ℕ) (t : List Frame) (x : PartsOf f D t) (p : ℕ → ℕ → Type 0) (h : Body → ℕ)
+pub outer_sum_is : {f : Family} (D : ℕ) (t : List Frame) (x : PartsOf f D t) (p : ℕ → ℕ → Type 0) (h : Body → ℕ)
     → ((F : ℕ) (g : Body) → Inv f t F g → p F (h g)) → (s : ℕ) → Sum p (outermost t s) (outer_row h s x.body)
-outer_sum_lem D t x p h is zero = (h x.body, 0, is root x.body (root_inv D t x), refl, omega arith)
-outer_sum_lem {f = y} D t x p h is (suc s) =
+outer_sum_is D t x p h is zero = (h x.body, 0, is root x.body (root_inv D t x), refl, omega arith)
+outer_sum_is {f = y} D t x p h is (suc s) =
     let f : outer_sum h (suc s) x.body + 0 ≡ outer_sum h (suc s) x.body = omega arith in
     let k : has_of t (suc s) (root ∷ []) ≡ false = ap (λ (b : Bool). b || false) (not_made 0 t (suc s) root (omega arith)) in
     subst (λ (z : List Frame). Sum p (unenclosed t (suc s) (made 0 z (suc s))) (outer_sum h (suc s) x.body)) (sym (whole D t x))
@@ -121,11 +121,11 @@ module _ {f : Family} (D : ℕ) (t : List Frame) (p : PartsOf f D t) (s : ℕ) w
   pub work-tree : work t s ≡ work_in s p.body
   work-tree =
       sum-from (inside t) (outermost t s) (work_in s p.body)
-      (outer_sum_lem D t p (λ F a. inside t F ≡ a) work_of (λ F g i. inside_is t F g i) s)
+      (outer_sum_is D t p (λ F a. inside t F ≡ a) work_of (λ F g i. inside_is t F g i) s)
 
   -- LAW
   pub spans_tree : SpansOf f t s (spans_in s p.body)
-  spans_tree = outer_sum_lem D t p (SpanOf f t) span_of (λ F g i. span_is t F g i) s
+  spans_tree = outer_sum_is D t p (SpanOf f t) span_of (λ F g i. span_is t F g i) s
 
   -- LAW: no row's work exceeds the total work
   pub work_le : work t s ≤ total t

@@ -129,12 +129,12 @@ opening-owned c async s = refl
 opening-owned c pass s = refl
 opening-owned c finish s = refl
 
-opening-no_cost : (w : Way) (s : ℕ) → is_cost (opening w s) ≡ false
-opening-no_cost call s = refl
-opening-no_cost spawn s = refl
-opening-no_cost async s = refl
-opening-no_cost pass s = refl
-opening-no_cost finish s = refl
+opening_no_cost : (w : Way) (s : ℕ) → is_cost (opening w s) ≡ false
+opening_no_cost call s = refl
+opening_no_cost spawn s = refl
+opening_no_cost async s = refl
+opening_no_cost pass s = refl
+opening_no_cost finish s = refl
 
 -- LAW: the lines of a body that is so are such lines, where those behind them are
 pub owned-lines : (b : Body) (c : Bool) (u : List Frame) → OwnedBody c b → Owned false u → Owned c (lines_of b ++ u)
@@ -142,7 +142,7 @@ owned-lines done c u h k = (refl, k)
 owned-lines (leaf l r) c u h k = (h.0, owned-lines r (is_cost (line_of l)) u h.1 k)
 owned-lines (child w s g r) c u h k = (
   opening-owned c w s,
-  subst (λ (x : Bool). Owned x ((lines_of g ++ lines_of r) ++ u)) (sym (opening-no_cost w s))
+  subst (λ (x : Bool). Owned x ((lines_of g ++ lines_of r) ++ u)) (sym (opening_no_cost w s))
       (subst (Owned false) (sym (append_assoc (lines_of g) (lines_of r) u)) (owned-lines g false (lines_of r ++ u) h.0 (owned-lines r false u h.1 k))),
 )
 
@@ -151,7 +151,7 @@ pub owned-body : (b : Body) (c : Bool) (u : List Frame) → Owned c (lines_of b 
 owned-body done c u h = (tt, h.1)
 owned-body (leaf l r) c u h = let k = owned-body r (is_cost (line_of l)) u h.1 in ((h.0, k.0), k.1)
 owned-body (child w s g r) c u h =
-    let x = subst (Owned false) (append_assoc (lines_of g) (lines_of r) u) (subst (λ (y : Bool). Owned y ((lines_of g ++ lines_of r) ++ u)) (opening-no_cost w s) h.1) in
+    let x = subst (Owned false) (append_assoc (lines_of g) (lines_of r) u) (subst (λ (y : Bool). Owned y ((lines_of g ++ lines_of r) ++ u)) (opening_no_cost w s) h.1) in
     let a = owned-body g false (lines_of r ++ u) x in
     let b = owned-body r false u a.1 in
     ((a.0, b.0), b.1)

@@ -13,7 +13,7 @@ use Rattle.trace.proofs.Basics.{below}
 use Rattle.weigh.specs.Weighed.{Tabled}
 use Rattle.forecast.specs.declared.Entry.{Entry}
 use Rattle.forecast.specs.Rewritten.{divided}
-use Rattle.forecast.specs.Asked.{asked as mayAsk}
+use Rattle.forecast.specs.Asked.{asked as may_ask}
 use Rattle.forecast.specs.Listed.{factor_table}
 use Rattle.forecast.specs.ByRow.{row_factor, by_entries}
 use Rattle.forecast.proofs.Asked.{factor_range, asked_good}
@@ -80,7 +80,7 @@ weight-plain n s v = unasked [] n s v (omega arith)
 
 -- ── the factors of the rows of a trace with m sites, by entries that may be asked ──
 
-module _ (m : ℕ) (few : m ≤ 255) (es : List Entry) (may : mayAsk m es ≡ 0) where
+module _ (m : ℕ) (few : m ≤ 255) (es : List Entry) (may : may_ask m es ≡ 0) where
   factor_at_lem : (s : ℕ) → get_or (factor_table es) s 1 ≡ row_factor es s
   factor_at_lem s = elim (below 256 s) [
     | inl h ↦ table_at es s 1 h

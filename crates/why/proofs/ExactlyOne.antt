@@ -49,10 +49,10 @@ cost-there [] q h = no_way h
 cost-there (e ∷ t) zero h = cost-frame e h
 cost-there (e ∷ t) (suc q) h = cost-there t q h
 
-no_cost-there : (t : List Frame) (q : ℕ) → cost_at t q ≡ false → IsNoCost t q
-no_cost-there [] q h v i = i
-no_cost-there (e ∷ t) zero h v i = no_way (sym h ∙ ap is_cost i)
-no_cost-there (e ∷ t) (suc q) h v i = no_cost-there t q h v i
+no_cost_there : (t : List Frame) (q : ℕ) → cost_at t q ≡ false → IsNoCost t q
+no_cost_there [] q h v i = i
+no_cost_there (e ∷ t) zero h v i = no_way (sym h ∙ ap is_cost i)
+no_cost_there (e ∷ t) (suc q) h v i = no_cost_there t q h v i
 
 -- ── the answer by the tree, with the line raised by one more than the whole work ──
 
@@ -90,7 +90,7 @@ module _ (D : ℕ) (t : List Frame) (p : Parts D t) (fits : length t ≤ most_li
       is = ap (λ (u : List Frame). cost_at u q) (sym p.lines)
 
       go : (b : Bool) → cost_at (lines_of p.body) q ≡ b → Good b
-      go false e = (no_cost-there t q (sym is ∙ e), refl)
+      go false e = (no_cost_there t q (sym is ∙ e), refl)
       go true e =
           let i = cost-there t q (sym is ∙ e) in
           let d = raise p.body in

@@ -12,13 +12,13 @@ use Rattle.marks.proofs.add_marked.Goals as goal
 pub add-requires : goal.add-requires
 add-requires c =
     let x = c.args in
-    (c.requires.column_fits.0, omega (arith, c.requires.column_fits.1, marked-on (get_or x.marks.now x.at 0) (weight_at x.asking.now x.trace.now x.at x.row) c.if-marks-at-eq1.true, c.weight_at.ensures))
+    (c.requires.cycles_fit.0, omega (arith, c.requires.cycles_fit.1, marked-on (get_or x.marks.now x.at 0) (weight_at x.asking.now x.trace.now x.at x.row) c.if-marks-at-eq1.true, c.weight_at.ensures))
 
 pub add_instructions-requires : goal.add_instructions-requires
 add_instructions-requires c =
     let cycles-are : (let x = c.args in let j = slot x.row Column.on_span in c.add.new.a ≡ set x.rows.now j (get_or x.rows.now j 0 + weight_at x.asking.now x.trace.now x.at x.row)) = let x = c.args in let j = slot x.row Column.on_span in c.add.ensures ∙ ap (λ (y : ℕ). set x.rows.now j (get_or x.rows.now j 0 + y)) c.weight_at.ensures in
     let x = c.args in
-    let h = fits-then x.rows.now c.add.new.a x.row (get_or x.marks.now x.at 0) _ (instructions_at x.trace.now x.at) c.if-marks-at-eq1.true (cycles-are) c.requires.column_fits_2 in
+    let h = fits-then x.rows.now c.add.new.a x.row (get_or x.marks.now x.at 0) _ (instructions_at x.trace.now x.at) c.if-marks-at-eq1.true (cycles-are) c.requires.instructions_fit in
     (h.0, omega (arith, h.1, c.instructions_at.ensures))
 
 pub returns-then-marks-at-eq1 : goal.returns-then-marks-at-eq1

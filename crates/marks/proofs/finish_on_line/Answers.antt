@@ -6,7 +6,7 @@ use Rattle.marks.proofs.finish_on_line.Goals as goal
 pub add_marked-requires : goal.add_marked-requires
 add_marked-requires c =
     let a = add-asks c.requires c.finish_kind_at-kind.result c.finish_kind_at-kind.ensures c.if-kind-eq6.true in
-    record { at_in_bounds = a.0; column_fits = a.1; column_fits_2 = a.2 }
+    record { at_in_bounds = a.0; cycles_fit = a.1; instructions_fit = a.2 }
 
 pub returns-then-kind-eq6 : goal.returns-then-kind-eq6
 returns-then-kind-eq6 c =

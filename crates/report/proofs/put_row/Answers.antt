@@ -22,13 +22,13 @@ pub slice_bounds-put_line-end : goal.slice_bounds-put_line-end
 slice_bounds-put_line-end c =
     let a = c.args in
     let e = line-counted a.idle a.rows.now a.row c.requires.row_bound.1 (sym (not-false _ c.if-not-is_printed.false-raw) ∙ c.is_printed.ensures) in
-    omega (arith, c.requires.row_in_bounds, e)
+    omega (arith, c.requires.room, e)
 
 pub put_line-requires : goal.put_line-requires
 put_line-requires c =
     let a = c.args in
     let e = line-counted a.idle a.rows.now a.row c.requires.row_bound.1 (sym (not-false _ c.if-not-is_printed.false-raw) ∙ c.is_printed.ensures) in (
-      mid_len a.at (a.at + width) a.out.now (omega (arith, c.requires.row_in_bounds, e)) ∙ add-sub_cancel_left a.at width,
+      mid_len a.at (a.at + width) a.out.now (omega (arith, c.requires.room, e)) ∙ add-sub_cancel_left a.at width,
       ap length c.report_line-line.ensures.1 ∙ line-length _ _ (simp (length-take, length-drop) (omega (arith, c.requires.row_bound))),
     )
 
@@ -36,6 +36,6 @@ pub returns : goal.returns
 returns c =
     let a = c.args in
     let rows = a.rows.now in
-    lays_line a.idle rows a.row a.at a.out.now c.put_line.new.part c.requires.row_bound.1 c.requires.row_in_bounds
+    lays_line a.idle rows a.row a.at a.out.now c.put_line.new.part c.requires.row_bound.1 c.requires.room
     (sym (not-false _ c.if-not-is_printed.false-raw) ∙ c.is_printed.ensures)
     (c.put_line.ensures ∙ c.report_line-line.ensures.1 ∙ ap (λ (k : ℕ). line_of a.row (mid_of (columns * a.row) k rows)) (add-sub_cancel_left (columns * a.row) columns))

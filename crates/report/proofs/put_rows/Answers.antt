@@ -14,14 +14,14 @@ pub put_row-end-requires : goal.put_row-end-requires
 put_row-end-requires c =
     let a = c.args in
     let fits = fits-row (piece a.idle a.rows.now) c.loop-row.row a.n c.loop-row-test.true in
-    record { row_bound = (omega (arith, c.requires.n_bound), omega (arith, c.requires.n_bound)); row_in_bounds = omega (arith, c.loop-row.invariant.2.ends, c.requires.n_in_bounds, c.loop-row.invariant.1, fits) }
+    record { row_bound = (omega (arith, c.requires.n_bound), omega (arith, c.requires.n_bound)); room = omega (arith, c.loop-row.invariant.2.ends, c.requires.room, c.loop-row.invariant.1, fits) }
 
 pub loop-row-preserved : goal.loop-row-preserved
 loop-row-preserved c =
     let a = c.args in
     let one = piece a.idle a.rows.now in
     let fits = fits-row one c.loop-row.row a.n c.loop-row-test.true in
-    let next = lays_next 0 (pieces a.idle a.rows.now c.loop-row.row) (one c.loop-row.row) a.out.now (omega (arith, c.requires.n_in_bounds, fits)) c.loop-row.invariant.2 c.put_row-end.ensures in
+    let next = lays_next 0 (pieces a.idle a.rows.now c.loop-row.row) (one c.loop-row.row) a.out.now (omega (arith, c.requires.room, fits)) c.loop-row.invariant.2 c.put_row-end.ensures in
     (omega arith, c.put_row-end.auto.out ∙ c.loop-row.invariant.1, lays_as 0 (sym (next_row one c.loop-row.row)) next)
 
 pub returns : goal.returns

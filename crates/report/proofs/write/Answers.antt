@@ -23,7 +23,7 @@ returns-then-out-rows_size c =
     refused 4 0 a.out.now (report_4_out a.rows.now a.count _ _ (length a.out.now) c.if-count-gt255.false c.if-rows-n.false (omega (arith, size, c.if-out-rows_size.true)))
 
 pub put_rows-requires : goal.put_rows-requires
-put_rows-requires c = record { n_bound = (omega arith, omega arith); n_in_bounds = omega (arith, c.rows_size.ensures, c.if-out-rows_size.false) }
+put_rows-requires c = record { n_bound = (omega arith, omega arith); room = omega (arith, c.rows_size.ensures, c.if-out-rows_size.false) }
 
 pub returns : goal.returns
 returns c =

@@ -91,7 +91,7 @@ finish_async-returns t c =
     let u = at_body in
     let begun = ap (λ (x : Cycles). x.0 + c.finish_body-c.result.prefix.0) c.series-begins.ensures in
     let reached = ap (λ (x : Cycles). x.0) c.plus-reached.ensures ∙ begun in
-    let f = c.args.f in record { of_each_row = async-leaves _ u c.credit_of-credit.ensures c.returned.ensures c.spawned-behind.result c.spawned-behind.new.t c.spawned-behind.ensures; of_each_row_2 = async-reaches _ u f.far (record { around = c.spawned-behind.result; far = c.larger.result }) (c.larger.ensures ∙ ap (λ (x : ℕ). cycles (larger f.far.0 x)) reached) }
+    let f = c.args.f in record { item_leaves = async-leaves _ u c.credit_of-credit.ensures c.returned.ensures c.spawned-behind.result c.spawned-behind.new.t c.spawned-behind.ensures; item_reaches = async-reaches _ u f.far (record { around = c.spawned-behind.result; far = c.larger.result }) (c.larger.ensures ∙ ap (λ (x : ℕ). cycles (larger f.far.0 x)) reached) }
 
 pub finish_body-finish_items-f-requires : goal.finish_body-finish_items-f-requires
 finish_body-finish_items-f-requires t c =
@@ -177,7 +177,7 @@ finish_call-returns t c =
     let span_is : (let r = c.finish_items-r.result in let a = c.args.f.around in c.minus-2.result.0 ≡ larger r.far.0 (r.around.prefix.0 + r.around.since.0) - (a.prefix.0 + a.since.0)) = omega (arith, ap (λ (x : Cycles). x.0) c.minus-2.ensures, most_is, begins-is) in
     let at-site : (let a = c.args in Passes how a.trace.now c.requires.0 a.deep a.f.around a.t.now a.rows.now (a.w + 1) a.w c.site_at-site.result) = record { asks = c.requires.1; site_is = c.site_at-site.ensures } in
     let at-items : (Passed (at-site) (record { around = c.passed.result; far = c.series-begins.result }) c.finish_items-r.result (c.finish_items-r.new.t) (c.finish_items-r.new.rows)) = record { from_is = callee-is (at-site) c.passed.result c.series-begins.result c.passed.ensures c.series-begins.ensures; rows_long = c.finish_items-r.auto.rows; leaves = c.finish_items-r.ensures.items_leave; reaches = c.finish_items-r.ensures.items_reach } in
-    let u = at-items in record { of_each_row = pass_leaves _ u c.credit_of-credit.ensures (work_is) (span_is) c.returned.ensures c.passed-2.result c.passed-2.ensures; of_each_row_2 = pass_reaches _ u c.args.f.far (record { around = c.passed-2.result; far = c.larger.result }) c.larger.ensures }
+    let u = at-items in record { item_leaves = pass_leaves _ u c.credit_of-credit.ensures (work_is) (span_is) c.returned.ensures c.passed-2.result c.passed-2.ensures; item_reaches = pass_reaches _ u c.args.f.far (record { around = c.passed-2.result; far = c.larger.result }) c.larger.ensures }
 
 pub finish_finish-overflow_add-w : goal.finish_finish-overflow_add-w
 finish_finish-overflow_add-w t c = record { fits = omega (arith, c.requires.lent.few) }
@@ -271,7 +271,7 @@ finish_item-finish_call-requires t c =
 pub finish_item-returns-then-next-eq2 : goal.finish_item-returns-then-next-eq2
 finish_item-returns-then-next-eq2 t c =
     let row = c.args.row in
-    record { item_leaves = c.finish_call.ensures.of_each_row row; item_reaches = c.finish_call.ensures.of_each_row_2 row }
+    record { item_leaves = c.finish_call.ensures.item_leaves row; item_reaches = c.finish_call.ensures.item_reaches row }
 
 pub finish_item-finish_async-requires : goal.finish_item-finish_async-requires
 finish_item-finish_async-requires t c =
@@ -280,7 +280,7 @@ finish_item-finish_async-requires t c =
 pub finish_item-returns-then-next-eq18 : goal.finish_item-returns-then-next-eq18
 finish_item-returns-then-next-eq18 t c =
     let row = c.args.row in
-    record { item_leaves = c.finish_async.ensures.of_each_row row; item_reaches = c.finish_async.ensures.of_each_row_2 row }
+    record { item_leaves = c.finish_async.ensures.item_leaves row; item_reaches = c.finish_async.ensures.item_reaches row }
 
 pub finish_item-finish_finish-within-requires : goal.finish_item-finish_finish-within-requires
 finish_item-finish_finish-within-requires t c =

@@ -6,14 +6,14 @@ use Rattle.tables.proofs.take_rows.Goals as goal
 
 pub loop-i-init : goal.loop-i-init
 loop-i-init c =
-    (omega arith, c.requires.from_value.0, refl, taken_none c.requires.apart c.args.from)
+    (omega arith, c.requires.both_even.0, refl, taken_none c.requires.apart c.args.from)
 
 pub take_row-requires : goal.take_row-requires
-take_row-requires c = record { apart = fewer (c.loop-i.i + 2) (omega (arith, c.loop-i-test.true, c.loop-i.invariant.1, c.requires.from_value.1)) (apart_in c.loop-i.t c.loop-i.invariant.2 c.requires.apart); sums_fit = λ k h. sums-fit c.requires.apart c.requires.sums_fit c.args.from c.loop-i.i c.loop-i.t c.loop-i.invariant.3 k (omega (arith, c.loop-i-test.true, c.loop-i.invariant.1, c.requires.from_value.1)) }
+take_row-requires c = record { apart = fewer (c.loop-i.i + 2) (omega (arith, c.loop-i-test.true, c.loop-i.invariant.1, c.requires.both_even.1)) (apart_in c.loop-i.t c.loop-i.invariant.2 c.requires.apart); sums_fit = λ k h. sums-fit c.requires.apart c.requires.sums_fit c.args.from c.loop-i.i c.loop-i.t c.loop-i.invariant.3 k (omega (arith, c.loop-i-test.true, c.loop-i.invariant.1, c.requires.both_even.1)) }
 
 pub loop-i-preserved : goal.loop-i-preserved
 loop-i-preserved c =
-    let in_it : c.loop-i.i + 2 ≤ c.args.stop = omega (arith, c.loop-i-test.true, c.loop-i.invariant.1, c.requires.from_value.1) in (
+    let in_it : c.loop-i.i + 2 ≤ c.args.stop = omega (arith, c.loop-i-test.true, c.loop-i.invariant.1, c.requires.both_even.1) in (
       omega (arith, c.loop-i.invariant.0),
       omega (arith, c.loop-i.invariant.1),
       c.take_row.auto.t ∙ c.loop-i.invariant.2,
