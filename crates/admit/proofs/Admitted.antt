@@ -4,27 +4,29 @@ use mathlib.Core.Bool.{Bool}
 use mathlib.Core.List.{List}
 use Prim.Native.Nat.{ℕ, ◌/◌, ◌≤◌}
 use lib.ListN.{length}
-use Rattle.line.specs.declared.Family.{Family}
-use Rattle.line.specs.declared.Family.TheVariants.{Base}
+use Rattle.std.specs.Prelude.{Ok, Err}
+use Rattle.line.specs.Family.{Family, Base}
 use Rattle.line.specs.declared.Frame.{Frame}
+use Rattle.line.specs.declared.Refusal.{Refusal}
+use Rattle.line.specs.Refusal.{refusal}
 use Rattle.trace.specs.Shape.{sites}
 use Rattle.trace.specs.Refusals.{accepted, refused, verdict_of, verdict}
 use Rattle.trace.specs.Refusals.{Verdict as Judgement}
 use Rattle.trace.proofs.Basics.{clash}
 use Rattle.trace.proofs.Scan.{accepted-fine-of, accepted-length-of}
 use Rattle.trace.proofs.Accept.{sites_le_M}
-use Rattle.admit.specs.declared.Verdict.TheVariants.{Accepted, Refused}
+use Rattle.admit.specs.declared.Accepted.{Accepted}
 use Rattle.admit.specs.Answer.{answer_of}
 
 -- the answer is a refusal only where the verdict is that refusal
-pub refused-only : (v : Judgement) (number line : ℕ) → Refused number line ≡ answer_of v → v ≡ refused number line
-refused-only (accepted t) number line e = clash (cc)
-refused-only (refused n k) number line e = cc
+pub refused-only : (v : Judgement) (r : Refusal) → Err r ≡ answer_of v → v ≡ refused r.number r.line
+refused-only (accepted t) r e = clash (cc)
+refused-only (refused n k) r e = let z : r ≡ refusal n k = cc in rw z refl
 
 -- the answer is an acceptance only where the verdict is one, with these numbers
-pub accepted-only : (v : Judgement) (m n : ℕ) → Accepted m n ≡ answer_of v → (t : List Frame) × (v ≡ accepted t) × (sites t ≡ m) × (length t ≡ n)
-accepted-only (accepted t) m n e = (t, refl, cc, cc)
-accepted-only (refused number line) m n e = clash (cc)
+pub accepted-only : (v : Judgement) (a : Accepted) → Ok a ≡ answer_of v → (t : List Frame) × (v ≡ accepted t) × (sites t ≡ a.sites) × (length t ≡ a.lines)
+accepted-only (accepted t) a e = let z : a ≡ record { sites = sites t; lines = length t } = cc in (t, refl, rw z refl, rw z refl)
+accepted-only (refused number line) a e = clash (cc)
 
 module _ (g : Family) (s : List ℕ) (D M : ℕ) (room : Bool) (t : List Frame) (e : verdict_of g s D M room ≡ accepted t) where
   pub accepted-sites-of : sites t ≤ M

@@ -1,23 +1,22 @@
 -- Keys of places: narrow places are the same exactly when their keys are, so a lookup among the keys finds a place
 -- already declared.
 use mathlib.Core.Path.{◌≡◌, refl, sym, ◌∙◌, ap}
-use mathlib.Core.Bool.{Bool, true, false, ◌&&◌, ◌||◌, or-true, or-false}
+use mathlib.Core.Bool.{Bool, true, false, ◌&&◌, ◌||◌}
 use mathlib.Core.List.{List, [], ◌∷◌, ◌++◌, append-nil}
-use Prim.Native.Nat.{ℕ, zero, suc, ◌+◌, ◌≤◌, ◌<◌}
-use native.Mathlib.Numerals.{add-one}
+use Prim.Native.Nat.{ℕ, zero, suc, ◌+◌, ◌<◌}
 use native.Mathlib.Omega.{arith}
-use lib.ListN.{length, take, drop, set, get_or, length-map, length-set, drop_of_length-le}
-use lib.Seq.{drop-cons, take-suc-set}
+use lib.ListN.{length, take, set, length-map, length-set}
+use lib.Seq.{take-suc-set}
 use lib.Dec.{eqb, ltb}
 use borrow.Author.Tests.{ltb-true, eqb-true, eqb-false, eq-eqb, ne_eqb}
+use Rattle.std.specs.Prelude.{Some}
+use Rattle.std.specs.List.{list_any}
 use Rattle.line.specs.declared.Place.{Place}
-use Rattle.line.specs.declared.Family.{Family}
+use Rattle.line.specs.Family.{Family}
 use Rattle.line.specs.declared.Frame.{Frame}
 use Rattle.line.specs.declared.Frame.TheVariants.{Site}
-use Rattle.line.specs.declared.Read.TheVariants.{Line}
-use Rattle.line.specs.declared.Sight.TheVariants.{Seen}
 use Rattle.line.specs.Table.{table_of, fields_of}
-use Rattle.line.specs.Read.{line_at, read_at_of}
+use Rattle.line.specs.Read.{line_at, read_at_of, says}
 use Rattle.line.specs.Write.{narrow, is_frame}
 use Rattle.line.specs.Seeing.{seen_of}
 use Rattle.line.proofs.RoundTrip.{read_write_of}
@@ -29,30 +28,21 @@ use Rattle.trace.proofs.Sites.{sites-append}
 use Rattle.admit.specs.Step.{key, tag, tags_of, seen, kept}
 
 -- a line that is seen at a glance declares no place
-pub none_seen : (ks : List ℕ) (n : ℕ) (f : Frame) → seen_of f ≡ Seen f → (seen ks n f ≡ false) × (kept ks n f ≡ ks)
+pub none_seen : (ks : List ℕ) (n : ℕ) (f : Frame) → seen_of f ≡ Some f → (seen ks n f ≡ false) × (kept ks n f ≡ ks)
 none_seen ks n f e =
-    by-site (λ g. seen_of g ≡ Seen g → (seen ks n g ≡ false) × (kept ks n g ≡ ks)) (λ s p e. clash (cc))
+    by-site (λ g. seen_of g ≡ Some g → (seen ks n g ≡ false) × (kept ks n g ≡ ks)) (λ s p e. clash (cc))
     (λ g o e. (other (λ s p. has (key p) (take n ks)) false g o, other (λ s p. set ks n (key p)) ks g o)) f e
 
 -- ── the lookup ──
 
-pub has_more : (x : ℕ) (ks : List ℕ) (i : ℕ) → i < length ks → has x (drop i ks) ≡ (eqb (get_or ks i 0) x || has x (drop (i + 1) ks))
-has_more x ks i h = rw (add-one, drop-cons ks i 0) (ap (λ (b : Bool). b || has x (drop (suc i) ks)) (flip (eqb (get_or ks i 0) x) refl))
+-- whether any is the one looked for
+pub has-any : (x : ℕ) (ks : List ℕ) → list_any (λ y. eqb y x) ks ≡ has x ks
+has-any x [] = refl
+has-any x (y ∷ ks) = rw (flip (eqb y x) refl, has-any x ks) refl
   where
-    flip : (b : Bool) → eqb (get_or ks i 0) x ≡ b → eqb x (get_or ks i 0) ≡ eqb (get_or ks i 0) x
-    flip true e = eq-eqb x (get_or ks i 0) (sym (eqb-true (get_or ks i 0) x e)) ∙ sym e
-    flip false e = ne_eqb x (get_or ks i 0) (λ q. eqb-false (get_or ks i 0) x e (sym q)) ∙ sym e
-
--- one key more has been compared; f: found before it, f': found with it
-module _ (x : ℕ) (ks : List ℕ) (i : ℕ) (f f' : Bool) (l : i < length ks) where
-  pub found_here : get_or ks i 0 ≡ x → f' ≡ true → (f' || has x (drop (i + 1) ks)) ≡ (f || has x (drop i ks))
-  found_here e q = ap (λ (b : Bool). b || has x (drop (i + 1) ks)) q ∙ sym (ap (λ (b : Bool). f || b) (has_more x ks i l ∙ ap (λ (b : Bool). b || has x (drop (i + 1) ks)) (eq-eqb (get_or ks i 0) x e)) ∙ or-true f)
-
-  pub found_elsewhere : (get_or ks i 0 ≡ x → ⊥) → f' ≡ f → (f' || has x (drop (i + 1) ks)) ≡ (f || has x (drop i ks))
-  found_elsewhere e q = ap (λ (b : Bool). b || has x (drop (i + 1) ks)) q ∙ sym (ap (λ (b : Bool). f || b) (has_more x ks i l ∙ ap (λ (b : Bool). b || has x (drop (i + 1) ks)) (ne_eqb (get_or ks i 0) x e)))
-
-pub found_all : (x : ℕ) (ks : List ℕ) (i : ℕ) (f : Bool) → length ks ≤ i → (f || has x (drop i ks)) ≡ f
-found_all x ks i f h = ap (λ (l : List ℕ). f || has x l) (drop_of_length-le ks h) ∙ or-false f
+    flip : (b : Bool) → eqb y x ≡ b → eqb x y ≡ eqb y x
+    flip true e = eq-eqb x y (sym (eqb-true y x e)) ∙ sym e
+    flip false e = ne_eqb x y (λ q. eqb-false y x e (sym q)) ∙ sym e
 
 -- ── the lookup by tags ──
 
@@ -132,9 +122,9 @@ narrow_snoc [] f h n = (n, tt)
 narrow_snoc (e ∷ t) f h n = (h.0, narrow_snoc t f h.1 n)
 
 -- a line that reads as a site has a narrow place
-pub read_narrow : (g : Family) (s : List ℕ) (n k : ℕ) (f : Frame) → read_at_of g s n ≡ Line k f → NarrowSite f
+pub read_narrow : (g : Family) (s : List ℕ) (n k : ℕ) (f : Frame) → read_at_of g s n ≡ says k f → NarrowSite f
 read_narrow g s n k f e i p q =
-    let w = (both (narrow (fields_of (Site i p))) (is_frame (table_of g (fields_of (Site i p)))) (read_write_of g (line_at s n) n k (Site i p) (e ∙ ap (Line k) q)).1).0 in
+    let w = (both (narrow (fields_of (Site i p))) (is_frame (table_of g (fields_of (Site i p)))) (read_write_of g (line_at s n) n k (Site i p) (e ∙ ap (says k) q)).1).0 in
     let c = both (ltb 1 256 && ltb i 65536 && ltb p.line 4294967296 && ltb p.file 65536) (ltb p.column 65536) w in
     let f = both (ltb 1 256 && ltb i 65536 && ltb p.line 4294967296) (ltb p.file 65536) c.0 in
     let l = both (ltb 1 256 && ltb i 65536) (ltb p.line 4294967296) f.0 in

@@ -3,7 +3,5 @@ pub mod Strays
 pub mod Judged
 pub mod Tallies
 pub mod Reach
-pub mod Entry
 pub mod Admitted
 pub mod Refused
-mod Lent

@@ -8,25 +8,25 @@ use native.Mathlib.Omega.{arith}
 use borrow.Author.Tests.{ltb-false}
 use lib.Dec.{eqb}
 use lib.ListN.{length, length-append}
-use Rattle.line.specs.declared.Family.{Family}
-use Rattle.line.specs.declared.Family.TheVariants.{Base}
+use Rattle.std.specs.Prelude.{Ok, Err}
+use Rattle.line.specs.Family.{Family, Base}
 use Rattle.line.specs.declared.Frame.{Frame}
-use Rattle.line.specs.declared.Read.{Read}
-use Rattle.line.specs.declared.Read.TheVariants.{Line, Refused}
-use Rattle.line.specs.Read.{read_at_of, line_at}
+use Rattle.line.specs.Read.{read_at_of, line_at, Read}
 use Rattle.line.proofs.Cases.{CaseOf, long, wrongs, unlisted, listed, line-case-of, frames-of}
+use Rattle.line.specs.Refusal.{refusal}
+use Rattle.line.proofs.Same.{same-refusal}
 use Rattle.trace.specs.Refusals.{accepted, refused, verdict_of, verdict, line_count, after_root, fault, judged, scan, reads_from_of}
 use Rattle.trace.proofs.Basics.{clash}
 use Rattle.trace.proofs.Checks.{passed, by-checks}
 
 module _ (g : Family) (D M : ℕ) (s : List ℕ) where
-  read_line_lem : (n number line : ℕ) → read_at_of g s n ≡ Refused number line → line ≤ n
+  read_line_lem : (n number line : ℕ) → read_at_of g s n ≡ Err (refusal number line) → line ≤ n
   read_line_lem n number line e = go (line-case-of g (line_at s n) n)
     where
       go : CaseOf g (line_at s n) n (read_at_of g s n) → line ≤ n
-      go (long h r) = let z : line ≡ 0 = cc in omega arith
-      go (wrongs h w r) = let z : line ≡ n = cc in omega arith
-      go (unlisted h w t r) = let z : line ≡ n = cc in omega arith
+      go (long h r) = let z = (same-refusal (sym e ∙ r)).1 in omega arith
+      go (wrongs h w r) = let z = (same-refusal (sym e ∙ r)).1 in omega arith
+      go (unlisted h w t r) = let z = (same-refusal (sym e ∙ r)).1 in omega arith
       go (listed h w f t r) = clash (cc)
 
   -- a line that reads as f: what comes of the lines behind it, or its own fault
@@ -47,8 +47,10 @@ module _ (g : Family) (D M : ℕ) (s : List ℕ) where
     where
       go : ((f : Frame) → scan D M (before ++ f ∷ []) (reads_from_of g s (suc n) count) ≡ refused number line → line ≤ suc n + count)
           → (r : Read) → read_at_of g s n ≡ r → judged D M before r (λ f. scan D M (before ++ f ∷ []) (reads_from_of g s (suc n) count)) ≡ refused number line → line ≤ n + suc count
-      go on (Refused m k) h j = let z : line ≡ k = cc in omega (arith, read_line_lem n m k h)
-      go on (Line k f) h j = scan-pick count n k number line before f (eqb (fault D M before f) 0) (frames-of g (line_at s n) n k f h).0 (on f) j
+      go on (Err w) h j = let z : line ≡ w.line = cc in omega (arith, read_line_lem n w.number w.line h)
+      go on (Ok x) h j =
+          let f = x.frame in
+          scan-pick count n x.number number line before f (eqb (fault D M before f) 0) (frames-of g (line_at s n) n x.number f h).0 (on f) j
 
 -- LAW
 pub refused-line-of : (g : Family) (s : List ℕ) (D M : ℕ) (room : Bool) (number line : ℕ) → verdict_of g s D M room ≡ refused number line → line ≤ 65536

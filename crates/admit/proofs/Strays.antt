@@ -7,13 +7,12 @@ use native.Mathlib.Omega.{arith}
 use lib.ListN.{length, length-append}
 use lib.Dec.{eqb}
 use borrow.Author.Tests.{ne_eqb}
-use Rattle.line.specs.declared.Family.{Family}
+use Rattle.std.specs.Prelude.{None}
+use Rattle.line.specs.Family.{Family}
 use Rattle.line.specs.declared.Frame.{Frame}
 use Rattle.line.specs.declared.Frame.TheVariants.{Site, Call, Spawn, Sync, Return, Cost, Instructions, Async, Finish}
-use Rattle.line.specs.declared.Read.TheVariants.{Line}
-use Rattle.line.specs.declared.Sight.TheVariants.{Other}
 use Rattle.line.specs.Table.{fields_of}
-use Rattle.line.specs.Read.{read_at_of}
+use Rattle.line.specs.Read.{read_at_of, says}
 use Rattle.line.specs.At.{kind_at}
 use Rattle.line.specs.Seeing.{seen_of}
 use Rattle.line.proofs.Items.{item_of}
@@ -36,7 +35,7 @@ cost-kind (Async s) = refl
 cost-kind Finish = refl
 
 -- one line more
-pub cost_snoc : (g : Family) (s : List ℕ) (before : List Frame) (k : ℕ) (f : Frame) → read_at_of g s (length before) ≡ Line k f → behind_cost s (length (before ++ f ∷ [])) ≡ after_cost false (before ++ f ∷ [])
+pub cost_snoc : (g : Family) (s : List ℕ) (before : List Frame) (k : ℕ) (f : Frame) → read_at_of g s (length before) ≡ says k f → behind_cost s (length (before ++ f ∷ [])) ≡ after_cost false (before ++ f ∷ [])
 cost_snoc g s before k f e =
     let l = length-append before (f ∷ []) in
     let z : length (before ++ f ∷ []) - 1 ≡ length before = omega (arith, l) in
@@ -48,7 +47,7 @@ pub stray-is : (s : List ℕ) (before : List Frame) (f : Frame) → behind_cost 
 stray-is s before f e = ap (λ (b : Bool). if_instructions (λ v. not b) false f) e
 
 -- a line that a glance does not see is no 07 line
-pub unseen-stray : (s : List ℕ) (n : ℕ) (f : Frame) → seen_of f ≡ Other → stray_at s n f ≡ false
+pub unseen-stray : (s : List ℕ) (n : ℕ) (f : Frame) → seen_of f ≡ None → stray_at s n f ≡ false
 unseen-stray s n (Site i p) e = refl
 unseen-stray s n (Call i) e = refl
 unseen-stray s n (Spawn i) e = refl

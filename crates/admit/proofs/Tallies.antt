@@ -14,8 +14,7 @@ use Rattle.trace.specs.Refusals.{open_now, empty, after_root, after_cost, stray,
 use Rattle.trace.proofs.Scan.{now}
 use Rattle.trace.proofs.Sites.{sites-append, Numbered}
 use Rattle.admit.specs.declared.Tally.{Tally}
-use Rattle.admit.specs.declared.Tallied.{Tallied}
-use Rattle.admit.specs.Step.{tally_of, refuse, next, stepped}
+use Rattle.admit.specs.Step.{Tallied, tally_of, refuse, next, stepped}
 
 -- ── the tests by the tally ──
 

@@ -1,20 +1,18 @@
 -- For proofs, not for the reader of document 01: what the flat check does at each line, by the tally, and the keys of
 -- the places so far with their tags.
-use Rattle.std.specs.Prelude.{◌≡◌, ℕ, ◌+◌, ◌*◌, ◌-◌, ◌/◌, ◌%◌, ◌≤◌, ◌<◌, Bool, false, not, cond, ◌&&◌, ◌||◌, List, map, length, take, set, eqb, ltb, leb}
+use Rattle.std.specs.Prelude.{◌≡◌, ℕ, ◌+◌, ◌*◌, ◌-◌, ◌/◌, ◌%◌, ◌≤◌, ◌<◌, Bool, false, not, cond, ◌&&◌, ◌||◌, List, map, length, take, set, eqb, ltb, leb, Ok, Err, Result}
 use Rattle.line.specs.declared.Place.{Place}
 use Rattle.line.specs.declared.Frame.{Frame}
 use Rattle.line.specs.declared.Frame.TheVariants.{Site, Call, Spawn, Sync, Return, Cost, Instructions, Async, Finish}
-use Rattle.line.specs.declared.Read.{Read}
-use Rattle.line.specs.declared.Read.TheVariants.{Line, Refused}
+use Rattle.line.specs.declared.Refusal.{Refusal}
+use Rattle.line.specs.Refusal.{refusal}
 use Rattle.line.specs.At.{kind_at}
+use Rattle.line.specs.Read.{Read}
 use Rattle.trace.specs.Shape.{if_site, if_makes, if_instructions, has, sites}
 use Rattle.trace.specs.Async.{is_finish}
 use Rattle.trace.specs.Refusals.{line_count, open_now}
-use Rattle.admit.specs.declared.Verdict.{Verdict}
-use Rattle.admit.specs.declared.Verdict.TheVariants.{Accepted}
-use Rattle.admit.specs.declared.Verdict.TheVariants.{Refused as Denied}
 use Rattle.admit.specs.declared.Tally.{Tally}
-use Rattle.admit.specs.declared.Tallied.{Tallied}
+use Rattle.admit.specs.Answer.{Verdict, accepting}
 
 -- "A tally of lines, sites and open depth": that of the lines before
 abbrev pub tally_of : List Frame → Tally
@@ -51,13 +49,17 @@ stray_at s n f = if_instructions (λ v. not (behind_cost s n)) false f
 abbrev pub against : List ℕ → List ℕ → Tally → Frame → Bool
 against s ks t f = seen ks t.sites f || stray_at s t.lines f
 
--- a line that is refused, behind the tally t: the tally stays as it was
+-- what a line does: the tally behind it, or its refusal
+abbrev pub Tallied : Type 0
+Tallied = Result Tally Refusal
+
+-- the line behind those of the tally t is refused
 abbrev pub refuse : Tally → ℕ → Tallied
-refuse t number = record { refusal = number; tally = t }
+refuse t number = Err (refusal number t.lines)
 
 -- a line that passes, with the tally t behind it
 abbrev pub next : Tally → Tallied
-next t = record { refusal = 0; tally = t }
+next t = Ok t
 
 -- one line more, with the sites and the open invocations behind it
 abbrev pub onward : Tally → ℕ → ℕ → Tallied
@@ -107,32 +109,36 @@ inside D M a t Finish = deepening D t
 abbrev pub stepped : ℕ → ℕ → Bool → Tally → Frame → Tallied
 stepped D M a t f = cond (eqb t.depth 0) (refuse t 7) (inside D M a t f)
 
+-- what a step that gives x answers where the tally is lent, and what it leaves of the tally t: the one behind the line,
+-- or t where the line is refused
+abbrev pub Updated : Tally → Tallied → Result (Unit {0}) Refusal → Tally → Type 0
+Updated t (Ok u) r left = (r ≡ Ok tt) × (left ≡ u)
+Updated t (Err e) r left = (r ≡ Err e) × (left ≡ t)
+
 -- a line of the text s as it reads, and the keys behind it
 abbrev pub judged_by : ℕ → ℕ → List ℕ → List ℕ → Tally → Read → Tallied
-judged_by D M s ks t (Refused n k) = refuse t n
-judged_by D M s ks t (Line k f) = stepped D M (against s ks t f) t f
+judged_by D M s ks t (Err r) = Err r
+judged_by D M s ks t (Ok x) = stepped D M (against s ks t x.frame) t x.frame
 
 abbrev pub kept_by : List ℕ → Tally → Read → List ℕ
-kept_by ks t (Refused n k) = ks
-kept_by ks t (Line k f) = kept ks t.sites f
+kept_by ks t (Err r) = ks
+kept_by ks t (Ok x) = kept ks t.sites x.frame
 
--- what such a line does is x, and behind it are these keys and their tags
-abbrev pub Judged : ℕ → ℕ → List ℕ → List ℕ → Tally → Read → Tallied → List ℕ → List ℕ → Type 0
-Judged D M s ks t r x ks' ts' = (x ≡ judged_by D M s ks t r) × ((ks' ≡ kept_by ks t r) × (ts' ≡ tags_of (kept_by ks t r)))
+-- what such a line does is x, and behind it are these keys
+abbrev pub Judged : ℕ → ℕ → List ℕ → List ℕ → Tally → Read → Tallied → List ℕ → Type 0
+Judged D M s ks t r x ks' = (x ≡ judged_by D M s ks t r) × (ks' ≡ kept_by ks t r)
 
 -- behind the last line: accepted where nothing is open, else 14
 abbrev pub ended : Tally → Verdict
-ended t = cond (eqb t.depth 0) (Accepted t.sites t.lines) (Denied 14 t.lines)
+ended t = cond (eqb t.depth 0) (accepting t.sites t.lines) (Err (refusal 14 t.lines))
 
 -- the numbers stay far below the machine's
 abbrev pub Small : ℕ → Tally → Type 0
 Small D t = (t.lines < 65536) × ((t.sites ≤ t.lines) × (D ≤ 64))
 
--- there is room for one key more, and the tags are those of the keys
-pub record Within (D : ℕ) (ks ts : List ℕ) (t : Tally) : Type 0 where
-  pub small : Small D t
-  pub room : t.sites < length ks
-  pub tagged : ts ≡ tags_of ks
+-- and there is room for one key more
+abbrev pub Within : ℕ → Tally → Type 0
+Within D t = Small D t × (t.sites < 256)
 
 -- what checks 1 to 3 leave
 pub record Limits (D M : ℕ) (s : List ℕ) : Type 0 where

@@ -5,11 +5,11 @@ use mathlib.Core.List.{List}
 use Prim.Native.Nat.{ℕ, ◌≤◌, ◌<◌}
 use native.Mathlib.Omega.{arith}
 use lib.ListN.{length, get_or}
-use Rattle.line.specs.declared.Family.{Family}
-use Rattle.line.specs.declared.Family.TheVariants.{Base}
+use Rattle.line.specs.Family.{Family, Base}
 use Rattle.line.specs.declared.Frame.{Frame}
 use Rattle.line.specs.declared.Frame.TheVariants.{Instructions}
-use Rattle.trace.specs.declared.Answer.TheVariants.{Refused}
+use Rattle.std.specs.Prelude.{Err}
+use Rattle.line.specs.Refusal.{refusal}
 use Rattle.trace.specs.Shape.{Is, sites}
 use Rattle.trace.specs.Series.{ChosenOf}
 use Rattle.trace.specs.Column.{Column, slot}
@@ -21,6 +21,7 @@ use Rattle.trace.proofs.Plain.{Plain, plain_local, plain-on-span}
 use Rattle.trace.proofs.Unique.{chosen_unique_of}
 use Rattle.trace.proofs.Places.{engines_agree}
 use Rattle.agree.specs.Shown.{marked, ShownOf}
+use Rattle.trace.proofs.Answers.{same-sites}
 use Rattle.agree.specs.Demand.{Run, RanOf, HasRoom, Agree, DemandThreeOf, Ran}
 use Rattle.agree.proofs.Shown.{mark-low, carried-unmarked, marked-chain, chain-shown}
 
@@ -32,7 +33,7 @@ module _ (g : Family) (e : Engine) (s : List ℕ) (D M : ℕ) (x : Run) (h : Ran
   pub accepts-of : (t : List Frame) → verdict_of g s D M true ≡ accepted t → ProfileOf g e t x.lent x.answer x.left
   accepts-of t a = h.when_accepted t (with-room (accepted t) a)
 
-  pub refuses : (number line : ℕ) → verdict_of g s D M true ≡ refused number line → (x.answer ≡ Refused number line) × (x.left ≡ x.lent)
+  pub refuses : (number line : ℕ) → verdict_of g s D M true ≡ refused number line → (x.answer ≡ Err (refusal number line)) × (x.left ≡ x.lent)
   refuses number line a = h.when_refused number line (with-room (refused number line) a)
 
 -- the same of document 01's traces
@@ -50,8 +51,8 @@ runs_agree g e f s D M x y h k i j = go (verdict_of g s D M true) refl
         let w = engines_agree g s D M e f x.lent y.lent x.answer y.answer x.left y.left h k t (with-room g e s D M x h i (accepted t) a) (with-room g f s D M y k j (accepted t) a) in
         record {
           answers = w.answers;
-          rows = λ work span m lines r n l. (let z : m ≡ sites t = cc in w.rows_written n (omega arith));
-          own = λ work span m lines r n l. (let z : m ≡ sites t = cc in (p.rows.rest n (omega arith), q.rows.rest n (omega arith)));
+          rows = λ work span m lines r n l. (let z : m ≡ sites t = same-sites _ _ _ _ _ _ _ _ (sym r ∙ p.answer) in w.rows_written n (omega arith));
+          own = λ work span m lines r n l. (let z : m ≡ sites t = same-sites _ _ _ _ _ _ _ _ (sym r ∙ p.answer) in (p.rows.rest n (omega arith), q.rows.rest n (omega arith)));
           unchanged = λ number line r. clash (cc);
         }
     go (refused number line) a =

@@ -7,30 +7,32 @@ use Prim.Native.Nat.{ℕ, zero, suc, ◌<◌}
 use native.Mathlib.Omega.{arith}
 use lib.ListN.{length}
 use lib.Dec.{eqb}
-use Rattle.line.specs.declared.Family.{Family}
+use Rattle.std.specs.Prelude.{Ok, Err}
+use Rattle.line.specs.Family.{Family}
 use Rattle.line.specs.declared.Frame.{Frame}
-use Rattle.line.specs.declared.Read.{Read}
-use Rattle.line.specs.declared.Read.TheVariants.{Line, Refused}
 use Rattle.line.specs.Table.{Entry, frame, none, table_of}
-use Rattle.line.specs.Read.{fields, wrong, tabled, read_line_of, line_at, read_at_of}
+use Rattle.line.specs.Read.{fields, wrong, tabled, read_line_of, line_at, read_at_of, Read}
+use Rattle.line.specs.Refusal.{refusal}
+use Rattle.line.proofs.Same.{same-refusal}
 use Rattle.trace.specs.Refusals.{line_count, after_root, stray, misplaced, above_m, place_again, undeclared, too_deep, fault, Verdict, accepted, refused, judged, scan, reads_from_of, verdict_of}
-use Rattle.trace.specs.Promise.{Engine, refusal}
+use Rattle.trace.specs.Promise.{Engine}
 use Rattle.trace.proofs.Basics.{clash, no_way}
 use Rattle.trace.proofs.Checks.{passed, room-last, by-checks}
+use Rattle.trace.proofs.Answers.{same-number}
 use Rattle.agree.specs.Demand.{Run, RanOf, HasRoom}
 use Rattle.agree.specs.Room.{LacksRoom, refusal_for, WithoutRoom, OneLacksRoomOf}
 use Rattle.agree.proofs.Demand.{accepts-of, refuses}
 
 -- ── no line is refused with 4 ──
 
-read_never : (g : Family) (s : List ℕ) (n m k : ℕ) → read_line_of g s n ≡ Refused m k → m ≡ 4 → ⊥
+read_never : (g : Family) (s : List ℕ) (n m k : ℕ) → read_line_of g s n ≡ Err (refusal m k) → m ≡ 4 → ⊥
 read_never g s n m k e h = go (eqb (length s) 23) (wrong s) (table_of g (fields s)) e
   where
-    go : (a b : Bool) (x : Entry) → cond a (cond b (Refused 5 n) (tabled x n)) (Refused 2 0) ≡ Refused m k → ⊥
-    go true true x q = let y : 5 ≡ m = cc in omega arith
+    go : (a b : Bool) (x : Entry) → cond a (cond b (Err (refusal 5 n)) (tabled x n)) (Err (refusal 2 0)) ≡ Err (refusal m k) → ⊥
+    go true true x q = let y = (same-refusal q).0 in omega arith
     go true false (frame f) q = clash (cc)
-    go true false none q = let y : 6 ≡ m = cc in omega arith
-    go false b x q = let y : 2 ≡ m = cc in omega arith
+    go true false none q = let y = (same-refusal q).0 in omega arith
+    go false b x q = let y = (same-refusal q).0 in omega arith
 
 fault_never : (a b c d e f g : Bool) → ◌≡◌ {A = ℕ} (cond a 7 (cond b 22 (cond c 8 (cond d 9 (cond e 10 (cond f 11 (cond g 12 0))))))) 4 → ⊥
 fault_never true b c d e f g q = omega arith
@@ -60,8 +62,8 @@ scan_never g D M s before n (suc count) k e = go (λ f. scan_never g D M s (befo
         fault_never (after_root before) (stray before f) (misplaced before f) (above_m M f) (place_again before f) (undeclared before f) (too_deep D before f) y
 
     go : ((f : Frame) → scan D M (before ++ f ∷ []) rs ≡ refused 4 k → ⊥) → (r : Read) → read_at_of g s n ≡ r → judged D M before r (λ f. scan D M (before ++ f ∷ []) rs) ≡ refused 4 k → ⊥
-    go rec (Refused m j) r q = (let y : m ≡ 4 = cc in read_never g (line_at s n) n m j r y)
-    go rec (Line j f) r q = on j f (eqb (fault D M before f) 0) (rec f) q
+    go rec (Err w) r q = (let y : w.number ≡ 4 = cc in read_never g (line_at s n) n w.number w.line r y)
+    go rec (Ok x) r q = on x.number x.frame (eqb (fault D M before x.frame) 0) (rec x.frame) q
 
 -- ── the verdict without room, and with it ──
 
@@ -109,9 +111,9 @@ one-lacks-room g e f s D M x y h k i j =
       equal = (λ q. go (verdict_of g s D M true) refl (sym w.answer ∙ q), λ l. w.answer ∙ sym (refuses g f s D M y k j (refusal_for s D M) 0 (early g s D M l)).0);
     }
   where
-    go : (v : Verdict) → verdict_of g s D M true ≡ v → refusal (refusal_for s D M) 0 ≡ y.answer → refusal_for s D M < 4
+    go : (v : Verdict) → verdict_of g s D M true ≡ v → Err (refusal (refusal_for s D M) 0) ≡ y.answer → refusal_for s D M < 4
     go (accepted t) a q = let p = (accepts-of g f s D M y k j t a).answer in clash (cc)
     go (refused n l) a q =
         let p = (refuses g f s D M y k j n l a).0 in
-        let z : n ≡ refusal_for s D M = cc in
+        let z : n ≡ refusal_for s D M = same-number n l (refusal_for s D M) 0 (sym p ∙ sym q) in
         never_four g s D M l (a ∙ ap (λ (m : ℕ). refused m l) z)

@@ -7,12 +7,11 @@ use native.Mathlib.Omega.{arith}
 use lib.ListN.{length, get_or}
 use lib.Dec.{eqb}
 use borrow.Author.Tests.{ne_eqb}
-use Rattle.line.specs.declared.Family.{Family}
-use Rattle.line.specs.declared.Family.TheVariants.{Base}
+use Rattle.line.specs.Family.{Family, Base}
 use Rattle.line.specs.declared.Frame.{Frame}
 use Rattle.line.specs.declared.Frame.TheVariants.{Cost, Instructions}
 use Rattle.chain.specs.Over.{Each, EachTwo}
-use Rattle.trace.specs.declared.Answer.{Answer}
+use Rattle.trace.specs.Answer.{Answer}
 use Rattle.trace.specs.Shape.{Is, root, has, sites}
 use Rattle.trace.specs.Series.{value_at, SeriesOf, CostIn, ChainOf, weight, SpanOf, ChosenOf, Series, Chain, Span, Chosen}
 use Rattle.trace.specs.Rows.{cycles, instructions, local, on_span, ilocal, ion_span}

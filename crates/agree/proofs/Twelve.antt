@@ -4,7 +4,7 @@ use mathlib.Core.Bool.{true}
 use mathlib.Core.List.{List, [], ◌∷◌, map}
 use Prim.Native.Nat.{ℕ}
 use lib.ListN.{length}
-use Rattle.line.specs.declared.Family.TheVariants.{Base}
+use Rattle.line.specs.Family.{Base}
 use Rattle.chain.specs.Plan.{choose}
 use Rattle.chain.specs.Over.{lines_in}
 use Rattle.trace.specs.Tree.{Body, lines_of}

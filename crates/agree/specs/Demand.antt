@@ -1,12 +1,11 @@
 -- Demand 3, phrase by phrase, for both families; 02, request n: "Rows, both engines and demands 2 and 3 hold for this
 -- family". Each engine is taken with what it was lent, its answer and what it left.
-use Rattle.std.specs.Prelude.{ℕ, ◌+◌, ◌*◌, ◌≤◌, ◌<◌, ◌≡◌, true, List, length, get_or}
-use Rattle.line.specs.declared.Family.{Family}
-use Rattle.line.specs.declared.Family.TheVariants.{Base}
+use Rattle.std.specs.Prelude.{ℕ, ◌+◌, ◌*◌, ◌≤◌, ◌<◌, ◌≡◌, true, List, length, get_or, Err}
+use Rattle.line.specs.Family.{Family, Base}
 use Rattle.line.specs.declared.Frame.{Frame}
 use Rattle.line.specs.declared.Frame.TheVariants.{Instructions}
-use Rattle.trace.specs.declared.Answer.{Answer}
-use Rattle.trace.specs.declared.Answer.TheVariants.{Accepted, Refused}
+use Rattle.line.specs.Refusal.{refusal}
+use Rattle.trace.specs.Answer.{Answer, profiled}
 use Rattle.trace.specs.Shape.{Is}
 use Rattle.trace.specs.Rows.{columns}
 use Rattle.trace.specs.Refusals.{accepted, verdict_of}
@@ -32,12 +31,12 @@ pub record Agree (x y : Run) : Type 0 where
   -- "equal answers"
   pub answers : x.answer ≡ y.answer
   -- "Row numbers 0 to 5·(sites+1)-1", with seven for five, "hold the rows": "and rows"
-  pub rows : (work span sites lines : ℕ) → x.answer ≡ Accepted work span sites lines → (i : ℕ) → i < columns * (sites + 1) → get_or x.left.rows i 0 ≡ get_or y.left.rows i 0
+  pub rows : (work span sites lines : ℕ) → x.answer ≡ profiled work span sites lines → (i : ℕ) → i < columns * (sites + 1) → get_or x.left.rows i 0 ≡ get_or y.left.rows i 0
   -- the others are as each was lent them
-  pub own : (work span sites lines : ℕ) → x.answer ≡ Accepted work span sites lines → (i : ℕ) → columns * (sites + 1) ≤ i
+  pub own : (work span sites lines : ℕ) → x.answer ≡ profiled work span sites lines → (i : ℕ) → columns * (sites + 1) ≤ i
       → (get_or x.left.rows i 0 ≡ get_or x.lent.rows i 0) × (get_or y.left.rows i 0 ≡ get_or y.lent.rows i 0)
   -- and so are all slices where they refuse
-  pub unchanged : (number line : ℕ) → x.answer ≡ Refused number line → (x.left ≡ x.lent) × (y.left ≡ y.lent)
+  pub unchanged : (number line : ℕ) → x.answer ≡ Err (refusal number line) → (x.left ≡ x.lent) × (y.left ≡ y.lent)
 
 -- The table engine ran as x and the marks engine as y, on the text s of family g with limits D and M. What the marks
 -- show is said where the trace t is accepted.

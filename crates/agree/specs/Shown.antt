@@ -1,10 +1,9 @@
 -- What the marks show of an accepted trace.
 use Rattle.std.specs.Prelude.{ℕ, zero, suc, ◌+◌, ◌≤◌, ◌≡◌, ◌⊎◌, Bool, false, cond, List, [], ◌∷◌, eqb, get_or}
-use Rattle.line.specs.declared.Family.{Family}
-use Rattle.line.specs.declared.Family.TheVariants.{Base}
+use Rattle.line.specs.Family.{Family, Base}
 use Rattle.line.specs.declared.Frame.{Frame}
 use Rattle.chain.specs.Over.{Before}
-use Rattle.trace.specs.declared.Answer.{Answer}
+use Rattle.trace.specs.Answer.{Answer}
 use Rattle.trace.specs.Shape.{root, open_at, has, sites}
 use Rattle.trace.specs.Async.{finish}
 use Rattle.trace.specs.Series.{ChainOf, weight}

@@ -1,11 +1,10 @@
 -- Characters that are put one by one in small letters. Assumes nothing.
-use Prim.Native.Nat.{ℕ, ◌+◌, ◌≤◌, ◌<◌}
+use Prim.Native.Nat.{ℕ, ◌+◌, ◌<◌}
 use mathlib.Core.List.{List, [], ◌∷◌, ◌++◌}
 use mathlib.Core.Path.{◌≡◌, ap, ◌∙◌, sym}
 use native.Mathlib.Numerals.{add-one}
-use native.Mathlib.Omega.{arith}
 use lib.ListN.{length, take, get_or, set}
-use lib.Seq.{take-suc-set, take-suc, take_all}
+use lib.Seq.{take-suc-set, take-suc}
 use Rattle.digits.specs.Digits.{small, small_form}
 use Rattle.digits.proofs.Laws.{small-append}
 
@@ -18,7 +17,3 @@ small-more to from i x ht hf h e =
     ∙ ap (λ (c : ℕ). small_form (take i from) ++ c ∷ []) h
     ∙ sym (small-append (take i from) (get_or from i 0 ∷ []))
     ∙ sym (ap small_form (take-suc from i 0 hf)))
-
--- all of them
-pub small_all : (to from : List ℕ) (i : ℕ) → length to ≡ length from → length from ≤ i → take i to ≡ small_form (take i from) → to ≡ small_form from
-small_all to from i l h e = sym (take_all i to (omega arith)) ∙ e ∙ ap small_form (take_all i from h)

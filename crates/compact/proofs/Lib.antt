@@ -9,7 +9,6 @@ pub mod Laws
 pub mod Result
 pub mod Cases
 pub mod Machine
-pub mod Steps
 pub mod Letters
 pub mod Passes
 pub mod Whole

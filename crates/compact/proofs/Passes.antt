@@ -7,18 +7,17 @@ use native.Mathlib.Omega.{arith}
 use lib.Dec.{eqb}
 use borrow.Rule.Slice.PartMut.{mid_of}
 use lib.ListN.{length, take, drop, length-append}
-use borrow.Author.Tests.{ne_eqb, not-true, not-false}
+use borrow.Author.Tests.{ne_eqb, le-leb}
 use Rattle.digits.specs.Digits.{small_form}
 use Rattle.digits.proofs.Laws.{small-length}
-use Rattle.line.specs.declared.Family.TheVariants.{Base}
+use Rattle.line.specs.Family.{Base}
 use Rattle.line.specs.declared.Frame.{Frame}
 use Rattle.line.specs.declared.Frame.TheVariants.{Site, Call, Spawn, Sync, Return, Cost, Instructions, Async, Finish}
-use Rattle.line.specs.declared.Read.TheVariants.{Line}
-use Rattle.line.specs.Read.{line_at, read_at}
-use Rattle.line.specs.Write.{write_chars}
+use Rattle.line.specs.Read.{line_at, read_at, says}
+use Rattle.line.specs.Write.{write_chars, writable}
 use Rattle.line.specs.At.{kind_in, kind_at, value_at}
 use Rattle.line.proofs.At.{at_none}
-use Rattle.line.proofs.Writable.{chars-length}
+use Rattle.line.proofs.Writable.{chars-length, writable-value}
 use Rattle.line.proofs.RoundTrip.{read_write}
 use Rattle.line.proofs.Items.{item}
 use Rattle.trace.specs.Refusals.{line_count}
@@ -28,11 +27,10 @@ use Rattle.trace.specs.Written.{text_of}
 use Rattle.report.specs.Room.{Lays}
 use Rattle.report.proofs.Laying.{lays_nothing, lays_next, lays_as}
 use Rattle.walk.specs.Stands.{Stands, Whole, kind_of, value_of}
-use Rattle.walk.specs.declared.Instructions.{Instructions as Instructions'}
 use Rattle.walk.specs.Measure.{cycles, instructions}
 use Rattle.walk.specs.Weight.{instructions_at}
 use Rattle.walk.proofs.Room.{line-whole}
-use Rattle.compact.specs.Compact.{carrying, summed}
+use Rattle.compact.specs.Compact.{carrying, summed, most_value}
 use Rattle.compact.specs.Machine.{bit, start, step, stepped, emitted, outs, pair_size, size_of, pieces, Fitting, Ready, Room}
 use Rattle.compact.specs.Pass.{carried_at, item_at, stepped_at, Lines}
 use Rattle.compact.specs.declared.step.State.{State}
@@ -49,15 +47,6 @@ line-size false f u = omega arith
 sync-size : (y l : Bool) (f : Frame) (u : List Frame) → length (cond y (Sync ∷ cond l (f ∷ u) u) (cond l (f ∷ u) u)) ≡ bit y + (bit l + length u)
 sync-size true l f u = omega (arith, line-size l f u)
 sync-size false l f u = omega (arith, line-size l f u)
-
--- how many lines a cost with its instructions is
-pub no_size : (h j : ℕ) → h ≡ 0 → (0 ≡ pair_size h j) × (0 ≤ 2)
-no_size zero j e = (refl, omega arith)
-no_size (suc h) j e = absurd (omega arith)
-
-pub some_size : (h j : ℕ) → (h ≡ 0 → ⊥) → (r : ℕ) → (r ≡ bit (not (eqb j 0))) × (r ≤ 1) → (1 + r ≡ pair_size h j) × (1 + r ≤ 2)
-some_size zero j n r w = absurd (n refl)
-some_size (suc h) j n r w = (ap (λ (k : ℕ). 1 + k) w.0, omega (arith, w.1))
 
 carrying-size : (j : ℕ) (u : List Frame) → length (carrying j u) ≡ bit (not (eqb j 0)) + length u
 carrying-size zero u = omega arith
@@ -109,14 +98,12 @@ carry-text : (j : ℕ) → (j ≡ 0 → ⊥) → text_of (carrying j []) ≡ wri
 carry-text zero n = absurd (n refl)
 carry-text (suc j) n = append-nil (write_chars (Instructions (suc j)))
 
-module _ {chars : List ℕ} (j : ℕ) (some : j ≡ 0 → ⊥) (is : chars ≡ write_chars (Instructions j)) where
-  pub carry-fits : (at room : ℕ) → at + length (text_of (carrying j [])) ≤ room → (length chars ≡ 23) × (at + 23 ≤ room)
-  carry-fits at room h =
-      let l = ap length is ∙ chars-length (Instructions j) in
-      (l, omega (arith, ap length (carry-text j some ∙ sym is)))
+module _ (j : ℕ) (some : j ≡ 0 → ⊥) where
+  pub carry-fits : j ≤ most_value → (at room : ℕ) → at + length (text_of (carrying j [])) ≤ room → (writable (Instructions j) ≡ true) × (at + 23 ≤ room)
+  carry-fits most at room h = (writable-value (Instructions j) j (omega arith) ∙ le-leb 1 j (omega arith), omega (arith, ap length (carry-text j some), chars-length (Instructions j)))
 
-  pub a-carry : {at end : ℕ} {before after : List ℕ} → Lays at chars before end after → Lays at (text_of (carrying j [])) before end after
-  a-carry {at} w = lays_as at (is ∙ sym (carry-text j some)) w
+  pub a-carry : {at end : ℕ} {before after : List ℕ} → Lays at (write_chars (Instructions j)) before end after → Lays at (text_of (carrying j [])) before end after
+  a-carry {at} w = lays_as at (sym (carry-text j some)) w
 
 pub no_cost : (v j at : ℕ) (out : List ℕ) → v ≡ 0 → Lays at (text_of (summed v j [])) out at out
 no_cost v j at out e = subst (λ (k : ℕ). Lays at (text_of (summed k j [])) out at out) (sym e) (lays_nothing at out)
@@ -126,18 +113,18 @@ cost-text zero j n = absurd (n refl)
 cost-text (suc v) j n = refl
 
 -- a cost line, and its instructions behind it
-module _ {chars : List ℕ} (v j : ℕ) (some : v ≡ 0 → ⊥) (is : chars ≡ write_chars (Cost v)) (at : ℕ) (before : List ℕ) (h : at + length (text_of (summed v j [])) ≤ length before) where
-  wide : length chars ≡ 23
-  wide = ap length is ∙ chars-length (Cost v)
+module _ (v j : ℕ) (some : v ≡ 0 → ⊥) (at : ℕ) (before : List ℕ) (h : at + length (text_of (summed v j [])) ≤ length before) where
+  abbrev chars : List ℕ
+  chars = write_chars (Cost v)
 
   both : chars ++ text_of (carrying j []) ≡ text_of (summed v j [])
-  both = ap (λ (l : List ℕ). l ++ text_of (carrying j [])) is ∙ sym (cost-text v j some)
+  both = sym (cost-text v j some)
 
   all-fits : at + length chars + length (text_of (carrying j [])) ≤ length before
   all-fits = omega (arith, ap length both, length-append chars (text_of (carrying j [])))
 
-  pub cost-fits : (length chars ≡ 23) × (at + 23 ≤ length before)
-  cost-fits = (wide, omega (arith, wide, all-fits))
+  pub cost-fits : v ≤ most_value → (writable (Cost v) ≡ true) × (at + 23 ≤ length before)
+  cost-fits most = (writable-value (Cost v) v (omega arith) ∙ le-leb 1 v (omega arith), omega (arith, chars-length (Cost v), all-fits))
 
   pub behind-fits : {end : ℕ} {after : List ℕ} → Lays at chars before end after → length after ≡ length before → end + length (text_of (carrying j [])) ≤ length after
   behind-fits w e = omega (arith, all-fits, w.ends)
@@ -147,20 +134,20 @@ module _ {chars : List ℕ} (v j : ℕ) (some : v ≡ 0 → ⊥) (is : chars ≡
 
 -- a piece that goes or not
 module _ (goes : Bool) (piece : List ℕ) where
-  pub not_going : not goes ≡ true → (at : ℕ) (out : List ℕ) → Lays at (cond goes piece []) out at out
-  not_going e at out = subst (λ (b : Bool). Lays at (cond b piece []) out at out) (sym (not-true goes e)) (lays_nothing at out)
+  pub not_going : goes ≡ false → (at : ℕ) (out : List ℕ) → Lays at (cond goes piece []) out at out
+  not_going e at out = subst (λ (b : Bool). Lays at (cond b piece []) out at out) (sym e) (lays_nothing at out)
 
-  going : not goes ≡ false → piece ≡ cond goes piece []
-  going e = sym (ap (λ (b : Bool). cond b piece []) (not-false goes e))
+  going : goes ≡ true → piece ≡ cond goes piece []
+  going e = sym (ap (λ (b : Bool). cond b piece []) e)
 
-  pub goes_fits : not goes ≡ false → (at room : ℕ) → at + length (cond goes piece []) ≤ room → at + length piece ≤ room
+  pub goes_fits : goes ≡ true → (at room : ℕ) → at + length (cond goes piece []) ≤ room → at + length piece ≤ room
   goes_fits e at room h = omega (arith, ap length (going e))
 
-  pub goes_laid : not goes ≡ false → {at end : ℕ} {before after : List ℕ} → Lays at piece before end after → Lays at (cond goes piece []) before end after
+  pub goes_laid : goes ≡ true → {at end : ℕ} {before after : List ℕ} → Lays at piece before end after → Lays at (cond goes piece []) before end after
   goes_laid e {at} w = lays_as at (going e) w
 
 -- the 23 characters that are cut out of the text are those of line n
-module _ (s : List ℕ) (n : ℕ) (whole : Whole s n) (goes : Bool) (e : not goes ≡ false) where
+module _ (s : List ℕ) (n : ℕ) (whole : Whole s n) (goes : Bool) (e : goes ≡ true) where
   abbrev cut : List ℕ
   cut = mid_of (23 * n) (23 * n + 23 - 23 * n) s
 
@@ -231,20 +218,11 @@ cost_carries (Instructions v) u = refl
 cost_carries (Async s) u = refl
 cost_carries Finish u = refl
 
--- what is read of line n is its item, and the step by it is that at line n
-pub item-is : (s : List ℕ) (n kind v : ℕ) (i : Instructions') → kind ≡ kind_at s n → v ≡ value_at s n → i.0 ≡ carried_at s n kind → record { kind = kind; cycles = cycles v; instructions = i } ≡ item_at s n
-item-is s n kind v i k w c =
-    ap (λ (x : ℕ). read kind v x) (c ∙ ap (carried_at s n) k)
-    ∙ ap (λ (x : ℕ). read x v (carried_at s n (kind_at s n))) k
-    ∙ ap (λ (x : ℕ). read (kind_at s n) x (carried_at s n (kind_at s n))) w
-  where
-    read : ℕ → ℕ → ℕ → Item
-    read kind v i = record { kind = kind; cycles = cycles v; instructions = instructions i }
-
+-- the step by the item of line n is that at line n
 pub given_is : (s : List ℕ) (n : ℕ) (a : State) (i : Item) (g : Given) → i ≡ item_at s n → g ≡ step i.kind i.cycles i.instructions a → g ≡ stepped_at s n a
 given_is s n a i g e h = h ∙ ap (λ (x : Item). step x.kind x.cycles x.instructions a) e
 
-module _ (s : List ℕ) (n : ℕ) (f : Frame) (reads : read_at s n ≡ Line n f) where
+module _ (s : List ℕ) (n : ℕ) (f : Frame) (reads : read_at s n ≡ says n f) where
   -- its kind, its value and the line behind it tell the step
   step_is : (u : List Frame) (a : State) → Stands Base s (n + 1) u → n + 1 + length u ≡ line_count s → stepped_at s n a ≡ stepped a f u
   step_is u a h e =

@@ -8,10 +8,9 @@ use Prim.Native.Nat.{ℕ, zero, suc, ◌+◌, ◌≤◌}
 use native.Mathlib.Omega.{arith}
 use lib.ListN.{length}
 use borrow.Author.Tests.{le-leb}
-use Rattle.line.specs.declared.Family.TheVariants.{Base}
+use Rattle.line.specs.Family.{Base}
 use Rattle.line.specs.declared.Frame.{Frame}
 use Rattle.line.specs.declared.Frame.TheVariants.{Site, Call, Spawn, Sync, Return, Cost, Instructions, Async, Finish}
-use Rattle.line.specs.declared.Wrote.{Wrote}
 use Rattle.line.specs.Write.{writable}
 use Rattle.line.proofs.Writable.{writable-value}
 use Rattle.trace.specs.Rows.{carried}
@@ -22,7 +21,7 @@ use Rattle.trace.proofs.Scan.{Fine, accepted-fine, accepted-same, accepted-lengt
 use Rattle.trace.proofs.Parse.{parts}
 use Rattle.trace.proofs.Written.{Writable, text-length, text-accepted, accepted-writable}
 use Rattle.trace.proofs.Owned.{Owned, accepted-owned}
-use Rattle.report.specs.Room.{Writes}
+use Rattle.report.specs.Room.{Writes, Wrote}
 use Rattle.report.proofs.Decisions.{one-outcome}
 use Rattle.compact.specs.Compact.{most_value, both_fit, carrying, summed, merged_from, Compacted}
 use Rattle.compact.specs.Promise.{shelved, Shelved, Compacts}

@@ -4,7 +4,7 @@ use mathlib.Core.Bool.{Bool, true, false, cond}
 use Prim.Native.Nat.{ℕ, zero, suc, ◌+◌, ◌≤◌}
 use native.Mathlib.Omega.{arith}
 use Rattle.chain.specs.Plan.{CostLine, Plan, none, cost, seq, weight, pick}
-use Rattle.line.specs.declared.Family.TheVariants.{Base}
+use Rattle.line.specs.Family.{Base}
 use Rattle.trace.specs.Tree.{call, spawn, async, pass, finish, Note, site, carry, spend, sync, note, Body, done, leaf, child, Of, ahead, size, span_of}
 use Rattle.trace.specs.Fold.{cost_at, block, after, plan, chain_of, on_row}
 use Rattle.trace.proofs.Basics.{clash}

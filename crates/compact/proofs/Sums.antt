@@ -6,7 +6,7 @@ use mathlib.Core.Bool.{Bool, true, false, not, cond, ◌||◌, ◌&&◌}
 use Prim.Native.Nat.{ℕ, zero, suc, ◌+◌, ◌≤◌}
 use native.Mathlib.Omega.{arith}
 use lib.Dec.{eqb}
-use Rattle.line.specs.declared.Family.TheVariants.{Base}
+use Rattle.line.specs.Family.{Base}
 use Rattle.trace.specs.Tree.{invokes, site, carry, spend, sync, note, Body, done, leaf, child, Of, ahead, size, Within, work_of, direct_of, local_of, ilocal_of, made_sum, outer_sum}
 use Rattle.trace.specs.Fold.{cost_at}
 use Rattle.trace.proofs.Recurrence.{Paid}

@@ -7,23 +7,22 @@ use native.Mathlib.Omega.{arith}
 use lib.Dec.{leb}
 use lib.ListN.{length, drop}
 use borrow.Author.Tests.{leb-true, leb-false}
-use Rattle.line.specs.declared.Family.TheVariants.{Base}
+use Rattle.std.specs.Prelude.{Ok, Err}
+use Rattle.line.specs.Family.{Base}
 use Rattle.line.specs.declared.Frame.{Frame}
-use Rattle.line.specs.declared.Read.TheVariants.{Line}
-use Rattle.line.specs.declared.Wrote.{Wrote}
-use Rattle.line.specs.declared.Wrote.TheVariants.{Chars, Refused}
-use Rattle.line.specs.Read.{read_at}
+use Rattle.line.specs.Read.{read_at, says}
+use Rattle.line.specs.Refusal.{refusal}
 use Rattle.trace.specs.Refusals.{accepted, verdict}
 use Rattle.trace.specs.Written.{text_of}
 use Rattle.trace.proofs.Basics.{clash}
 use Rattle.trace.proofs.Scan.{Fine, accepted-fine, accepted-same, accepted-reads, accepted-length}
 use Rattle.trace.proofs.Written.{Writable, text-length, accepted-writable}
-use Rattle.admit.specs.declared.Verdict.TheVariants as Verdict
+use Rattle.admit.specs.declared.Accepted.{Accepted}
 use Rattle.admit.specs.Answer.{answer_of}
-use Rattle.admit.proofs.Admitted.{refused-only, accepted-only}
+use Rattle.admit.proofs.Admitted.{accepted-only}
 use Rattle.walk.specs.Stands.{Stands}
 use Rattle.walk.proofs.Stands.{stands-all}
-use Rattle.report.specs.Room.{fitting, Writes, Lays}
+use Rattle.report.specs.Room.{fitting, Writes, Lays, Wrote}
 use Rattle.report.proofs.Decisions.{written, fitting_short, fitting-text}
 use Rattle.report.proofs.Decisions.{refused as refused-so}
 use Rattle.report.proofs.Laying.{laid-front}
@@ -51,7 +50,7 @@ module _ (s : List ℕ) (D M : ℕ) (t : List Frame) (e : verdict s D M true ≡
   writable = subst Writable (sym outs_are) (compact-writable t (accepted-writable s D M true t e))
 
   stands : Stands Base s 0 t
-  stands = stands-all Base s t 0 (λ i f h. let z : i ≡ 0 + i = omega arith in subst (λ (k : ℕ). read_at s k ≡ Line k f) z (accepted-reads s D M true t e i f h))
+  stands = stands-all Base s t 0 (λ i f h. let z : i ≡ 0 + i = omega arith in subst (λ (k : ℕ). read_at s k ≡ says k f) z (accepted-reads s D M true t e i f h))
 
   abbrev lines : (n : ℕ) → length t ≡ n → Lines s n
   lines n l =
@@ -69,22 +68,14 @@ module _ (s : List ℕ) (D M : ℕ) (t : List Frame) (e : verdict s D M true ≡
 -- ── what is answered and left ──
 
 module _ (s : List ℕ) (D M : ℕ) (out : List ℕ) where
-  pub refused_compacts : (number line : ℕ) → Verdict.Refused number line ≡ answer_of (verdict s D M true) → Compacts s D M (Refused number line) out out
-  refused_compacts number line e =
-      let v = refused-only (verdict s D M true) number line e in
-      record {
-        when_accepted = λ t k. clash (let z = sym v ∙ k in cc);
-        when_refused = λ a b k. let z = sym v ∙ k in refused-so number line out (let x : number ≡ a = cc in let y : line ≡ b = cc in cc);
-      }
+  pub admitted : (a : Accepted) → Ok a ≡ answer_of (verdict s D M true) → Lines s a.lines
+  admitted a e = let x = accepted-only (verdict s D M true) a e in lines s D M x.0 x.1 a.lines x.3
 
-  pub admitted : (m n : ℕ) → Verdict.Accepted m n ≡ answer_of (verdict s D M true) → Lines s n
-  admitted m n e = let x = accepted-only (verdict s D M true) m n e in lines s D M x.0 x.1 n x.3
-
-  pub accepted_compacts : (m n : ℕ) (r : Wrote) (after : List ℕ) → Verdict.Accepted m n ≡ answer_of (verdict s D M true) → Ends s n r out after → Compacts s D M r out after
-  accepted_compacts m n r after e h =
-      let x = accepted-only (verdict s D M true) m n e in
+  pub accepted_compacts : (a : Accepted) (r : Wrote) (after : List ℕ) → Ok a ≡ answer_of (verdict s D M true) → Ends s a.lines r out after → Compacts s D M r out after
+  accepted_compacts a r after e h =
+      let x = accepted-only (verdict s D M true) a e in
       let t = x.0 in
-      let w = h (lines s D M t x.1 n x.3) in
+      let w = h (lines s D M t x.1 a.lines x.3) in
       let done : Shelved t r out after = record {
         result = compact t;
         compacted = compact-is t;
@@ -102,13 +93,13 @@ module _ {s : List ℕ} {n : ℕ} (q : Lines s n) where
   text = text_of (outs start q.frames)
 
   module _ (out : List ℕ) (b : Bool) (is : b ≡ leb (length text) (length out)) where
-    pub short_21 : b ≡ false → Writes (fitting 21 text (length out)) (Refused 21 0) out out
+    pub short_21 : b ≡ false → Writes (fitting 21 text (length out)) (Err (refusal 21 0)) out out
     short_21 h = refused-so 21 0 out (fitting_short 21 text (length out) (leb-false (length text) (length out) (sym is ∙ h)))
 
     abbrev pub fits : b ≡ true → Fits s n (length out)
     fits h = record { trace = q; fits = leb-true (length text) (length out) (sym is ∙ h) }
 
-    pub all-written : b ≡ true → (r : ℕ) (after : List ℕ) → Lays 0 text out r after → Writes (fitting 21 text (length out)) (Chars r) out after
+    pub all-written : b ≡ true → (r : ℕ) (after : List ℕ) → Lays 0 text out r after → Writes (fitting 21 text (length out)) (Ok r) out after
     all-written h r after w =
         let l : length text ≡ r = omega (arith, w.ends) in
         written text out after r (fitting-text 21 text (length out) (leb-true (length text) (length out) (sym is ∙ h))) l

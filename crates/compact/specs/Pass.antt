@@ -1,11 +1,10 @@
 -- For proofs and code, not for the reader of document 02: what both passes over a trace ask, and what they leave.
 use Rattle.std.specs.Prelude.{ℕ, ◌*◌, ◌≤◌, ◌≡◌, cond, List, eqb, length}
-use Rattle.line.specs.declared.Family.TheVariants.{Base}
+use Rattle.line.specs.Family.{Base}
 use Rattle.line.specs.declared.Frame.{Frame}
-use Rattle.line.specs.declared.Wrote.{Wrote}
 use Rattle.trace.specs.Refusals.{line_count}
 use Rattle.trace.specs.Written.{text_of}
-use Rattle.report.specs.Room.{fitting, Writes, Lays}
+use Rattle.report.specs.Room.{fitting, Writes, Lays, Wrote}
 use Rattle.line.specs.At.{kind_at, value_at}
 use Rattle.walk.specs.Stands.{Stands}
 use Rattle.walk.specs.Measure.{cycles, instructions}

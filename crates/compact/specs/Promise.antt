@@ -1,10 +1,9 @@
 -- What the compactor answers and leaves: the compacted trace's lines, or a refusal.
 use Rattle.std.specs.Prelude.{ℕ, ◌≡◌, true, List, length}
 use Rattle.line.specs.declared.Frame.{Frame}
-use Rattle.line.specs.declared.Wrote.{Wrote}
 use Rattle.trace.specs.Refusals.{accepted, refused, verdict}
 use Rattle.trace.specs.Written.{text_of}
-use Rattle.report.specs.Room.{Decision, refuse, fitting, Writes}
+use Rattle.report.specs.Room.{Decision, refuse, fitting, Writes, Wrote}
 use Rattle.compact.specs.Compact.{Compacted}
 
 -- "Its lines are as the line writer gives them"; "21 output shorter than the result, line 0, nothing written"

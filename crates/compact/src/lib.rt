@@ -11,7 +11,7 @@ ghost use Rattle.compact.specs.Machine.{start, outs};
 ghost use Rattle.compact.specs.Pass.{carried_at, item_at, Lines, Fits, Leaves, Ends};
 ghost use Rattle.compact.specs.Promise.{Compacts};
 
-use line::{LINE, Wrote};
+use line::{LINE, Refusal};
 use step::{Item, State};
 use walk::{Cycles, Instructions};
 
@@ -21,9 +21,10 @@ fn carried(trace: &[u8], n: usize, kind: u8) -> Instructions
     ensures { result.0 ≡ carried_at trace.now n kind }
 {
     if kind == 6 {
-        return walk::instructions_at(trace, n);
+        walk::instructions_at(trace, n)
+    } else {
+        Instructions(0)
     }
-    Instructions(0)
 }
 
 // What line n tells the step. Reading and step stay two functions: each is short enough for the compiler to put it into both
@@ -32,7 +33,7 @@ fn item(trace: &[u8], n: usize) -> Item
     requires { n + 1 < 2 ^ 64 }
     ensures { result ≡ item_at trace.now n }
 {
-    let kind = line::kind_at(trace, n);
+    let kind = line::kind_at::<line::Base>(trace, n);
     let cycles = Cycles(line::value_at(trace, n) as u64);
     let instructions = carried(trace, n, kind);
     Item {
@@ -49,12 +50,10 @@ fn count(trace: &[u8], lines: usize) -> usize
 {
     let mut s = State::new();
     let mut total = 0;
-    let mut n = 0;
-    while n < lines {
+    for n in 0..lines {
         let g = s.step(item(trace, n));
         total += put::size(g);
         s = g.next;
-        n += 1;
     }
     total
 }
@@ -66,12 +65,10 @@ fn write(trace: &[u8], lines: usize, out: &mut [u8]) -> usize
 {
     let mut s = State::new();
     let mut at = 0;
-    let mut n = 0;
-    while n < lines {
+    for n in 0..lines {
         let g = s.step(item(trace, n));
         at = put::lines(trace, n, out, at, g);
         s = g.next;
-        n += 1;
     }
     at
 }
@@ -81,30 +78,25 @@ fn fits(trace: &[u8], lines: usize, room: usize) -> bool
     requires { Lines trace.now lines }
     ensures { (q : Lines trace.now lines) → result ≡ leb (length (text_of (outs start q.frames))) room }
 {
-    if trace.len() <= room {
-        return true;
-    }
-    LINE * count(trace, lines) <= room
+    trace.len() <= room || LINE * count(trace, lines) <= room
 }
 
 // The trace is accepted: 21 for output shorter than the result.
-fn accepted(trace: &[u8], lines: usize, out: &mut [u8]) -> Wrote
+fn accepted(trace: &[u8], lines: usize, out: &mut [u8]) -> Result<usize, Refusal>
     requires { Lines trace.now lines }
     ensures { Ends trace.now lines result out.old out.new }
 {
     if !fits(trace, lines, out.len()) {
-        return Wrote::Refused(21, 0);
+        return Err(trace::refused(21));
     }
-    Wrote::Chars(write(trace, lines, out))
+    Ok(write(trace, lines, out))
 }
 
 // Writes any text, with any limits, without the lines that say nothing to the front of any output, or refuses: as the
 // engines do, with no room asked but the output, then 21 for output shorter than the result.
-pub fn compact(trace: &[u8], depth: usize, sites: usize, out: &mut [u8]) -> Wrote
+pub fn compact(trace: &[u8], depth: usize, sites: usize, out: &mut [u8]) -> Result<usize, Refusal>
     ensures { Compacts trace.now depth sites result out.old out.new }
 {
-    match admit::with_room(trace, depth, sites, true) {
-        admit::Verdict::Accepted(_, lines) => accepted(trace, lines, out),
-        admit::Verdict::Refused(number, line) => Wrote::Refused(number, line),
-    }
+    let admitted = admit::with_room(trace, depth, sites, true)?;
+    accepted(trace, admitted.lines, out)
 }

@@ -1,26 +1,27 @@
 // The lines that go out, laid into the output one behind the other. Each leaf answers the place behind its lines.
-ghost use Rattle.std.specs.Prelude.{◌≡◌, cond, [], ◌+◌, ◌*◌, ◌≤◌, length};
+ghost use Rattle.std.specs.Prelude.{◌≡◌, true, cond, [], ◌+◌, ◌*◌, ◌≤◌, length};
 ghost use Rattle.digits.specs.Digits.{small, small_form};
 ghost use Rattle.line.specs.declared.Frame.TheVariants.{Sync};
 ghost use Rattle.line.specs.Read.{width, line_at};
-ghost use Rattle.line.specs.Write.{write_chars};
+ghost use Rattle.line.specs.Write.{writable, write_chars};
 ghost use Rattle.trace.specs.Written.{text_of};
 ghost use Rattle.report.specs.Room.{Lays};
 ghost use Rattle.walk.specs.Stands.{Whole};
 ghost use Rattle.compact.specs.Compact.{most_value, carrying, summed};
-ghost use Rattle.compact.specs.Machine.{bit, pair_size, size_of, pieces, Fitting};
+ghost use Rattle.compact.specs.Machine.{pair_size, size_of, pieces, Fitting};
 
 use crate::step::Given;
-use line::{Frame, LINE, Written};
+use line::{Frame, LINE};
 use report::lay;
 use walk::{Cycles, Instructions};
 
-// What the line writer gave. An array in a struct has no known length, so it is asked.
-fn written(out: &mut [u8], at: usize, w: Written) -> usize
-    requires { (length w.chars ≡ width) × (at + width ≤ length out.old) }
-    ensures { Lays at w.chars out.old result out.new }
+// The line of a frame that has one.
+#[inline(always)]
+fn frame(out: &mut [u8], at: usize, frame: Frame) -> usize
+    requires { (writable frame ≡ true) × (at + width ≤ length out.old) }
+    ensures { Lays at (write_chars frame) out.old result out.new }
 {
-    let chars = w.chars;
+    let chars = line::write_line::<line::Base>(frame).unwrap();
     lay::text(out, at, &chars)
 }
 
@@ -32,7 +33,7 @@ fn carrying(out: &mut [u8], at: usize, i: Instructions) -> usize
     if i.0 == 0 {
         return at;
     }
-    written(out, at, line::write_line(Frame::Instructions(i.0 as u32)))
+    frame(out, at, Frame::Instructions(i.0 as u32))
 }
 
 // A cost line with its instructions behind it, unless the cost is 0.
@@ -43,7 +44,7 @@ fn cost(out: &mut [u8], at: usize, v: Cycles, i: Instructions) -> usize
     if v.0 == 0 {
         return at;
     }
-    let end = written(out, at, line::write_line(Frame::Cost(v.0 as u32)));
+    let end = frame(out, at, Frame::Cost(v.0 as u32));
     carrying(out, end, i)
 }
 
@@ -55,20 +56,17 @@ fn sync(out: &mut [u8], at: usize, goes: bool) -> usize
     if !goes {
         return at;
     }
-    written(out, at, line::write_line(Frame::Sync))
+    frame(out, at, Frame::Sync)
 }
 
-// A digit with a small letter for a capital one; any other character as it is.
+// A digit with a small letter for a capital one; any other character as it is (`to_ascii_lowercase` would turn G to Z too).
 fn small(c: u8) -> u8
     ensures { result ≡ small c }
 {
-    if c < b'A' {
-        return c;
+    match c {
+        b'A'..=b'F' => c + 32,
+        _ => c,
     }
-    if b'F' < c {
-        return c;
-    }
-    c + 32
 }
 
 // Fills a part with characters in small letters.
@@ -76,10 +74,8 @@ fn small_letters(to: &mut [u8], from: &[u8])
     requires { length to.old ≡ length from.now }
     ensures { to.new ≡ small_form from.now }
 {
-    let mut i = 0;
-    while i < from.len() {
-        to[i] = small(from[i]);
-        i += 1;
+    for (i, c) in from.iter().enumerate() {
+        to[i] = small(*c);
     }
 }
 
@@ -117,23 +113,15 @@ pub(crate) fn lines(trace: &[u8], n: usize, out: &mut [u8], at: usize, g: Given)
     itself(trace, n, out, b, g.line)
 }
 
-fn one(b: bool) -> usize
-    ensures { (result ≡ bit b) × (result ≤ 1) }
-{
-    if b {
-        return 1;
-    }
-    0
-}
-
 // How many lines a cost with its instructions is.
 fn cost_size(v: Cycles, i: Instructions) -> usize
     ensures { (result ≡ pair_size v.0 i.0) × (result ≤ 2) }
 {
     if v.0 == 0 {
-        return 0;
+        0
+    } else {
+        1 + usize::from(i.0 != 0)
     }
-    1 + one(i.0 != 0)
 }
 
 // How many lines go out at a line.
@@ -141,7 +129,5 @@ pub(crate) fn size(g: Given) -> usize
     ensures { result ≡ size_of g }
 {
     let cost = cost_size(g.cost, g.instructions);
-    let sync = one(g.sync);
-    let line = one(g.line);
-    cost + (sync + line)
+    cost + (usize::from(g.sync) + usize::from(g.line))
 }

@@ -1,9 +1,9 @@
 // What is held back behind a line, and what goes out at one. In a run of syncs only the first can stay, so at most one is
 // held, and it waits for a line that is not a return.
 ghost use Rattle.std.specs.Prelude.{◌≡◌, ◌+◌, ◌^◌, ◌<◌};
-ghost use Rattle.compact.specs.Machine.{start, silent, flushed, entered, left, waiting, alone, together, spent, step, Ready};
+ghost use Rattle.compact.specs.Machine.{nothing, start, silent, flushed, entered, left, waiting, alone, together, spent, step, Ready};
 
-use walk::{Cycles, Instructions};
+use walk::{Cycles, Instructions, Measure};
 
 // Of the invocations around the innermost one, a bit each, the innermost lowest: has it spawned since its start or last
 // sync? Has the innermost one? Does a sync wait? And the sum of the costs before that sync and that of their instructions,
@@ -37,17 +37,24 @@ pub struct Given {
 }
 
 impl State {
-    // Before the first line.
-    pub(crate) fn new() -> State
-        ensures { result ≡ start }
+    // Nothing is held.
+    fn nothing(around: u64, spawned: bool) -> State
+        ensures { result ≡ nothing around spawned }
     {
         State {
-            around: 0,
-            spawned: false,
+            around,
+            spawned,
             sync: false,
             held: Cycles(0),
             carried: Instructions(0),
         }
+    }
+
+    // Before the first line.
+    pub(crate) fn new() -> State
+        ensures { result ≡ start }
+    {
+        State::nothing(0, false)
     }
 
     // Nothing goes out, and this is held back.
@@ -67,21 +74,12 @@ impl State {
     fn flush(self, around: u64, spawned: bool, sync: bool) -> Given
         ensures { result ≡ flushed around spawned sync self }
     {
-        let cost = self.held;
-        let instructions = self.carried;
-        let next = State {
-            around,
-            spawned,
-            sync: false,
-            held: Cycles(0),
-            carried: Instructions(0),
-        };
         Given {
-            cost,
-            instructions,
+            cost: self.held,
+            instructions: self.carried,
             sync,
             line: true,
-            next,
+            next: State::nothing(around, spawned),
         }
     }
 
@@ -90,10 +88,8 @@ impl State {
         requires { self.around < 2 ^ 63 }
         ensures { result ≡ entered spawns self }
     {
-        if spawns | self.spawned {
-            return self.flush(self.around * 2 + 1, false, self.sync);
-        }
-        self.flush(self.around * 2, false, self.sync)
+        let bit = u64::from(spawns | self.spawned);
+        self.flush(self.around * 2 + bit, false, self.sync)
     }
 
     // A return.
@@ -107,14 +103,10 @@ impl State {
     fn wait(self) -> Given
         ensures { result ≡ waiting self }
     {
-        let held = self.held;
-        let carried = self.carried;
         let next = State {
-            around: self.around,
             spawned: false,
             sync: self.spawned | self.sync,
-            held,
-            carried,
+            ..self
         };
         next.keep()
     }
@@ -123,21 +115,17 @@ impl State {
     fn start_cost(self, v: Cycles, i: Instructions) -> Given
         ensures { result ≡ alone v i self }
     {
-        let cost = self.held;
-        let instructions = self.carried;
-        let next = State {
-            around: self.around,
-            spawned: self.spawned,
-            sync: false,
-            held: v,
-            carried: i,
-        };
         Given {
-            cost,
-            instructions,
+            cost: self.held,
+            instructions: self.carried,
             sync: self.sync,
             line: false,
-            next,
+            next: State {
+                sync: false,
+                held: v,
+                carried: i,
+                ..self
+            },
         }
     }
 
@@ -146,14 +134,11 @@ impl State {
         requires { (self.held.0 + v.0 < 2 ^ 64) × (self.carried.0 + i.0 < 2 ^ 64) }
         ensures { result ≡ together v i self }
     {
-        let held = self.held;
-        let carried = self.carried;
         let next = State {
-            around: self.around,
-            spawned: self.spawned,
             sync: false,
-            held: held.plus(v),
-            carried: carried.plus(i),
+            held: self.held.plus(v),
+            carried: self.carried.plus(i),
+            ..self
         };
         next.keep()
     }
@@ -163,13 +148,7 @@ impl State {
         requires { Ready self }
         ensures { result ≡ spent v i self }
     {
-        if self.sync {
-            return self.start_cost(v, i);
-        }
-        if v.0 > 4294967295 - self.held.0 {
-            return self.start_cost(v, i);
-        }
-        if i.0 > 4294967295 - self.carried.0 {
+        if self.sync || v.0 > 4294967295 - self.held.0 || i.0 > 4294967295 - self.carried.0 {
             return self.start_cost(v, i);
         }
         self.add_cost(v, i)
@@ -180,25 +159,14 @@ impl State {
         requires { Ready self }
         ensures { result ≡ step item.kind item.cycles item.instructions self }
     {
-        let kind = item.kind;
-        if kind == 7 {
-            return self.keep();
+        match item.kind {
+            7 => self.keep(),
+            6 => self.spend(item.cycles, item.instructions),
+            5 => self.leave(),
+            4 => self.wait(),
+            3 => self.enter(true),
+            2 => self.enter(false),
+            _ => self.flush(self.around, self.spawned, self.sync),
         }
-        if kind == 6 {
-            return self.spend(item.cycles, item.instructions);
-        }
-        if kind == 5 {
-            return self.leave();
-        }
-        if kind == 4 {
-            return self.wait();
-        }
-        if kind == 3 {
-            return self.enter(true);
-        }
-        if kind == 2 {
-            return self.enter(false);
-        }
-        self.flush(self.around, self.spawned, self.sync)
     }
 }

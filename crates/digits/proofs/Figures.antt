@@ -101,7 +101,7 @@ behind-figures n (c ∷ s) e =
     low n c g h = omega arith
 
 -- how many figures there are: at least one, at most n, and the number has room in them
-sizes-low : (n x : ℕ) → x < 10 → sizes (suc n) x ≡ 1
+pub sizes-low : (n x : ℕ) → x < 10 → sizes (suc n) x ≡ 1
 sizes-low n x h = simp (lt-ltb x 10 h)
 
 sizes_high : (n x : ℕ) → 10 ≤ x → sizes (suc n) x ≡ suc (sizes n (x / 10))
@@ -151,7 +151,7 @@ sized (suc n) x p h = go (dec_lt x 10) (λ q. sized n (x / 10) (one_left n x h q
         })
 
 -- a number from 10 ^ k on and below 10 ^ (k + 1) has k + 1 figures
-sizes-at : (k n x : ℕ) → k < n → 10 ^ k ≤ x → x < 10 ^ suc k → sizes n x ≡ suc k
+pub sizes-at : (k n x : ℕ) → k < n → 10 ^ k ≤ x → x < 10 ^ suc k → sizes n x ≡ suc k
 sizes-at k zero x p a b = absurd (omega arith)
 sizes-at zero (suc n) x p a b = sizes-low n x (omega arith)
 sizes-at (suc k) (suc n) x p a b =

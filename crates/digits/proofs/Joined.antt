@@ -1,6 +1,6 @@
 -- Eight characters taken for digits at once, and the digits joined by two, by four and by eight.
 -- Assumes nothing.
-use Rattle.std.proofs.Common.{◌≡◌, ℕ, ◌+◌, ◌-◌, ◌*◌, ◌/◌, ◌%◌, ◌^◌, ◌<◌, ◌≤◌, eqb, get_or, sym, refl, ap, ◌∙◌, ap₂, lt_of_lt_of_le, le-add_right, mod-lt, arith, pow_pos, pow_mono, eqb-true}
+use Rattle.std.proofs.Common.{◌≡◌, ℕ, ◌+◌, ◌-◌, ◌*◌, ◌/◌, ◌%◌, ◌^◌, ◌<◌, eqb, get_or, sym, refl, ap, ◌∙◌, ap₂, lt_of_lt_of_le, le-add_right, mod-lt, arith, pow_pos, pow_mono, eqb-true}
 use lib.Bits.{bit_and, and_block, and_mask, and_le_r}
 use lib.Pow.{split, mod-mod-pow, ones_lt, low as low_part}
 use Rattle.digits.specs.Word.{plain, plainly, chars}
@@ -26,20 +26,6 @@ fours x = bit_and (256 * x + x / 2 ^ 16) 0x0000_ffff_0000_ffff
 
 abbrev pub eights : ℕ → ℕ
 eights x = bit_and (65536 * x + x / 2 ^ 32) 0xffff_ffff
-
--- each mask bounds what it keeps
-module _ (w : ℕ) where
-  pub ones-room : ones w ≤ lows
-  ones-room = and_le_r (bit_and w lows + 9 * (bit_and w highs / 2 ^ 6)) lows
-
-  pub twos-room : twos (ones w) ≤ 0x00ff_00ff_00ff_00ff
-  twos-room = and_le_r (16 * ones w + ones w / 2 ^ 8) 0x00ff_00ff_00ff_00ff
-
-  pub fours-room : fours (twos (ones w)) ≤ 0x0000_ffff_0000_ffff
-  fours-room = and_le_r (256 * twos (ones w) + twos (ones w) / 2 ^ 16) 0x0000_ffff_0000_ffff
-
-  pub eights-room : eights (fours (twos (ones w))) ≤ 0xffff_ffff
-  eights-room = and_le_r (65536 * fours (twos (ones w)) + fours (twos (ones w)) / 2 ^ 32) 0xffff_ffff
 
 -- a byte's four low bits, and its two high bits
 low : (c : ℕ) → bit_and c 15 ≡ c % 16

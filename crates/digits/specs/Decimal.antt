@@ -1,7 +1,6 @@
 -- Decimal numbers: which characters are figures, what figures are worth, which are well written, the figures of a
 -- number, and what reading them gives.
-use Rattle.std.specs.Prelude.{ℕ, zero, suc, ◌+◌, ◌-◌, ◌*◌, ◌/◌, ◌%◌, ◌^◌, Bool, true, false, cond, not, ◌&&◌, List, [], ◌∷◌, ◌++◌, ◌==◌, nat_le, nat_lt}
-use Rattle.digits.specs.declared.decimal.Numeral.{Numeral}
+use Rattle.std.specs.Prelude.{ℕ, zero, suc, ◌+◌, ◌-◌, ◌*◌, ◌/◌, ◌%◌, ◌^◌, Bool, true, false, cond, not, ◌&&◌, List, [], ◌∷◌, ◌++◌, ◌==◌, Option, Some, None, nat_le, nat_lt}
 
 -- a decimal digit, here a figure: the characters `0` to `9`, which are 48 to 57
 abbrev pub is_figure : ℕ → Bool
@@ -49,14 +48,14 @@ figures (suc n) x = figures n (x / 10) ++ (48 + x % 10) ∷ []
 unfoldable pub decimal : ℕ → List ℕ
 decimal x = figures (size_of x) x
 
--- what reading gives: a number where a test says so; none, and 0 in its place, where it does not
-abbrev pub given : Bool → ℕ → Numeral
-given b n = cond b (record { good = true; value = n }) (record { good = false; value = 0 })
+-- what reading gives: a number where a test says so, and none where it does not
+abbrev pub given : Bool → ℕ → Option ℕ
+given b n = cond b (Some n) None
 
 -- the number that figures are, whether the first is 0 or not
-abbrev pub value_of : List ℕ → Numeral
+abbrev pub value_of : List ℕ → Option ℕ
 value_of s = given (all_figures s && nat_lt (number s) (2 ^ 64)) (number s)
 
 -- the number that the characters are
-abbrev pub reading : List ℕ → Numeral
+abbrev pub reading : List ℕ → Option ℕ
 reading s = given (is_number s) (number s)

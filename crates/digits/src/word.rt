@@ -3,33 +3,24 @@ ghost use Rattle.std.specs.Prelude.{◌≡◌};
 ghost use Rattle.digits.specs.Digits.{all_digits};
 ghost use Rattle.digits.specs.Word.{plainly, chars, eight_of, four_of};
 
-use crate::read::wide;
-
 // The eight characters lent, as one number; 0 where there are not eight.
 pub fn eight(s: &[u8]) -> u64
     ensures { result ≡ eight_of s.now }
 {
-    if s.len() != 8 {
-        return 0;
+    match *s {
+        [a, b, c, d, e, f, g, h] => u64::from_le_bytes([a, b, c, d, e, f, g, h]),
+        _ => 0,
     }
-    wide(s[0])
-        | (wide(s[1]) << 8)
-        | (wide(s[2]) << 16)
-        | (wide(s[3]) << 24)
-        | (wide(s[4]) << 32)
-        | (wide(s[5]) << 40)
-        | (wide(s[6]) << 48)
-        | (wide(s[7]) << 56)
 }
 
 // Four characters behind four digits 0, as one number; 0 where there are not four.
 pub fn four(s: &[u8]) -> u64
     ensures { result ≡ four_of s.now }
 {
-    if s.len() != 4 {
-        return 0;
+    match *s {
+        [a, b, c, d] => u64::from_le_bytes([b'0', b'0', b'0', b'0', a, b, c, d]),
+        _ => 0,
     }
-    0x3030_3030 | (wide(s[0]) << 32) | (wide(s[1]) << 40) | (wide(s[2]) << 48) | (wide(s[3]) << 56)
 }
 
 // Whether all eight characters of a word are digits. With the bit of 32 in each, capital letters are small ones.

@@ -7,10 +7,7 @@ pub fn digit(n: u64) -> u8
     ensures { result ≡ digit (n % 16) }
 {
     let d = (n % 16) as u8;
-    if d < 10 {
-        return 48 + d;
-    }
-    87 + d
+    if d < 10 { b'0' + d } else { b'a' + (d - 10) }
 }
 
 // Fills a part with the last digits of x, as many as the part has, most significant first.
@@ -18,10 +15,8 @@ pub fn put_digits(part: &mut [u8], x: u64)
     ensures { part.new ≡ digits (length part.old) x }
 {
     let mut rest = x;
-    let mut i = part.len();
-    while 0 < i {
-        i -= 1;
+    for i in (0..part.len()).rev() {
         part[i] = digit(rest);
-        rest = rest / 16;
+        rest /= 16;
     }
 }

@@ -1,9 +1,10 @@
 -- What a line of each kind does to the open rows, and what it prints. Assumes nothing.
-use Prim.Native.Nat.{ℕ, ◌≤◌, ◌<◌}
+use Prim.Native.Nat.{ℕ, ◌≤◌}
 use mathlib.Core.List.{List, [], ◌∷◌, ◌++◌}
 use mathlib.Core.Path.{◌≡◌, refl}
+use Rattle.std.proofs.Common.{◌≢◌}
 use native.Mathlib.Omega.{arith}
-use Rattle.line.specs.declared.Family.TheVariants.{Base}
+use Rattle.line.specs.Family.{Base}
 use Rattle.line.specs.declared.Frame.{Frame}
 use Rattle.line.specs.declared.Frame.TheVariants.{Site, Call, Spawn, Sync, Return, Cost, Instructions, Async, Finish}
 use Rattle.trace.specs.Shape.{closed}
@@ -41,37 +42,26 @@ module _ (name : ℕ → List ℕ) (o : List ℕ) where
   a_return (Async s) e = absurd (omega arith)
   a_return Finish e = absurd (omega arith)
 
-  -- a sync, or a cost's instructions
-  pub a-passed : (f : Frame) → InTable Base f → (kind_of f ≡ 6 → ⊥) → (kind_of f ≡ 5 → ⊥) → 3 < kind_of f → Does name f o o []
-  a-passed (Site s p) t a b e = absurd (omega arith)
-  a-passed (Call s) t a b e = absurd (omega arith)
-  a-passed (Spawn s) t a b e = absurd (omega arith)
-  a-passed Sync t a b e = record { shifts = refl; prints = refl }
-  a-passed Return t a b e = absurd (b refl)
-  a-passed (Cost v) t a b e = absurd (a refl)
-  a-passed (Instructions v) t a b e = record { shifts = refl; prints = refl }
-  a-passed (Async s) t a b e = absurd t
-  a-passed Finish t a b e = absurd t
+  -- a site line, a sync, or a cost's instructions
+  pub a-passed : (f : Frame) → InTable Base f → kind_of f ≢ 6 → kind_of f ≢ 5 → kind_of f ≢ 2 → kind_of f ≢ 3 → Does name f o o []
+  a-passed (Site s p) t n6 n5 n2 n3 = record { shifts = refl; prints = refl }
+  a-passed (Call s) t n6 n5 n2 n3 = absurd (n2 refl)
+  a-passed (Spawn s) t n6 n5 n2 n3 = absurd (n3 refl)
+  a-passed Sync t n6 n5 n2 n3 = record { shifts = refl; prints = refl }
+  a-passed Return t n6 n5 n2 n3 = absurd (n5 refl)
+  a-passed (Cost v) t n6 n5 n2 n3 = absurd (n6 refl)
+  a-passed (Instructions v) t n6 n5 n2 n3 = record { shifts = refl; prints = refl }
+  a-passed (Async s) t n6 n5 n2 n3 = absurd t
+  a-passed Finish t n6 n5 n2 n3 = absurd t
 
-  pub a-site : (f : Frame) → kind_of f ≡ 1 → Does name f o o []
-  a-site (Site s p) e = record { shifts = refl; prints = refl }
-  a-site (Call s) e = absurd (omega arith)
-  a-site (Spawn s) e = absurd (omega arith)
-  a-site Sync e = absurd (omega arith)
-  a-site Return e = absurd (omega arith)
-  a-site (Cost v) e = absurd (omega arith)
-  a-site (Instructions v) e = absurd (omega arith)
-  a-site (Async s) e = absurd (omega arith)
-  a-site Finish e = absurd (omega arith)
-
-  -- any other kind is a call or a spawn
-  pub a_making : (f : Frame) → kind_of f ≤ 3 → (kind_of f ≡ 1 → ⊥) → Does name f o (site_of f ∷ o) []
-  a_making (Site s p) d e = absurd (e refl)
-  a_making (Call s) d e = record { shifts = refl; prints = refl }
-  a_making (Spawn s) d e = record { shifts = refl; prints = refl }
-  a_making Sync d e = absurd (omega arith)
-  a_making Return d e = absurd (omega arith)
-  a_making (Cost v) d e = absurd (omega arith)
-  a_making (Instructions v) d e = absurd (omega arith)
-  a_making (Async s) d e = absurd (omega arith)
-  a_making Finish d e = absurd (omega arith)
+  -- a call or a spawn
+  pub a_making : (f : Frame) → 2 ≤ kind_of f → kind_of f ≤ 3 → Does name f o (site_of f ∷ o) []
+  a_making (Site s p) low high = absurd (omega arith)
+  a_making (Call s) low high = record { shifts = refl; prints = refl }
+  a_making (Spawn s) low high = record { shifts = refl; prints = refl }
+  a_making Sync low high = absurd (omega arith)
+  a_making Return low high = absurd (omega arith)
+  a_making (Cost v) low high = absurd (omega arith)
+  a_making (Instructions v) low high = absurd (omega arith)
+  a_making (Async s) low high = absurd (omega arith)
+  a_making Finish low high = absurd (omega arith)

@@ -9,14 +9,13 @@ use borrow.Author.Tests.{ltb-false}
 use lib.Dec.{leb, ltb}
 use lib.ListN.{length}
 use Rattle.line.specs.declared.Frame.{Frame}
-use Rattle.line.specs.declared.Wrote.{Wrote}
 use Rattle.trace.specs.Shape.{sites}
 use Rattle.trace.specs.Rows.{total}
 use Rattle.trace.specs.Refusals.{accepted, refused, verdict}
 use Rattle.trace.specs.Refusals.{Verdict as Judgement}
 use Rattle.trace.proofs.Basics.{clash}
 use Rattle.trace.proofs.Scan.{accepted-fine}
-use Rattle.report.specs.Room.{Decision, write, refuse}
+use Rattle.report.specs.Room.{Decision, write, refuse, Wrote}
 use Rattle.names.specs.Names.{shown, is_name, name_chars, first_bad}
 use Rattle.names.proofs.Names.{good_before}
 use Rattle.folded.specs.Text.{folded}

@@ -1,7 +1,6 @@
 mod Stacks
 mod Frames
 mod Found
-mod Rooms
 mod Turns
 mod Measuring
 mod Writing

@@ -5,7 +5,7 @@ use mathlib.Core.List.{List, [], ◌∷◌}
 use mathlib.Core.Path.{◌≡◌, refl, sym, subst}
 use native.Mathlib.Omega.{arith}
 use lib.ListN.{length}
-use Rattle.line.specs.declared.Family.TheVariants.{Base}
+use Rattle.line.specs.Family.{Base}
 use Rattle.line.specs.declared.Frame.{Frame}
 use Rattle.walk.specs.Stands.{Stands}
 use Rattle.weigh.specs.Weighed.{row_step}

@@ -4,16 +4,16 @@ use mathlib.Core.Bool.{Bool, true, false, cond}
 use mathlib.Core.List.{List, [], ◌∷◌, ◌++◌, append_assoc, append-nil}
 use mathlib.Core.Path.{◌≡◌, refl, ap, ◌∙◌, sym, subst}
 use native.Mathlib.Omega.{arith}
+use Rattle.std.proofs.Common.{Bor}
 use borrow.Author.Tests.{leb-true, leb-false, lt-ltb, le-ltb}
 use lib.Dec.{leb}
 use lib.ListN.{length, drop, replicate}
 use lib.Seq.{drop-length}
-use Rattle.line.specs.declared.Family.TheVariants.{Base}
+use Rattle.std.specs.Prelude.{Ok, Err}
+use Rattle.line.specs.Family.{Base}
 use Rattle.line.specs.declared.Frame.{Frame}
-use Rattle.line.specs.declared.Read.TheVariants.{Line}
-use Rattle.line.specs.declared.Wrote.{Wrote}
-use Rattle.line.specs.declared.Wrote.TheVariants.{Chars, Refused}
-use Rattle.line.specs.Read.{read_at}
+use Rattle.line.specs.Read.{read_at, says}
+use Rattle.line.specs.Refusal.{refusal}
 use Rattle.trace.specs.Shape.{closed, sites}
 use Rattle.trace.specs.Refusals.{accepted, verdict}
 use Rattle.trace.specs.Refusals.{Verdict as Judgement}
@@ -21,19 +21,19 @@ use Rattle.trace.specs.Tree.{call, spawn, async, pass, finish, site, carry, spen
 use Rattle.trace.proofs.Scan.{Fine, accepted-is, accepted-fine, accepted-reads}
 use Rattle.trace.proofs.Parse.{parts}
 use Rattle.trace.proofs.Accept.{sites_le_M}
-use Rattle.admit.specs.declared.Verdict.TheVariants as Verdict
+use Rattle.admit.specs.declared.Accepted.{Accepted}
 use Rattle.admit.specs.Answer.{answer_of}
-use Rattle.admit.proofs.Admitted.{accepted-only, refused-only}
+use Rattle.admit.proofs.Admitted.{accepted-only}
 use Rattle.walk.specs.Stands.{Stands}
 use Rattle.walk.proofs.Stands.{stands-all}
-use Rattle.report.specs.Room.{Decision, refuse, fitting, Lays}
+use Rattle.report.specs.Room.{Decision, refuse, fitting, Lays, Wrote}
 use Rattle.report.proofs.Decisions.{refused, written, fitting_short, fitting-text}
 use Rattle.report.proofs.Laying.{laid-front}
 use Rattle.names.specs.Names.{shown, first_bad}
 use Rattle.folded.specs.Text.{folded}
 use Rattle.folded.specs.Folding.{decide, cleared, Folds}
 use Rattle.folded.specs.Rows.{prints, Few, Flows, Lines}
-use Rattle.folded.specs.Spots.{Found}
+use Rattle.folded.specs.Shows.{Found}
 use Rattle.folded.specs.Measure as Measure
 use Rattle.folded.specs.Write as Write
 use Rattle.folded.specs.Whole.{Admitted, Decided}
@@ -63,7 +63,7 @@ fine-flows D M t fine =
     subst (Flows m D (0 ∷ [])) (append-nil (lines_of p.body) ∙ sym p.lines) b
 
 -- a refusal, with all as it was
-pub folds_refused : {d : Decision} (number line : ℕ) (out scratch : List ℕ) → d ≡ refuse number line → Folds d (Refused number line) out out scratch scratch
+pub folds_refused : {d : Decision} (number line : ℕ) (out scratch : List ℕ) → d ≡ refuse number line → Folds d (Err (refusal number line)) out out scratch scratch
 folds_refused number line out scratch e = record { writes = refused number line out e; scratch_is = sym (ap (λ (d : Decision). cleared d scratch) e) }
 
 module _ {s : List ℕ} {count lines n : ℕ} (q : Admitted s count lines n) where
@@ -74,7 +74,7 @@ module _ {s : List ℕ} {count lines n : ℕ} (q : Admitted s count lines n) whe
   few = omega (arith, sites_le_M q.D q.M q.frames fine, fine.sites_most, q.count_is)
 
   pub stands : Stands Base s 0 q.frames
-  stands = stands-all Base s q.frames 0 (λ i f h. let z : i ≡ 0 + i = omega arith in subst (λ (k : ℕ). read_at s k ≡ Line k f) z (accepted-reads s q.D q.M (leb q.D n) q.frames q.is i f h))
+  stands = stands-all Base s q.frames 0 (λ i f h. let z : i ≡ 0 + i = omega arith in subst (λ (k : ℕ). read_at s k ≡ says k f) z (accepted-reads s q.D q.M (leb q.D n) q.frames q.is i f h))
 
   abbrev trace : Lines s lines count q.D
   trace =
@@ -86,9 +86,9 @@ module _ {s : List ℕ} {count lines n : ℕ} (q : Admitted s count lines n) whe
         some = fine.least;
       }
 
-  module _ (p st spots : List ℕ) (found : Found p st (count + 1) spots) where
-    abbrev pub measure_asks : Measure.Asks s lines p st spots
-    measure_asks = record { m = count; D = q.D; trace = trace; most = fine.most; found = found }
+  module _ (p st : List ℕ) (names : List (Bor (List ℕ))) (found : Found (shown p st) (count + 1) names) where
+    abbrev pub measure_asks : Measure.Asks s lines names
+    measure_asks = record { name = shown p st; m = count; D = q.D; trace = trace; most = fine.most; found = found }
 
     abbrev text : List ℕ
     text = prints (shown p st) (0 ∷ []) q.frames
@@ -97,7 +97,7 @@ module _ {s : List ℕ} {count lines n : ℕ} (q : Admitted s count lines n) whe
     as_folded = folded-prints (shown p st) q.frames (clean_in_table q.D q.M [] q.frames fine.clean)
 
     module _ (out : List ℕ) (r : Bool) (is : r ≡ leb (length text) (length out)) where
-      pub short_18 : r ≡ false → (scratch : List ℕ) → Folds (fitting 18 (folded (shown p st) q.frames) (length out)) (Refused 18 0) out out scratch scratch
+      pub short_18 : r ≡ false → (scratch : List ℕ) → Folds (fitting 18 (folded (shown p st) q.frames) (length out)) (Err (refusal 18 0)) out out scratch scratch
       short_18 h scratch =
           folds_refused 18 0 out scratch
           (ap (λ (x : List ℕ). fitting 18 x (length out)) as_folded ∙ fitting_short 18 text (length out) (leb-false (length text) (length out) (sym is ∙ h)))
@@ -106,9 +106,10 @@ module _ {s : List ℕ} {count lines n : ℕ} (q : Admitted s count lines n) whe
         pub fits : length text ≤ length out
         fits = leb-true (length text) (length out) (sym is ∙ h)
 
-        abbrev pub write_asks : (scratch : List ℕ) → length scratch ≡ n → Write.Asks s lines p st spots scratch out
+        abbrev pub write_asks : (scratch : List ℕ) → length scratch ≡ n → Write.Asks s lines names scratch out
         write_asks scratch l =
             record {
+              name = shown p st;
               m = count;
               D = q.D;
               trace = trace;
@@ -118,7 +119,7 @@ module _ {s : List ℕ} {count lines n : ℕ} (q : Admitted s count lines n) whe
             }
 
         pub all-written : (k : ℕ) (out' scratch scratch' : List ℕ) → Lays 0 text out k out' → scratch' ≡ replicate (length scratch) 0
-            → Folds (fitting 18 (folded (shown p st) q.frames) (length out)) (Chars k) out out' scratch scratch'
+            → Folds (fitting 18 (folded (shown p st) q.frames) (length out)) (Ok k) out out' scratch scratch'
         all-written k out' scratch scratch' w z =
             let d = ap (λ (x : List ℕ). fitting 18 x (length out)) as_folded ∙ fitting-text 18 text (length out) fits in
             let l : length text ≡ k = omega (arith, w.ends) in
@@ -132,7 +133,7 @@ module _ {s : List ℕ} {count lines n : ℕ} (q : Admitted s count lines n) whe
     same : first_bad p st (sites q.frames + 1) ≡ bad
     same = ap (λ (c : ℕ). first_bad p st (c + 1)) q.count_is ∙ sym e
 
-    pub bad_17 : bad ≤ count → (scratch : List ℕ) → Folds (decide p st (length out) (accepted q.frames)) (Refused 17 bad) out out scratch scratch
+    pub bad_17 : bad ≤ count → (scratch : List ℕ) → Folds (decide p st (length out) (accepted q.frames)) (Err (refusal 17 bad)) out out scratch scratch
     bad_17 h scratch =
         folds_refused 17 bad out scratch
         (ap (λ (b : Bool). cond b (refuse 17 (first_bad p st (sites q.frames + 1))) (fitting 18 (folded (shown p st) q.frames) (length out)))
@@ -156,17 +157,13 @@ all-zero x y z l e =
 
 -- The answer of acceptance.
 
-pub admitted : (s : List ℕ) (D M n count lines : ℕ) → Verdict.Accepted count lines ≡ answer_of (verdict s D M (leb D n)) → Admitted s count lines n
-admitted s D M n count lines e = let x = accepted-only (verdict s D M (leb D n)) count lines e in record { frames = x.0; D = D; M = M; is = x.1; count_is = x.2; lines_are = x.3 }
+pub admitted : (s : List ℕ) (D M n : ℕ) (a : Accepted) → Ok a ≡ answer_of (verdict s D M (leb D n)) → Admitted s a.sites a.lines n
+admitted s D M n a e = let x = accepted-only (verdict s D M (leb D n)) a e in record { frames = x.0; D = D; M = M; is = x.1; count_is = x.2; lines_are = x.3 }
 
 module _ (s : List ℕ) (D M : ℕ) (p st out scratch : List ℕ) where
-  pub accepted_folds : (count lines : ℕ) (r : Wrote) (out' scratch' : List ℕ) → Verdict.Accepted count lines ≡ answer_of (verdict s D M (leb D (length scratch)))
-      → Decided s count lines p st r out out' scratch scratch' → Folds (decide p st (length out) (verdict s D M (leb D (length scratch)))) r out out' scratch scratch'
+  pub accepted_folds : (a : Accepted) (r : Wrote) (out' scratch' : List ℕ) → Ok a ≡ answer_of (verdict s D M (leb D (length scratch)))
+      → Decided s a.sites a.lines p st r out out' scratch scratch' → Folds (decide p st (length out) (verdict s D M (leb D (length scratch)))) r out out' scratch scratch'
   unfolding admitted
-  accepted_folds count lines r out' scratch' e h =
-      let x = accepted-only (verdict s D M (leb D (length scratch))) count lines e in
-      subst (λ (v : Judgement). Folds (decide p st (length out) v) r out out' scratch scratch') (sym x.1) (h (admitted s D M (length scratch) count lines e))
-
-  pub refused_folds : (number line : ℕ) → Verdict.Refused number line ≡ answer_of (verdict s D M (leb D (length scratch)))
-      → Folds (decide p st (length out) (verdict s D M (leb D (length scratch)))) (Refused number line) out out scratch scratch
-  refused_folds number line e = folds_refused number line out scratch (ap (decide p st (length out)) (refused-only (verdict s D M (leb D (length scratch))) number line e))
+  accepted_folds a r out' scratch' e h =
+      let x = accepted-only (verdict s D M (leb D (length scratch))) a e in
+      subst (λ (v : Judgement). Folds (decide p st (length out) v) r out out' scratch scratch') (sym x.1) (h (admitted s D M (length scratch) a e))

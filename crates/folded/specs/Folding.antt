@@ -1,9 +1,8 @@
 -- What the writer of folded stacks decides, answers and leaves.
 use Rattle.std.specs.Prelude.{ℕ, ◌+◌, ◌≡◌, cond, List, ltb, leb, length, replicate}
-use Rattle.line.specs.declared.Wrote.{Wrote}
 use Rattle.trace.specs.Shape.{sites}
 use Rattle.trace.specs.Refusals.{Verdict, accepted, refused, verdict}
-use Rattle.report.specs.Room.{Decision, write, refuse, fitting, Writes}
+use Rattle.report.specs.Room.{Decision, write, refuse, fitting, Writes, Wrote}
 use Rattle.names.specs.Names.{shown, first_bad}
 use Rattle.folded.specs.Text.{folded}
 

@@ -2,7 +2,7 @@ pub mod Text
 pub mod Folding
 pub mod Reading
 pub mod Rows
-pub mod Spots
+pub mod Shows
 pub mod Measure
 pub mod Write
 pub mod Whole

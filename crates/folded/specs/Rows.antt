@@ -1,6 +1,6 @@
 -- For proofs, not for the reader of the request: the rows of the open invocations as a stack, and the text by it.
 use Rattle.std.specs.Prelude.{ℕ, ◌≤◌, ◌≡◌, List, [], ◌∷◌, ◌++◌, map, length}
-use Rattle.line.specs.declared.Family.TheVariants.{Base}
+use Rattle.line.specs.Family.{Base}
 use Rattle.line.specs.declared.Frame.{Frame}
 use Rattle.trace.specs.Shape.{if_cost}
 use Rattle.weigh.specs.Weighed.{row_step}

@@ -1,10 +1,9 @@
 -- For proofs, not for the reader of the request: what an accepted trace gives the writer, and what it then leaves.
 use Rattle.std.specs.Prelude.{ℕ, ◌≡◌, List, leb, length}
 use Rattle.line.specs.declared.Frame.{Frame}
-use Rattle.line.specs.declared.Wrote.{Wrote}
 use Rattle.trace.specs.Shape.{sites}
 use Rattle.trace.specs.Refusals.{accepted, verdict}
-use Rattle.report.specs.Room.{fitting}
+use Rattle.report.specs.Room.{fitting, Wrote}
 use Rattle.names.specs.Names.{shown}
 use Rattle.folded.specs.Text.{folded}
 use Rattle.folded.specs.Folding.{decide, Folds}

@@ -3,80 +3,76 @@
 #![tactic(auto)]
 
 mod measure;
-mod spots;
+mod shown;
 mod write;
 
 ghost use Rattle.std.specs.Prelude.{length};
 ghost use Rattle.folded.specs.Folding.{folding, Folds};
 ghost use Rattle.folded.specs.Whole.{Admitted, Decided, Fitted};
 
-use line::Wrote;
+use line::Refusal;
+use names::Lists;
 
 // The names are good: they are found, the text is measured and, where it fits, written.
-fn named<'a>(
+fn named(
     trace: &[u8],
     count: usize,
     lines: usize,
-    project: &'a [u8],
-    stock: &'a [u8],
+    lists: Lists,
     scratch: &mut [u64],
     out: &mut [u8],
-) -> Wrote
+) -> Result<usize, Refusal>
     requires { Admitted trace.now count lines (length scratch.old) }
-    ensures { Fitted trace.now count lines project.now stock.now result
+    ensures { Fitted trace.now count lines lists.entry.project.now lists.entry.stock.now result
         out.old out.new scratch.old scratch.new }
 {
-    let mut spots = [0usize; 1024];
-    spots::find(project, stock, count + 1, &mut spots);
-    if !measure::fits(trace, lines, project, stock, &spots, out.len()) {
-        return Wrote::Refused(18, 0);
+    let names = shown::find(lists, count + 1);
+    if !measure::fits(trace, lines, &names, out.len()) {
+        return Err(trace::refused(18));
     }
-    let n = write::text(trace, lines, project, stock, &spots, scratch, out);
+    let n = write::text(trace, lines, &names, scratch, out);
     walk::zero(scratch, scratch.len());
-    Wrote::Chars(n)
+    Ok(n)
 }
 
 // The trace is accepted: 17 for the first row whose name is bad, then 18 for output too short.
-fn accepted<'a>(
+fn accepted(
     trace: &[u8],
     count: usize,
     lines: usize,
-    project: &'a [u8],
-    stock: &'a [u8],
+    lists: Lists,
     scratch: &mut [u64],
     out: &mut [u8],
-) -> Wrote
+) -> Result<usize, Refusal>
     requires { Admitted trace.now count lines (length scratch.old) }
-    ensures { Decided trace.now count lines project.now stock.now result
+    ensures { Decided trace.now count lines lists.entry.project.now lists.entry.stock.now result
         out.old out.new scratch.old scratch.new }
 {
-    let bad = names::first_bad(project, stock, count + 1);
+    let bad = lists.first_bad(count + 1);
     if bad <= count {
-        return Wrote::Refused(17, bad);
+        return Err(Refusal {
+            number: 17,
+            line: bad,
+        });
     }
-    named(trace, count, lines, project, stock, scratch, out)
+    named(trace, count, lines, lists, scratch, out)
 }
 
 // Writes the folded stacks of any text, with any limits, any lists of names and any room, or refuses: as the engines
 // do, with 4 for fewer than `depth` scratch numbers, then 17 and 18.
-pub fn write_folded<'a>(
+pub fn write_folded(
     trace: &[u8],
     depth: usize,
     sites: usize,
-    project: &'a [u8],
-    stock: &'a [u8],
+    lists: Lists,
     scratch: &mut [u64],
     out: &mut [u8],
-) -> Wrote
+) -> Result<usize, Refusal>
     ensures { Folds
-        (folding trace.now depth sites project.now stock.now
+        (folding trace.now depth sites lists.entry.project.now lists.entry.stock.now
         (length scratch.old) (length out.old)) result
         out.old out.new scratch.old scratch.new }
 {
-    match admit::with_room(trace, depth, sites, depth <= scratch.len()) {
-        admit::Verdict::Accepted(count, lines) => accepted(
-            trace, count, lines, project, stock, scratch, out,
-        ),
-        admit::Verdict::Refused(number, line) => Wrote::Refused(number, line),
-    }
+    let admitted = admit::with_room(trace, depth, sites, depth <= scratch.len())?;
+    accepted(trace, admitted.sites, admitted.lines, lists, scratch, out)
 }

@@ -1,14 +1,12 @@
 // Writes the text, line behind line. What a line's names have in common with the line before it is copied from there,
 // so that a deep stack is one copy and not a copy for each name.
-ghost use Rattle.std.specs.Prelude.{◌+◌, ◌≤◌, length, take};
-ghost use Rattle.names.specs.Names.{shown};
+ghost use Rattle.std.specs.Prelude.{◌+◌, ◌≤◌, length};
 ghost use Rattle.report.specs.Room.{Lays};
-ghost use Rattle.folded.specs.Text.{joined, cost_text};
-ghost use Rattle.folded.specs.Spots.{Spot};
-ghost use Rattle.folded.specs.Write.{piece, StackAsks, CloseAsks, CloseLeaves};
+ghost use Rattle.folded.specs.Text.{cost_text};
+ghost use Rattle.folded.specs.Write.{piece, StackAsks, StackLeaves, CloseLeaves};
 ghost use Rattle.folded.specs.Write.{LineAsks, LineLeaves, Asks, Leaves};
 
-use crate::{measure, spots};
+use crate::measure;
 use report::lay;
 
 // The line that was written last: where it begins, how many of the rows that are open now it has at its front, and
@@ -20,22 +18,11 @@ struct Last {
     chars: usize,
 }
 
-// The name shown for the k-th open row, with a semicolon before it where it is not the root's.
-fn put_row<'a>(
-    project: &'a [u8],
-    stock: &'a [u8],
-    spots: &[usize],
-    row: usize,
-    k: usize,
-    out: &mut [u8],
-    at: usize,
-) -> usize
-    requires { Spot project.now stock.now spots.now row
-        × (at + length (piece k (shown project.now stock.now row)) ≤ length out.old) }
-    ensures { Lays at (piece k (shown project.now stock.now row)) out.old result
-        out.new }
+// The name of the k-th open row, with a semicolon before it where it is not the root's.
+fn put_name(name: &[u8], k: usize, out: &mut [u8], at: usize) -> usize
+    requires { at + length (piece k name.now) ≤ length out.old }
+    ensures { Lays at (piece k name.now) out.old result out.new }
 {
-    let name = spots::name(project, stock, spots, row);
     if k == 0 {
         return lay::text(out, at, name);
     }
@@ -44,26 +31,20 @@ fn put_row<'a>(
 }
 
 // The joined names of the open rows.
-fn put_stack<'a>(
-    project: &'a [u8],
-    stock: &'a [u8],
-    spots: &[usize],
+fn put_stack(
+    names: &[&[u8]],
     t: &[u64],
     depth: usize,
     out: &mut [u8],
     at: usize,
     last: Last,
 ) -> usize
-    requires { StackAsks project.now stock.now spots.now t.now depth out.old at last }
-    ensures { Lays at
-        (joined (shown project.now stock.now) (take depth t.now)) out.old result
-        out.new }
+    requires { StackAsks names.now t.now depth out.old at last }
+    ensures { StackLeaves names.now t.now depth out.old at last result out.new }
 {
     let mut end = lay::again(out, at, last.from, last.chars);
-    let mut k = last.rows;
-    while k < depth {
-        end = put_row(project, stock, spots, t[k] as usize, k, out, end);
-        k += 1;
+    for k in last.rows..depth {
+        end = put_name(names[t[k] as usize], k, out, end);
     }
     end
 }
@@ -79,25 +60,17 @@ fn put_cost(out: &mut [u8], at: usize, v: u64) -> usize
 }
 
 // The line that was written last, where the innermost of the open rows closes.
-fn close<'a>(
-    project: &'a [u8],
-    stock: &'a [u8],
-    spots: &[usize],
-    row: usize,
-    depth: usize,
-    last: Last,
-) -> Last
-    requires { CloseAsks project.now stock.now spots.now row depth }
-    ensures { CloseLeaves (shown project.now stock.now row) depth last result }
+fn close(name: &[u8], depth: usize, last: Last) -> Last
+    requires { 1 ≤ depth }
+    ensures { CloseLeaves name.now depth last result }
 {
     if last.rows < depth {
         return last;
     }
-    let chars = measure::without(project, stock, spots, row, last.chars);
     Last {
-        from: last.from,
         rows: depth - 1,
-        chars: measure::minus(chars, 1),
+        chars: last.chars.saturating_sub(name.len()).saturating_sub(1),
+        ..last
     }
 }
 
@@ -110,76 +83,64 @@ struct Written {
 }
 
 // Writes what a line prints. The open rows stand in `t`, the root's first.
-fn put_line<'a>(
+fn put_line(
     trace: &[u8],
     n: usize,
-    project: &'a [u8],
-    stock: &'a [u8],
-    spots: &[usize],
+    names: &[&[u8]],
     t: &mut [u64],
     out: &mut [u8],
     a: Written,
 ) -> Written
-    requires { LineAsks trace.now n project.now stock.now spots.now t.old out.old a }
-    ensures { LineLeaves trace.now n project.now stock.now
-        spots.now t.old out.old a result t.new out.new }
+    requires { LineAsks trace.now n names.now t.old out.old a }
+    ensures { LineLeaves trace.now n names.now t.old out.old a result t.new out.new }
 {
     let depth = a.depth;
     let at = a.at;
-    let last = a.last;
-    let kind = line::kind_at(trace, n);
-    if kind == 6 {
-        let v = measure::cost_at(trace, n);
-        let end = put_stack(project, stock, spots, t, depth, out, at, last);
-        let next = put_cost(out, end, v);
-        let this = Last {
-            from: at,
-            rows: depth,
-            chars: end - at,
-        };
-        return Written {
-            depth,
-            at: next,
-            last: this,
-        };
-    }
-    if kind == 5 {
-        let row = t[depth - 1] as usize;
-        let same = close(project, stock, spots, row, depth, last);
-        return Written {
-            depth: depth - 1,
-            at,
-            last: same,
-        };
-    }
-    // a sync, or a cost's instructions
-    if 3 < kind {
-        return a;
-    }
-    if kind == 1 {
-        return a;
-    }
-    t[depth] = line::site_at(trace, n) as u64;
-    Written {
-        depth: depth + 1,
-        at,
-        last,
+    match line::kind_at::<line::Base>(trace, n) {
+        6 => {
+            let v = measure::cost_at(trace, n);
+            let end = put_stack(names, t, depth, out, at, a.last);
+            let next = put_cost(out, end, v);
+            let this = Last {
+                from: at,
+                rows: depth,
+                chars: end - at,
+            };
+            Written {
+                depth,
+                at: next,
+                last: this,
+            }
+        }
+        5 => {
+            let name = names[t[depth - 1] as usize];
+            Written {
+                depth: depth - 1,
+                at,
+                last: close(name, depth, a.last),
+            }
+        }
+        2 | 3 => {
+            t[depth] = line::site_at(trace, n) as u64;
+            Written {
+                depth: depth + 1,
+                ..a
+            }
+        }
+        _ => a,
     }
 }
 
 // Writes the text of a trace to the front of the output, and answers how many characters it has.
-pub(crate) fn text<'a>(
+pub(crate) fn text(
     trace: &[u8],
     lines: usize,
-    project: &'a [u8],
-    stock: &'a [u8],
-    spots: &[usize],
+    names: &[&[u8]],
     t: &mut [u64],
     out: &mut [u8],
 ) -> usize
-    requires { Asks trace.now lines project.now stock.now spots.now t.old out.old }
-    ensures { Leaves trace.now lines project.now stock.now
-        spots.now t.old out.old result out.new }
+    requires { Asks trace.now lines names.now t.old out.old }
+    ensures { Leaves trace.now lines names.now t.old out.old result out.new }
 {
     let none = Last {
         from: 0,
@@ -192,10 +153,8 @@ pub(crate) fn text<'a>(
         last: none,
     };
     t[0] = 0;
-    let mut n = 0;
-    while n < lines {
-        a = put_line(trace, n, project, stock, spots, t, out, a);
-        n += 1;
+    for n in 0..lines {
+        a = put_line(trace, n, names, t, out, a);
     }
     a.at
 }

@@ -1,21 +1,21 @@
 -- What may be asked: the factors are in their range, and which trace a forecast is of.
-use mathlib.Core.Path.{◌≡◌, refl, sym, ap}
-use mathlib.Core.Bool.{Bool, true, false, cond, ◌||◌}
+use mathlib.Core.Path.{◌≡◌, refl, sym, ap, ◌∙◌}
+use mathlib.Core.Bool.{Bool, true, false, not, cond, ◌||◌}
 use mathlib.Core.List.{List, [], ◌∷◌}
-use Prim.Native.Nat.{ℕ, ◌≤◌}
+use Prim.Native.Nat.{ℕ, ◌≤◌, ◌<◌}
 use native.Mathlib.Omega.{arith}
-use lib.Dec.{eqb, ltb}
-use borrow.Author.Tests.{eqb-true, eq-eqb, ne_eqb, ltb-false}
+use lib.Dec.{eqb, ltb, leb}
+use borrow.Author.Tests.{eqb-true, eq-eqb, ne_eqb, ltb-false, leb-true}
 use Rattle.line.specs.declared.Frame.{Frame}
 use Rattle.trace.specs.Shape.{has, sites}
 use Rattle.trace.specs.Rows.{of_row}
 use Rattle.trace.specs.Refusals.{Verdict, accepted, refused}
-use Rattle.trace.proofs.Basics.{clash, neither}
+use Rattle.trace.proofs.Basics.{both, clash, neither}
 use Rattle.trace.proofs.Scan.{accepted-same}
 use Rattle.weigh.specs.Weighed.{Tabled}
 use Rattle.forecast.specs.declared.Entry.{Entry}
 use Rattle.forecast.specs.Rewritten.{factor_of, rewritten}
-use Rattle.forecast.specs.Asked.{bad_list, bad_factor, asked, asking}
+use Rattle.forecast.specs.Asked.{too_long, ascending, all_declared, bad_list, bad_factor, asked, asking}
 use Rattle.forecast.specs.ByRow.{row_factor, by_entries}
 use Rattle.forecast.proofs.Divided.{divided-least, divided-most}
 
@@ -81,3 +81,21 @@ asking_good es t h = ap (λ (b : Bool). cond b (accepted (rewritten es t)) (refu
 -- a refusal is one of the list's
 pub asking-bad : (es : List Entry) (t : List Frame) → (asked (sites t) es ≡ 0 → ⊥) → asking es (accepted t) ≡ refused (asked (sites t) es) 0
 asking-bad es t h = ap (λ (b : Bool). cond b (accepted (rewritten es t)) (refused (asked (sites t) es) 0)) (ne_eqb (asked (sites t) es) 0 h)
+
+-- ── rows that no entry names ──
+
+behind-declared : (m : ℕ) (es : List Entry) (s : ℕ) → all_declared m es ≡ true → m < s → row_factor es s ≡ 1
+behind-declared m [] s h l = refl
+behind-declared m (e ∷ es) s h l =
+    let k = both (leb e.row m) (all_declared m es) h in
+    ap (λ (b : Bool). cond b e.factor (row_factor es s)) (ne_eqb s e.row (λ q. omega (arith, leb-true e.row m k.0))) ∙ behind-declared m es s k.1 l
+
+-- LAW: a row behind the sites has no factor
+pub undeclared-row : (m : ℕ) (es : List Entry) (s : ℕ) → asked m es ≡ 0 → m < s → row_factor es s ≡ 1
+undeclared-row m es s h l = behind-declared m es s (declared (too_long es) (not (ascending es)) (all_declared m es) (asked_good m es h).0) l
+  where
+    declared : (a b c : Bool) → (a || b || not c) ≡ false → c ≡ true
+    declared a b true e = refl
+    declared true b false e = clash (cc)
+    declared false true false e = clash (cc)
+    declared false false false e = clash (cc)

@@ -1,6 +1,6 @@
 -- A value divided by a factor and rounded up: it stays in the table, it is never more, and how it is worked out.
-use mathlib.Core.Path.{◌≡◌, sym, ◌∙◌, ap}
-use Prim.Native.Nat.{ℕ, zero, suc, ◌+◌, ◌*◌, ◌-◌, ◌/◌, ◌%◌, ◌≤◌}
+use mathlib.Core.Path.{◌≡◌, refl, sym, ◌∙◌, ap}
+use Prim.Native.Nat.{ℕ, zero, suc, ◌+◌, ◌*◌, ◌-◌, ◌/◌, ◌%◌, ◌≤◌, min}
 use native.Mathlib.Omega.{arith}
 use native.Mathlib.Nat.{zero-add, div-one, div-zero, mod-lt, mod-add-div', add-mul-div_right, suc-mul, mul-le-mul_left, div-eq_of_lt, le-div_iff_mul-le, div-le_of_le-mul}
 use Rattle.forecast.specs.Rewritten.{divided}
@@ -53,6 +53,14 @@ module _ (v f : ℕ) (some : 1 ≤ f) where
 
       distribute : (q : ℕ) → (q + 1) * f ≡ q * f + f
       distribute q = let e : q + 1 ≡ suc q = omega arith in ap (λ (k : ℕ). k * f) e ∙ suc-mul q f
+
+-- as the library rounds up
+pub divided-ceil : (v f : ℕ) → 1 ≤ f → divided v f ≡ v / f + min 1 (v % f)
+divided-ceil v f some = go (v % f) refl
+  where
+    go : (r : ℕ) → v % f ≡ r → divided v f ≡ v / f + min 1 r
+    go zero e = omega (arith, divided-even v f some e)
+    go (suc r) e = omega (arith, divided_odd v f some (λ z. omega arith))
 
 -- a factor of 0 gives 0
 pub divided-zero : (v : ℕ) → divided v 0 ≡ 0

@@ -4,10 +4,6 @@ pub mod Asked
 pub mod Outcome
 pub mod Gain
 pub mod Table
-pub mod Loops
-pub mod Checked
-pub mod Entries
-pub mod Taking
+pub mod Tests
 pub mod Written
-pub mod OfList
 pub mod Examples

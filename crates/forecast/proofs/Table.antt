@@ -4,11 +4,12 @@ use mathlib.Core.Bool.{Bool, cond}
 use mathlib.Core.List.{List, [], ◌∷◌}
 use Prim.Native.Nat.{ℕ, zero, suc, ◌+◌, ◌<◌, ◌≤◌}
 use native.Mathlib.Omega.{arith}
-use lib.ListN.{length, get_or, set, replicate}
+use lib.ListN.{length, get_or, set, replicate, drop, drop_of_length-le}
+use lib.Seq.{drop-cons}
 use borrow.Author.Tests.{eq-eqb, ne_eqb}
 use Rattle.forecast.specs.declared.Entry.{Entry}
 use Rattle.forecast.specs.ByRow.{row_factor}
-use Rattle.forecast.specs.Listed.{numbers, factor_table}
+use Rattle.forecast.specs.Factors.{numbers, factor_table}
 
 numbers-same : (f g : ℕ → ℕ) (n r : ℕ) → ((k : ℕ) → r ≤ k → k < r + n → f k ≡ g k) → numbers f r n ≡ numbers g r n
 numbers-same f g zero r same = refl
@@ -43,6 +44,21 @@ table-out e es h = numbers-same (row_factor es) (row_factor (e ∷ es)) 256 0 (�
 pub table_none : replicate 256 1 ≡ factor_table []
 unfolding factor_table
 table_none = refl
+
+-- Entry by entry, from the last one on: none so far, and with one more in front.
+
+pub table-start : (es : List Entry) → replicate 256 1 ≡ factor_table (drop (length es) es)
+table-start es = table_none ∙ ap factor_table (sym (drop_of_length-le es (omega arith)))
+
+module _ (es : List Entry) (i n : ℕ) (x : Entry) (t : List ℕ) (next : suc i ≡ n) (inside : i < length es) (is : x ≡ get_or es i x) (so : t ≡ factor_table (drop n es)) where
+  front : drop i es ≡ x ∷ drop n es
+  front = drop-cons es i x inside ∙ ap (λ (y : Entry). y ∷ drop (suc i) es) (sym is) ∙ ap (λ (k : ℕ). x ∷ drop k es) next
+
+  pub table_back : x.row < 256 → set t x.row x.factor ≡ factor_table (drop i es)
+  table_back h = ap (λ (u : List ℕ). set u x.row x.factor) so ∙ table_in x (drop n es) h ∙ ap factor_table (sym front)
+
+  pub table-passed : 256 ≤ x.row → t ≡ factor_table (drop i es)
+  table-passed h = so ∙ table-out x (drop n es) h ∙ ap factor_table (sym front)
 
 -- ── what stands in it ──
 

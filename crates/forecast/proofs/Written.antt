@@ -6,12 +6,12 @@ use mathlib.Core.List.{List, [], ◌∷◌, ◌++◌}
 use Prim.Native.Nat.{ℕ, suc, ◌≤◌}
 use native.Mathlib.Omega.{arith}
 use borrow.Author.Tests.{le-leb}
-use Rattle.line.specs.declared.Family.TheVariants.{Base}
+use Rattle.line.specs.Family.{Base}
 use Rattle.line.specs.declared.Frame.{Frame}
 use Rattle.line.specs.declared.Frame.TheVariants.{Site, Call, Spawn, Sync, Return, Cost, Instructions, Async, Finish}
 use Rattle.line.specs.Write.{writable}
 use Rattle.line.proofs.Writable.{writable-value}
-use Rattle.trace.specs.declared.Answer.{Answer}
+use Rattle.trace.specs.Answer.{Answer}
 use Rattle.trace.specs.Shape.{root, step, sites}
 use Rattle.trace.specs.Refusals.{line_count, accepted, verdict}
 use Rattle.trace.specs.Promise.{Engine, Lent, enough, Kept, Promise}

@@ -3,5 +3,4 @@ pub mod Asked
 pub mod Promise
 pub mod Gain
 pub mod ByRow
-pub mod Listed
-pub mod OfList
+pub mod Factors

@@ -1,6 +1,6 @@
 -- Request f: what a forecast promises.
 use Rattle.std.specs.Prelude.{ℕ, List}
-use Rattle.trace.specs.declared.Answer.{Answer}
+use Rattle.trace.specs.Answer.{Answer}
 use Rattle.trace.specs.Refusals.{verdict}
 use Rattle.trace.specs.Promise.{Engine, Lent, enough, Kept}
 use Rattle.forecast.specs.declared.Entry.{Entry}

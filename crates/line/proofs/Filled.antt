@@ -25,8 +25,8 @@ filled_length {done = done} {m = m} f =
     ap length f.is ∙ length-append done (replicate m 10) ∙ omega (arith, f.size, length-replicate {A = ℕ} m 10)
 
 -- the next k characters are the digits of x
-pub fill : {xs done : List ℕ} {a : ℕ} (k m x : ℕ) (ys : List ℕ) → Filled xs done a (k + m) → ys ≡ digits (length (mid_of a k xs)) x → Filled (put_mid a k xs ys) (done ++ digits k x) (a + k) m
-fill {xs} {done} {a} k m x ys f e = record { is = is; size = length-append done (digits k x) ∙ omega (arith, f.size, digits-length k x) }
+pub fill : {xs done : List ℕ} {a y : ℕ} (k m x : ℕ) (ys : List ℕ) → Filled xs done a (k + m) → y ≡ x → ys ≡ digits (length (mid_of a k xs)) y → Filled (put_mid a k xs ys) (done ++ digits k x) (a + k) m
+fill {xs} {done} {a} k m x ys f same e = record { is = is; size = length-append done (digits k x) ∙ omega (arith, f.size, digits-length k x) }
   where
     rest : List ℕ
     rest = replicate (k + m) 10
@@ -48,7 +48,7 @@ fill {xs} {done} {a} k m x ys f e = record { is = is; size = length-append done 
         ap (λ (l : List ℕ). l ++ (ys ++ drop k (drop a xs))) before
         ∙ ap (λ (l : List ℕ). done ++ (ys ++ drop k l)) behind
         ∙ ap (λ (l : List ℕ). done ++ (ys ++ l)) left
-        ∙ ap (λ (l : List ℕ). done ++ (l ++ replicate m 10)) (e ∙ ap (λ (n : ℕ). digits n x) long)
+        ∙ ap (λ (l : List ℕ). done ++ (l ++ replicate m 10)) (e ∙ ap (digits (length (mid_of a k xs))) same ∙ ap (λ (n : ℕ). digits n x) long)
         ∙ sym (append_assoc done (digits k x) (replicate m 10))
 
 -- the characters of the kind; and the site; and the value; and the file; and the column

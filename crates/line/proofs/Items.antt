@@ -4,13 +4,11 @@ use Prim.Native.Nat.{ℕ, ◌%◌}
 use mathlib.Core.List.{List}
 use mathlib.Core.Path.{◌≡◌, refl, ap, ◌∙◌, sym}
 use native.Mathlib.Omega.{arith}
-use Rattle.line.specs.declared.Family.{Family}
-use Rattle.line.specs.declared.Family.TheVariants.{Base}
+use Rattle.line.specs.Family.{Family, Base}
 use Rattle.line.specs.declared.Frame.{Frame}
 use Rattle.line.specs.declared.Frame.TheVariants.{Site, Call, Spawn, Sync, Return, Cost, Instructions, Async, Finish}
-use Rattle.line.specs.declared.Read.TheVariants.{Line}
 use Rattle.line.specs.Table.{Fields, frame, table, fields_of}
-use Rattle.line.specs.Read.{part, fields, line_at, read_at_of, read_at}
+use Rattle.line.specs.Read.{part, fields, line_at, read_at_of, read_at, says}
 use Rattle.line.specs.At.{both_in, site_in, value_in, kind_at, both_at, site_at, value_at}
 use Rattle.digits.proofs.Words.{plain-number}
 use Rattle.line.proofs.At.{at_long}
@@ -31,7 +29,7 @@ both (Instructions v) = refl
 both (Async s) = refl
 both Finish = refl
 
-module _ (g : Family) (s : List ℕ) (n k : ℕ) (f : Frame) (e : read_at_of g s n ≡ Line k f) where
+module _ (g : Family) (s : List ℕ) (n k : ℕ) (f : Frame) (e : read_at_of g s n ≡ says k f) where
   pub item_of : (both_at s n ≡ (fields_of f).kind) × (site_at s n ≡ (fields_of f).site) × (value_at s n ≡ (fields_of f).value)
   item_of =
       let (same, h, w, t) = frames-of g (line_at s n) n k f e in
@@ -56,7 +54,7 @@ low (Async s) g t = absurd (let z : ◌≡◌ {A = ℕ} 0 1 = cc in omega arith)
 low Finish g t = absurd (let z : ◌≡◌ {A = ℕ} 0 1 = cc in omega arith)
 
 -- for document 01's family the second digit is enough
-module _ (s : List ℕ) (n k : ℕ) (f : Frame) (e : read_at s n ≡ Line k f) where
+module _ (s : List ℕ) (n k : ℕ) (f : Frame) (e : read_at s n ≡ says k f) where
   pub item : (kind_at s n ≡ (fields_of f).kind) × (site_at s n ≡ (fields_of f).site) × (value_at s n ≡ (fields_of f).value)
   item =
       let (kind, site, value) = item_of Base s n k f e in

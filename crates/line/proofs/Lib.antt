@@ -1,3 +1,4 @@
+pub mod Same
 pub mod Lines
 pub mod Cases
 pub mod At

@@ -11,14 +11,13 @@ use lib.ListN.{length, get_or, take, drop, replicate, take-append-drop, drop_of_
 use lib.Seq.{drop-cons}
 use Rattle.digits.specs.Digits.{all_digits, small_form, number, digits}
 use Rattle.digits.proofs.Laws.{and_left, and_right, digits_good, digits_number, number_digits, number-below, small-append}
-use Rattle.line.specs.declared.Family.{Family}
-use Rattle.line.specs.declared.Family.TheVariants.{Base, Finishes}
+use Rattle.line.specs.Family.{Family, Base, Finishes}
 use Rattle.line.specs.declared.Frame.{Frame}
 use Rattle.line.specs.declared.Frame.TheVariants.{Site, Call, Spawn, Sync, Return, Cost, Instructions, Async, Finish}
-use Rattle.line.specs.declared.Read.TheVariants.{Line}
 use Rattle.line.specs.Table.{Fields, Entry, frame, only, value_only, is_base, in_base, in_finishes, table_of, table, fields_of}
-use Rattle.line.specs.Read.{part, fields, wrong, tabled, read_line_of, read_line}
+use Rattle.line.specs.Read.{part, fields, wrong, tabled, read_line_of, read_line, says}
 use Rattle.line.specs.Write.{chars, narrow, is_frame, writable_of, write_chars_of, writable, write_chars}
+use Rattle.line.proofs.Same.{same-line}
 use Rattle.line.proofs.Lines.{part_length, parts, all-parts, read_tabled}
 use Rattle.line.proofs.Cases.{frames-of}
 
@@ -103,7 +102,7 @@ module _ (g : Family) (f : Frame) (w : writable_of g f ≡ true) where
   pub written_of : write_chars_of g f ≡ chars (fields_of f)
   written_of = ap (λ (b : Bool). cond b (chars (fields_of f)) (replicate 23 0)) w
 
-  pub write_read_of : (n : ℕ) → read_line_of g (write_chars_of g f) n ≡ Line n f
+  pub write_read_of : (n : ℕ) → read_line_of g (write_chars_of g f) n ≡ says n f
   write_read_of n =
       ap (λ (l : List ℕ). read_line_of g l n) written_of
       ∙ chars_read (fields_of f) g n (narrow-fits (fields_of f) (and_left (narrow (fields_of f)) (is_frame (table_of g (fields_of f))) w))
@@ -115,10 +114,7 @@ write_injective_of g f i hf hi e =
     let p = write_read_of g f hf 0 in
     let q = write_read_of g i hi 0 in
     let r = ap (λ (l : List ℕ). read_line_of g l 0) e in
-    same (sym p ∙ r ∙ q)
-  where
-    same : Line 0 f ≡ Line 0 i → f ≡ i
-    same h = cc
+    (same-line (sym p ∙ r ∙ q)).1
 
 -- the fields that the table has as a frame are that frame's
 only-is : (b : Bool) (f g : Frame) → only b f ≡ frame g → (b ≡ true) × (f ≡ g)
@@ -263,7 +259,7 @@ module _ (s : List ℕ) (h : length s ≡ 23) (w : wrong s ≡ false) where
       small_five : (a b c d e : List ℕ) → small_form a ++ (small_form b ++ (small_form c ++ (small_form d ++ small_form e))) ≡ small_form (a ++ (b ++ (c ++ (d ++ e))))
       small_five a b c d e = sym (rw (small-append a (b ++ (c ++ (d ++ e))), small-append b (c ++ (d ++ e)), small-append c (d ++ e), small-append d e))
 
-module _ (g : Family) (s : List ℕ) (n k : ℕ) (f : Frame) (e : read_line_of g s n ≡ Line k f) where
+module _ (g : Family) (s : List ℕ) (n k : ℕ) (f : Frame) (e : read_line_of g s n ≡ says k f) where
   -- LAW: "an accepted line is from now on rewritten as its small-letter form"
   pub read_write_of : (k ≡ n) × (writable_of g f ≡ true) × (write_chars_of g f ≡ small_form s)
   read_write_of =
@@ -285,14 +281,14 @@ table-fields = table-fields-of Base
 pub written : (f : Frame) → writable f ≡ true → write_chars f ≡ chars (fields_of f)
 written = written_of Base
 
-pub write_read : (f : Frame) → writable f ≡ true → (n : ℕ) → read_line (write_chars f) n ≡ Line n f
+pub write_read : (f : Frame) → writable f ≡ true → (n : ℕ) → read_line (write_chars f) n ≡ says n f
 write_read = write_read_of Base
 
 pub write_injective : (f g : Frame) → writable f ≡ true → writable g ≡ true → write_chars f ≡ write_chars g → f ≡ g
 write_injective = write_injective_of Base
 
-pub read_write : (s : List ℕ) (n k : ℕ) (f : Frame) → read_line s n ≡ Line k f → (k ≡ n) × (writable f ≡ true) × (write_chars f ≡ small_form s)
+pub read_write : (s : List ℕ) (n k : ℕ) (f : Frame) → read_line s n ≡ says k f → (k ≡ n) × (writable f ≡ true) × (write_chars f ≡ small_form s)
 read_write = read_write_of Base
 
-pub rewritten-same : (s : List ℕ) (n k : ℕ) (f : Frame) → read_line s n ≡ Line k f → small_form s ≡ s → write_chars f ≡ s
+pub rewritten-same : (s : List ℕ) (n k : ℕ) (f : Frame) → read_line s n ≡ says k f → small_form s ≡ s → write_chars f ≡ s
 rewritten-same = rewritten-same-of Base

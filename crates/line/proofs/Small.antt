@@ -7,14 +7,13 @@ use mathlib.Core.Path.{◌≡◌, refl, ap, ap₂, ◌∙◌, sym}
 use native.Mathlib.Omega.{arith}
 use lib.Dec.{eqb}
 use lib.ListN.{length, get_or, take, drop}
+use Rattle.std.specs.Prelude.{Err}
 use Rattle.digits.specs.Digits.{small, small_form, all_digits, number}
 use Rattle.digits.proofs.Laws.{small_eqb, small-mod, small-length, small_all, small-number}
-use Rattle.line.specs.declared.Family.{Family}
-use Rattle.line.specs.declared.Family.TheVariants.{Base}
+use Rattle.line.specs.Refusal.{refusal}
+use Rattle.line.specs.Family.{Family, Base}
 use Rattle.line.specs.Table.{Fields, table_of}
-use Rattle.line.specs.declared.Read.{Read}
-use Rattle.line.specs.declared.Read.TheVariants.{Refused}
-use Rattle.line.specs.Read.{part, width, end, fields, wrong, tabled, read_line_of, read_line, line_at, read_at_of, read_at}
+use Rattle.line.specs.Read.{part, width, end, fields, wrong, tabled, read_line_of, read_line, line_at, read_at_of, read_at, Read}
 use Rattle.line.specs.At.{both_in}
 use Rattle.line.specs.Zeros.{all_zero}
 
@@ -74,8 +73,8 @@ module _ (s : List ℕ) where
   -- LAW: it reads the same
   pub read_small : (g : Family) (n : ℕ) → read_line_of g (small_form s) n ≡ read_line_of g s n
   read_small g n =
-      ap (λ (l : ℕ). cond (eqb l width) (cond (wrong (small_form s)) (Refused 5 n) (tabled (table_of g (fields (small_form s))) n)) (Refused 2 0)) (small-length s)
-      ∙ ap₂ (λ (b : Bool) (x : Fields). cond {A = Read} (eqb (length s) width) (cond b (Refused 5 n) (tabled (table_of g x) n)) (Refused 2 0)) small-wrong small-fields
+      ap (λ (l : ℕ). cond (eqb l width) (cond (wrong (small_form s)) (Err (refusal 5 n)) (tabled (table_of g (fields (small_form s))) n)) (Err (refusal 2 0))) (small-length s)
+      ∙ ap₂ (λ (b : Bool) (x : Fields). cond {A = Read} (eqb (length s) width) (cond b (Err (refusal 5 n)) (tabled (table_of g x) n)) (Err (refusal 2 0))) small-wrong small-fields
 
 module _ (g : Family) where
   -- LAW: two lines with the same small-letter form read the same

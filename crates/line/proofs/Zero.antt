@@ -1,15 +1,16 @@
 -- Characters that are all the digit 0: they are digits, and the number 0.
 use mathlib.Core.Path.{◌≡◌, refl, ap, ◌∙◌, sym}
+use Rattle.std.proofs.Common.{Some}
 use mathlib.Core.Bool.{Bool, true, false, ◌&&◌}
 use mathlib.Core.List.{List, [], ◌∷◌, ◌++◌}
 use Prim.Native.Nat.{ℕ, ◌≤◌}
 use lib.Dec.{eqb}
 use lib.ListN.{length, replicate}
-use borrow.Author.Tests.{eqb-true, le-leb}
+use borrow.Author.Tests.{eqb-true}
 use Rattle.digits.specs.Digits.{all_digits, number, behind}
-use Rattle.digits.specs.declared.read.Numeral.{Numeral}
 use Rattle.digits.specs.Read.{reading}
 use Rattle.digits.proofs.Laws.{and_left, and_right}
+use Rattle.digits.proofs.Reading.{reading_good}
 use Rattle.line.specs.Zeros.{all_zero}
 
 and_assoc : (a b c : Bool) → ((a && b) && c) ≡ (a && (b && c))
@@ -31,11 +32,8 @@ zero-behind (c ∷ s) e =
 pub zero_number : (s : List ℕ) → all_zero s ≡ true → number s ≡ 0
 zero_number s e = zero-behind s e
 
-abbrev pub nought : Numeral
-nought = record { good = true; value = 0 }
-
-pub zero-reading : (s : List ℕ) → length s ≤ 8 → all_zero s ≡ true → nought ≡ reading s
-zero-reading s h e = sym (simp (le-leb (length s) 8 h, zero-digits s e) (ap (λ (v : ℕ). record { good = true; value = v }) (zero-behind s e)))
+pub zero-reading : (s : List ℕ) → length s ≤ 8 → all_zero s ≡ true → Some 0 ≡ reading s
+zero-reading s h e = sym (reading_good s h (zero-digits s e) ∙ ap Some (zero-behind s e))
 
 pub zero-append : (s t : List ℕ) → all_zero (s ++ t) ≡ (all_zero s && all_zero t)
 zero-append [] t = refl

@@ -3,6 +3,7 @@
 -- is.
 use Rattle.std.specs.Prelude.{ℕ, ◌+◌, ◌*◌, ◌%◌, cond, List, [], length, get_or, eqb}
 use Rattle.digits.specs.Word.{plainly}
+use Rattle.line.specs.Family.{Family, Base, Finishes}
 use Rattle.line.specs.Read.{width, site_part, value_part, line_at}
 
 -- the characters of line n; none where it is not whole
@@ -18,6 +19,11 @@ kind_in l = get_or l 1 0 % 16
 abbrev pub both_in : List ℕ → ℕ
 both_in l = 16 * (get_or l 0 0 % 16) + get_or l 1 0 % 16
 
+-- the kind as a family has it
+abbrev pub kind_in_of : Family → List ℕ → ℕ
+kind_in_of Base l = kind_in l
+kind_in_of Finishes l = both_in l
+
 abbrev pub site_in : List ℕ → ℕ
 site_in l = plainly (site_part l)
 
@@ -30,6 +36,9 @@ kind_at s n = kind_in (whole_at s n)
 
 abbrev pub both_at : List ℕ → ℕ → ℕ
 both_at s n = both_in (whole_at s n)
+
+abbrev pub kind_at_of : Family → List ℕ → ℕ → ℕ
+kind_at_of g s n = kind_in_of g (whole_at s n)
 
 abbrev pub site_at : List ℕ → ℕ → ℕ
 site_at s n = site_in (whole_at s n)

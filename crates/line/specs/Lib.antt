@@ -1,3 +1,5 @@
+pub mod Refusal
+pub mod Family
 pub mod Table
 pub mod Read
 pub mod Zeros

@@ -1,10 +1,11 @@
 -- What the line reader gives: the frame that 23 characters are, or refusal 2, 5 or 6.
-use Rattle.std.specs.Prelude.{ℕ, ◌*◌, Bool, not, cond, ◌&&◌, List, length, get_or, take, drop, eqb}
+use Rattle.std.specs.Prelude.{ℕ, ◌*◌, Bool, not, cond, ◌&&◌, List, length, get_or, take, drop, eqb, Result, Ok, Err}
 use Rattle.digits.specs.Digits.{all_digits, number}
-use Rattle.line.specs.declared.Family.{Family}
-use Rattle.line.specs.declared.Family.TheVariants.{Base}
-use Rattle.line.specs.declared.Read.{Read}
-use Rattle.line.specs.declared.Read.TheVariants.{Line, Refused}
+use Rattle.line.specs.Family.{Family, Base}
+use Rattle.line.specs.declared.Frame.{Frame}
+use Rattle.line.specs.declared.Line.{Line}
+use Rattle.line.specs.declared.Refusal.{Refusal}
+use Rattle.line.specs.Refusal.{refusal}
 use Rattle.line.specs.Table.{Fields, Entry, frame, none, table_of}
 
 -- the characters of s from one place on, as many as size says
@@ -43,15 +44,22 @@ fields s = record { kind = number (kind_part s); site = number (site_part s); va
 abbrev pub wrong : List ℕ → Bool
 wrong s = not (all_digits (take end s) && eqb (get_or s end 0) 10)
 
+-- what reading a line gives: its number and its frame, or a refusal
+abbrev pub Read : Type 0
+Read = Result Line Refusal
+
+abbrev pub says : ℕ → Frame → Read
+says n f = Ok (record { number = n; frame = f })
+
 -- 6: "unknown kind, unused field not zero, or a value outside the table"
 abbrev pub tabled : Entry → ℕ → Read
-tabled (frame f) n = Line n f
-tabled none n = Refused 6 n
+tabled (frame f) n = says n f
+tabled none n = Err (refusal 6 n)
 
 -- "refusal 2 unless it is lent exactly 23 characters, then 5, then 6 ...; otherwise the frame"; n: the line's number,
 -- 0 where it stands alone
 abbrev pub read_line_of : Family → List ℕ → ℕ → Read
-read_line_of g s n = cond (eqb (length s) width) (cond (wrong s) (Refused 5 n) (tabled (table_of g (fields s)) n)) (Refused 2 0)
+read_line_of g s n = cond (eqb (length s) width) (cond (wrong s) (Err (refusal 5 n)) (tabled (table_of g (fields s)) n)) (Err (refusal 2 0))
 
 -- document 01's reader
 abbrev pub read_line : List ℕ → ℕ → Read

@@ -1,31 +1,27 @@
 -- For proofs, not for the reader of document 01: what the flat check sees of a line at a glance.
-use Rattle.std.specs.Prelude.{ℕ, Bool, not, ◌&&◌, List, eqb, get_or}
+use Rattle.std.specs.Prelude.{ℕ, Bool, not, ◌&&◌, List, eqb, get_or, Option, Some, None, Ok, Err}
 use Rattle.digits.specs.Digits.{all_digits}
 use Rattle.line.specs.declared.Frame.{Frame}
 use Rattle.line.specs.declared.Frame.TheVariants.{Site, Call, Spawn, Sync, Return, Cost, Instructions, Async, Finish}
-use Rattle.line.specs.declared.Read.{Read}
-use Rattle.line.specs.declared.Read.TheVariants.{Line, Refused}
-use Rattle.line.specs.declared.Sight.{Sight}
-use Rattle.line.specs.declared.Sight.TheVariants.{Seen, Other}
-use Rattle.line.specs.Read.{part, end, site_part, value_part}
+use Rattle.line.specs.Read.{Read, part, end, site_part, value_part}
 use Rattle.line.specs.Zeros.{all_zero}
 
 -- a frame that is no site line is seen
-abbrev pub seen_of : Frame → Sight
-seen_of (Site s p) = Other
-seen_of (Call s) = Seen (Call s)
-seen_of (Spawn s) = Seen (Spawn s)
-seen_of Sync = Seen Sync
-seen_of Return = Seen Return
-seen_of (Cost v) = Seen (Cost v)
-seen_of (Instructions v) = Seen (Instructions v)
-seen_of (Async s) = Seen (Async s)
-seen_of Finish = Seen Finish
+abbrev pub seen_of : Frame → Option Frame
+seen_of (Site s p) = None
+seen_of (Call s) = Some (Call s)
+seen_of (Spawn s) = Some (Spawn s)
+seen_of Sync = Some Sync
+seen_of Return = Some Return
+seen_of (Cost v) = Some (Cost v)
+seen_of (Instructions v) = Some (Instructions v)
+seen_of (Async s) = Some (Async s)
+seen_of Finish = Some Finish
 
 -- what is seen of a line that reads so
-abbrev pub glanced : Read → Sight
-glanced (Refused number line) = Other
-glanced (Line n f) = seen_of f
+abbrev pub glanced : Read → Option Frame
+glanced (Err r) = None
+glanced (Ok x) = seen_of x.frame
 
 -- file and column
 abbrev pub place_part : List ℕ → List ℕ

@@ -1,17 +1,9 @@
 -- The table of kinds of each family: which five fields are a frame, and the five fields of a frame.
 use Rattle.std.specs.Prelude.{ℕ, Bool, true, false, cond, ◌&&◌, eqb, leb}
-use Rattle.line.specs.declared.Family.{Family}
-use Rattle.line.specs.declared.Family.TheVariants.{Base, Finishes}
+use Rattle.line.specs.Family.{Family, Base, Finishes}
+pub use Rattle.line.specs.declared.Fields.{Fields}
 use Rattle.line.specs.declared.Frame.{Frame}
 use Rattle.line.specs.declared.Frame.TheVariants.{Site, Call, Spawn, Sync, Return, Cost, Instructions, Async, Finish}
-
--- "kind (2 digits), site (4), value (8), file (4), column (4)"
-pub record Fields : Type 0 where
-  pub kind : ℕ
-  pub site : ℕ
-  pub value : ℕ
-  pub file : ℕ
-  pub column : ℕ
 
 -- A table entry: a frame, or none: "unknown kind, unused field not zero, or a value outside the table".
 pub data Entry : Type 0 where

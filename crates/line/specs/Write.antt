@@ -1,11 +1,10 @@
 -- What the line writer gives: a frame's 23 characters, or refusal 6.
-use Rattle.std.specs.Prelude.{ℕ, Bool, true, false, cond, ◌&&◌, List, [], ◌∷◌, ◌++◌, replicate, ltb}
+use Rattle.std.specs.Prelude.{ℕ, Bool, true, false, cond, ◌&&◌, List, [], ◌∷◌, ◌++◌, replicate, ltb, Result, Ok, Err}
 use Rattle.digits.specs.Digits.{digits}
-use Rattle.line.specs.declared.Family.{Family}
-use Rattle.line.specs.declared.Family.TheVariants.{Base}
+use Rattle.line.specs.Family.{Family, Base}
 use Rattle.line.specs.declared.Frame.{Frame}
-use Rattle.line.specs.declared.Wrote.{Wrote}
-use Rattle.line.specs.declared.Wrote.TheVariants.{Chars, Refused}
+use Rattle.line.specs.declared.Refusal.{Refusal}
+use Rattle.line.specs.Refusal.{refusal}
 use Rattle.line.specs.Table.{Fields, Entry, frame, none, table_of, fields_of}
 use Rattle.line.specs.Read.{width}
 
@@ -25,20 +24,20 @@ is_frame none = false
 abbrev pub writable_of : Family → Frame → Bool
 writable_of g f = narrow (fields_of f) && is_frame (table_of g (fields_of f))
 
--- "gives 23 characters, or refusal 6 with line 0 where a field breaks the table"
-abbrev pub write_answer_of : Family → Frame → Wrote
-write_answer_of g f = cond (writable_of g f) (Chars width) (Refused 6 0)
-
--- the characters that are given; zeros beside a refusal
+-- the characters of a writable frame; zeros where it is none
 abbrev pub write_chars_of : Family → Frame → List ℕ
 write_chars_of g f = cond (writable_of g f) (chars (fields_of f)) (replicate width 0)
+
+-- "gives 23 characters, or refusal 6 with line 0 where a field breaks the table"
+abbrev pub write_line_of : Family → Frame → Result (List ℕ) Refusal
+write_line_of g f = cond (writable_of g f) (Ok (write_chars_of g f)) (Err (refusal 6 0))
 
 -- document 01's writer
 abbrev pub writable : Frame → Bool
 writable f = writable_of Base f
 
-abbrev pub write_answer : Frame → Wrote
-write_answer f = write_answer_of Base f
-
 abbrev pub write_chars : Frame → List ℕ
 write_chars f = write_chars_of Base f
+
+abbrev pub write_line : Frame → Result (List ℕ) Refusal
+write_line f = write_line_of Base f

@@ -4,7 +4,7 @@ use mathlib.Core.List.{List, []}
 use Prim.Native.Nat.{ℕ, ◌+◌, ◌-◌, ◌≤◌, ◌<◌}
 use native.Mathlib.Omega.{arith}
 use lib.ListN.{length}
-use Rattle.line.specs.declared.Family.{Family}
+use Rattle.line.specs.Family.{Family}
 use Rattle.chain.specs.Plan.{CostLine}
 use Rattle.trace.specs.Tree.{Body, work_of}
 use Rattle.trace.specs.Fold.{Chains, nothing, run, chain_of}

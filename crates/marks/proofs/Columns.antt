@@ -1,16 +1,13 @@
 -- The second reading, with no code in sight.
 use mathlib.Core.Path.{◌≡◌, refl, ap, ◌∙◌, sym, subst}
-use mathlib.Core.Logic.{◌⊎◌}
-use mathlib.Core.Bool.{Bool, cond}
+use mathlib.Core.Logic.{◌⊎◌, inl, inr}
 use mathlib.Core.List.{List, [], ◌∷◌}
-use Prim.Native.Nat.{ℕ, suc, ◌+◌, ◌-◌, ◌^◌, ◌≤◌, ◌<◌}
+use Prim.Native.Nat.{ℕ, suc, ◌+◌, ◌≤◌, ◌<◌}
 use native.Mathlib.Omega.{arith}
 use lib.Dec.{eqb}
 use lib.ListN.{length, get_or, set, length-set}
 use lib.Seq.{get_or-set_same, get_or-set_other, set-get_or, set-set}
-use borrow.Author.Tests.{eq-eqb, ne_eqb}
-use Rattle.line.specs.declared.Family.{Family}
-use Rattle.line.specs.declared.Family.TheVariants.{Base, Finishes}
+use Rattle.line.specs.Family.{Family, Base, Finishes}
 use Rattle.line.specs.At.{site_at, value_at}
 use Rattle.trace.specs.Column.{Column, nth, slot}
 use Rattle.trace.specs.Tree.{Leaf, spend, sync, note, leaf_work, leaf_instructions, Body, done, leaf, child, ahead, size}
@@ -25,21 +22,14 @@ use Rattle.walk.specs.Item.{More}
 use Rattle.walk.proofs.Items.{size-some}
 use Rattle.walk.proofs.Lines.{is-more, is-done, is-sync, is-note, instructions-ahead}
 use Rattle.walk.proofs.Says.{kind-says, site-says, value-says}
-use Rattle.walk.proofs.Rows.{one_same, one-other, grown_one}
+use Rattle.walk.proofs.Rows.{one_same, one-other}
 use Rattle.walk.proofs.Room.{lines_in_lem}
 use Rattle.walk.proofs.Child.{cost-is, Child, child-is}
 use Rattle.marks.specs.declared.Present.{Present}
 use Rattle.marks.specs.Park.{Zero}
 use Rattle.marks.specs.Reach.{row_of}
 use Rattle.marks.specs.Column.{marked, marked_gain, on_gain, Left, left, AllRead, lines_left, on_left, AllWithin, behind, on_line, stacked, Held, HeldAfter, root, entered, Returned, OnFits, OnLent, LineAsks, LineLeaves, ColumnAsks, ColumnLeaves}
-use Rattle.marks.proofs.Finish.{is-opened}
-
--- a mark decides
-pub marked-on : (x v : ℕ) → x ≡ 1 → marked x v ≡ v
-marked-on x v e = ap (λ (b : Bool). cond b v 0) (eq-eqb x 1 e)
-
-marked-off : (x v : ℕ) → (x ≡ 1 → ⊥) → marked x v ≡ 0
-marked-off x v e = ap (λ (b : Bool). cond b v 0) (ne_eqb x 1 e)
+use Rattle.marks.proofs.Finish.{is-opened, row_named}
 
 -- nothing counts nothing
 marked-none : (x v : ℕ) → v ≡ 0 → marked x v ≡ 0
@@ -65,33 +55,6 @@ gain-none s x v w e h i =
     let j = slot s Column.on_span in
     let k = slot s Column.ion_span in
     omega (arith, ap (λ (y : ℕ). one j y i) e, ap (λ (y : ℕ). one k y i) h, cond_same (eqb j i), cond_same (eqb k i))
-
--- the line is marked: both numbers were added to, one after the other
-module _ (rows rows₁ : List ℕ) (s x v w : ℕ) (e : x ≡ 1) (h₁ : rows₁ ≡ set rows (slot s Column.on_span) (get_or rows (slot s Column.on_span) 0 + v)) where
-  long : length rows₁ ≡ length rows
-  long = ap length h₁ ∙ length-set rows (slot s Column.on_span) (get_or rows (slot s Column.on_span) 0 + v)
-
-  first : Grown rows (one (slot s Column.on_span) v) rows₁
-  first i l = ap (λ (y : List ℕ). get_or y i 0) h₁ ∙ grown_one rows (slot s Column.on_span) v i l
-
-  -- the second stays as it was at the first
-  pub fits-then : ColumnFits rows s Column.ion_span (marked x w) → (slot s Column.ion_span < length rows₁) × (get_or rows₁ (slot s Column.ion_span) 0 + w < 2 ^ 64)
-  fits-then f = (omega (arith, f.0, long), omega (arith, f.1, marked-on x w e, first (slot s Column.ion_span) f.0, on-apart s v s))
-
-  pub grown_on : (rows₂ : List ℕ) → rows₂ ≡ set rows₁ (slot s Column.ion_span) (get_or rows₁ (slot s Column.ion_span) 0 + w) → Grown rows (marked_gain s x v w) rows₂
-  grown_on rows₂ h₂ i l =
-      let k = slot s Column.ion_span in
-      omega (
-        arith,
-        ap (λ (y : List ℕ). get_or y i 0) h₂,
-        grown_one rows₁ k w i (omega (arith, long)),
-        first i l,
-        ap (λ (y : ℕ). one (slot s Column.on_span) y i) (marked-on x v e),
-        ap (λ (y : ℕ). one k y i) (marked-on x w e),
-      )
-
-pub grown_off : (rows : List ℕ) (s x v w : ℕ) → (x ≡ 1 → ⊥) → Grown rows (marked_gain s x v w) rows
-grown_off rows s x v w e i l = omega (arith, gain-none s x v w (marked-off x v e) (marked-off x w e) i)
 
 -- What one line does to the open invocations.
 
@@ -159,14 +122,6 @@ held-left z o (y ∷ k) a r t t' l e h x =
       p.1 ∙ ap (λ (y : List ℕ). set y d 0) h ∙ set-set u d y.row 0 ∙ clear,
     )
 
--- the root's return
-pub returned-last : (t : List ℕ) (a : Present) → a.around ≡ 0 → Returned t a a t
-returned-last t a e = record { last = λ q. (refl, refl); inner = λ d q. absurd (omega arith) }
-
--- another's
-pub returned-inner : (t : List ℕ) (a : Present) → (a.around ≡ 0 → ⊥) → Returned t a (record { row = get_or t (a.around - 1) 0; around = a.around - 1 }) (set t (a.around - 1) 0)
-returned-inner t a e = record { last = λ q. absurd (e q); inner = λ d q. let z : a.around - 1 ≡ d = omega arith in rw z (refl, refl) }
-
 -- what holds behind a line holds at the next
 held_next : (z : List ℕ) (k : List Left) (a r : Present) (t : List ℕ) → HeldAfter z k a r t → Held z k r t
 held_next z [] a r t h = h.1
@@ -229,6 +184,12 @@ module _ {y : Family} {how : Weigh} {s : List ℕ} {n : ℕ} {a : Present} {t m 
   -- a line that weighs nothing and joins nothing
   pub note-leaves : (kind ≡ 1) ⊎ (kind ≡ 7) → LineLeaves y how s n a t m rows a t rows
   note-leaves k q = let e = is-note y how s n q.row kind says q.body q.lent.reads.0 k in weightless q (note e.0) e.1 refl refl e.2
+
+  -- each line that weighs nothing, opens nothing and is no return
+  pub silent-leaves : (kind ≡ 1) ⊎ ((kind ≡ 4) ⊎ (kind ≡ 7)) → LineLeaves y how s n a t m rows a t rows
+  silent-leaves (inl k1) = note-leaves (inl k1)
+  silent-leaves (inr (inl k4)) = sync-leaves k4
+  silent-leaves (inr (inr k7)) = note-leaves (inr k7)
 
   -- a return
   pub return_leaves : kind ≡ 5 → (r : Present) (t' : List ℕ) → Returned t a r t' → LineLeaves y how s n a t m rows r t' rows
@@ -313,6 +274,14 @@ module _ {how : Weigh} {s : List ℕ} {n : ℕ} {a : Present} {t m rows : List �
       opens_leaves p kind kind_is row
       (λ q. subst (λ (x : ℕ). Child Finishes how s n x q.body) (ap (row_of s n kind) (sym q.lent.held.0) ∙ sym row_is)
       (is-opened how s n q.row kind kind_is k6 k7 k1 q.body q.lent.reads.0 (more p kind kind_is k5 q)))
+
+-- either, in a trace of either family
+pub opened-leaves : (y : Family) {how : Weigh} {s : List ℕ} {n : ℕ} {a : Present} {t m rows : List ℕ} → LineAsks y how s n a t m rows → (kind : ℕ) → kind ≡ kind_by y s n → (row : ℕ) → row ≡ row_of s n kind a.row
+    → ((kind ≡ 6) ⊎ ((kind ≡ 5) ⊎ ((kind ≡ 1) ⊎ ((kind ≡ 4) ⊎ (kind ≡ 7)))) → ⊥) → (r : Present) (t' : List ℕ) → r ≡ entered row a → t' ≡ set t a.around a.row → LineLeaves y how s n a t m rows r t' rows
+opened-leaves Base {how} {s} {n} {a} p kind kind_is row row_is other =
+    child-leaves p kind kind_is row (row_is ∙ row_named s n kind a.row (λ e. omega (arith, e, kind_is))) (λ e. other (inl e)) (λ e. other (inr (inl e))) (λ e. other (inr (inr (inr (inl e))))) (λ e. other (inr (inr (inr (inr e))))) (λ e. other (inr (inr (inl e))))
+opened-leaves Finishes p kind kind_is row row_is other =
+    enter_leaves p kind kind_is row row_is (λ e. other (inl e)) (λ e. other (inr (inl e))) (λ e. other (inr (inr (inr (inr e))))) (λ e. other (inr (inr (inl e))))
 
 -- The loop.
 

@@ -1,7 +1,7 @@
 -- The items of the finish family: what each asks for and comes to, and how far a call's asyncs reach, with no code in
 -- sight.
 use mathlib.Core.Path.{◌≡◌, refl, ap, ◌∙◌, sym, subst}
-use mathlib.Core.Logic.{◌⊎◌}
+use mathlib.Core.Logic.{◌⊎◌, inl, inr}
 use mathlib.Core.Bool.{Bool, true, false, cond}
 use mathlib.Core.List.{List}
 use Prim.Native.Nat.{ℕ, ◌+◌, ◌-◌, ◌^◌, ◌≤◌, ◌<◌}
@@ -9,7 +9,7 @@ use native.Mathlib.Omega.{arith}
 use lib.Dec.{eqb}
 use lib.ListN.{length}
 use borrow.Author.Tests.{eqb-true, eqb-false, eq-eqb, ne_eqb}
-use Rattle.line.specs.declared.Family.TheVariants.{Finishes}
+use Rattle.line.specs.Family.{Finishes}
 use Rattle.line.specs.At.{site_at}
 use Rattle.trace.specs.Tree.{async, pass, finish, Body, child as nested, work_of, larger, span_of}
 use Rattle.trace.specs.Fold.{Chains, run, chain_of}
@@ -37,7 +37,7 @@ use Rattle.marks.specs.Shown.{Shows}
 use Rattle.marks.specs.Steps.{Passed, Called, Spawned}
 use Rattle.marks.specs.Reader.{Lent, ItemAsks, ItemLeft, ItemLeaves, ItemsLeft, ItemsLeave}
 use Rattle.marks.specs.Reach.{row_of, of_row, own_of, ItemReach, ItemsReach}
-use Rattle.marks.proofs.Bodies.{kept_on, Loop, loop-start, Next, loop_again}
+use Rattle.marks.proofs.Bodies.{kept_on, Loop, Next, loop_again}
 use Rattle.marks.proofs.Items.{Costs, line_is, Opens, Back, called-asks, behind, counted}
 
 -- What opens at a line.
@@ -96,10 +96,6 @@ module _ (how : Weigh) (s : List ℕ) (a : Reach) where
       let q = is-note Finishes how s n a.zones.row kind (says how s n a.zones.row kind kind_is) b st passed in
       e ∙ sym (ap (λ (x : Body). (own_item (own_of a) x).far) q.2)
 
--- what is in series fits
-pub series-fits : {how : Weigh} {s : List ℕ} {deep : ℕ} {z : Zones} {t m rows : List ℕ} → Lent Finishes how s deep z t m rows → z.own.prefix.0 + z.own.since.0 < 2 ^ 64
-series-fits l = omega (arith, l.ready.load_fits)
-
 -- the item is an async or a finish, of a row
 pub record Enters (how : Weigh) (s : List ℕ) (deep : ℕ) (a : Reach) (t m rows : List ℕ) (kind row : ℕ) : Type 0 where
   pub asks : ItemAsks Finishes how s kind deep a.zones t m rows
@@ -108,6 +104,12 @@ pub record Enters (how : Weigh) (s : List ℕ) (deep : ℕ) (a : Reach) (t m row
   pub no_instructions : kind ≡ 7 → ⊥
   pub no_note : kind ≡ 1 → ⊥
   pub no_call : kind ≡ 2 → ⊥
+
+-- it is, by its kind
+pub enters_row : {how : Weigh} {s : List ℕ} {deep : ℕ} {a : Reach} {t m rows : List ℕ} {kind row : ℕ} → ItemAsks Finishes how s kind deep a.zones t m rows → row ≡ row_of s a.zones.own.at kind a.zones.row
+    → ((kind ≡ 6) ⊎ ((kind ≡ 1) ⊎ ((kind ≡ 7) ⊎ (kind ≡ 2))) → ⊥) → Enters how s deep a t m rows kind row
+enters_row asks row_is other =
+    record { asks = asks; row_is = row_is; no_cost = λ e. other (inl e); no_note = λ e. other (inr (inl e)); no_instructions = λ e. other (inr (inr (inl e))); no_call = λ e. other (inr (inr (inr e))) }
 
 module _ {how : Weigh} {s : List ℕ} {deep : ℕ} {a : Reach} {t m rows : List ℕ} {kind row : ℕ} (h : Enters how s deep a t m rows kind row) where
   abbrev z : Zones
@@ -320,9 +322,6 @@ module _ {how : Weigh} {s : List ℕ} {deep : ℕ} {a : Reach} {t m rows : List 
 pub record ReachLoop (how : Weigh) (s : List ℕ) (deep : ℕ) (a₀ : Reach) (t₀ m₀ rows₀ t m rows : List ℕ) (a : Reach) (kind : ℕ) : Type 0 where
   pub loop : Loop Finishes how s deep a₀.zones t₀ m₀ rows₀ t m rows a.zones kind
   pub reach : (b : Body) → Reads Finishes how s a₀.zones.own.at a₀.zones.row b → (x : Body) × Reads Finishes how s a.zones.own.at a₀.zones.row x × (own (own_of a) x ≡ own (own_of a₀) b)
-
-pub reach-start : {how : Weigh} {s : List ℕ} {deep : ℕ} {a : Reach} {t m rows : List ℕ} → Lent Finishes how s deep a.zones t m rows → (kind : ℕ) → kind ≡ kind_by Finishes s a.zones.own.at → ReachLoop how s deep a t m rows t m rows a kind
-reach-start l kind k = record { loop = loop-start l kind k; reach = λ b st. (b, st, refl) }
 
 module _ {how : Weigh} {s : List ℕ} {deep : ℕ} {a₀ : Reach} {t₀ m₀ rows₀ t m rows : List ℕ} {a : Reach} {kind : ℕ} (l : ReachLoop how s deep a₀ t₀ m₀ rows₀ t m rows a kind) where
   line-says : Says Finishes kind_of s a.zones.own.at kind

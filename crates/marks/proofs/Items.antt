@@ -1,12 +1,11 @@
 -- The item reader: what each kind of item asks for and comes to, with no code in sight.
 use mathlib.Core.Path.{◌≡◌, refl, ap, ◌∙◌, sym, subst}
-use mathlib.Core.Logic.{◌⊎◌}
+use mathlib.Core.Logic.{◌⊎◌, inl, inr}
 use mathlib.Core.List.{List}
 use Prim.Native.Nat.{ℕ, ◌+◌, ◌-◌, ◌^◌, ◌≤◌, ◌<◌}
 use native.Mathlib.Omega.{arith}
 use lib.ListN.{length}
-use Rattle.line.specs.declared.Family.{Family}
-use Rattle.line.specs.declared.Family.TheVariants.{Base}
+use Rattle.line.specs.Family.{Family, Base}
 use Rattle.line.specs.At.{site_at, value_at}
 use Rattle.chain.specs.Plan.{weight}
 use Rattle.trace.specs.Column.{Column, slot}
@@ -30,9 +29,10 @@ use Rattle.walk.proofs.Room.{lines_in_lem}
 use Rattle.walk.proofs.Child.{cost-is, call_is, spawn_is, Child, child-is, cost-fits, child-work, deeper as child-deeper, child-row, child-ready, count_fits as child_fits, child-done}
 use Rattle.marks.specs.declared.Zones.{Zones}
 use Rattle.marks.specs.Shown.{Zone, Shows, Kept}
-use Rattle.marks.specs.Park.{Zero}
+use Rattle.marks.specs.Park.{park, Zero}
 use Rattle.marks.specs.Steps.{Fits, At, Spent, Passed, Joined, Called, Spawned}
 use Rattle.marks.specs.Reader.{Lent, ItemAsks, ItemLeft, ItemLeaves, BodyAsks, BodyLeft, BodyLeaves}
+use Rattle.marks.proofs.Park.{Stored}
 use Rattle.marks.proofs.Shown.{zone-kept}
 use Rattle.marks.proofs.Bodies.{shows-begun}
 
@@ -119,6 +119,11 @@ module _ {y : Family} {how : Weigh} {s : List ℕ} {deep : ℕ} {z : Zones} {t m
       subst (λ (x : Body). ItemLeft n x k z m rows r m' rows') (sym q.1)
       (left_is n (z.own.at + 1) (z.own.work.0 + v) (leaf (spend v) q.0) k z m rows r m' rows' d (record { numbers_are = d.numbers_are; rows_are = subst (λ (x : ℕ). Grown rows (cost_gain z.row v x) rows') q.2 grown }))
 
+-- it is, by its kind
+pub costs : {y : Family} {how : Weigh} {s : List ℕ} {deep : ℕ} {z : Zones} {t m rows : List ℕ} {kind v w : ℕ} → ItemAsks y how s kind deep z t m rows → v ≡ how z.own.at z.row (value_at s z.own.at) → w ≡ instructions_at s z.own.at
+    → kind ≡ 6 → Costs y how s deep z t m rows kind v w
+costs asks weight_is instructions_are cost = record { asks = asks; weight_is = weight_is; instructions_are = instructions_are; cost = cost }
+
 -- something opens whose row is site
 pub record Opens (y : Family) (how : Weigh) (s : List ℕ) (deep : ℕ) (z : Zones) (t m rows : List ℕ) (site : ℕ) : Type 0 where
   pub lent : Lent y how s deep z t m rows
@@ -151,6 +156,10 @@ module _ {y : Family} {how : Weigh} {s : List ℕ} {deep : ℕ} {z : Zones} {t m
         shows = shows-begun (z.own.at + 1) site m;
       }
 
+  -- it is stored meanwhile
+  pub stored : {t₁ : List ℕ} → t₁ ≡ park z t → Stored z t t₁
+  stored is = record { room = room; zero = l.zero; is = is }
+
   -- columns 2 and 3 of its row can be taken
   pub credit_asks : slot site Column.span < length rows
   credit_asks = child-row y how s z.row l.sites deep z.own rows l.ready site child
@@ -162,6 +171,10 @@ module _ {y : Family} {how : Weigh} {s : List ℕ} {deep : ℕ} {z : Zones} {t m
     pub marks_long : length m₁ ≡ length m
     pub rows_long : length rows₁ ≡ length rows
     pub leaves : BodyLeaves y how s (z.own.at + 1) site m rows c m₁ rows₁
+
+  -- it has, by what the reader leaves
+  pub back : {before : Credit} {c : Open} {m₁ rows₁ : List ℕ} → before ≡ credit_of rows site → length m₁ ≡ length m → length rows₁ ≡ length rows → BodyLeaves y how s (z.own.at + 1) site m rows c m₁ rows₁ → Back before c m₁ rows₁
+  back taken marks_long rows_long leaves = record { taken = taken; marks_long = marks_long; rows_long = rows_long; leaves = leaves }
 
   module _ {before : Credit} {c : Open} {m₁ rows₁ : List ℕ} (u : Back before c m₁ rows₁) where
     left : BodyLeft (z.own.at + 1) site child.g m rows c m₁ rows₁
@@ -220,6 +233,12 @@ pub record Calls (how : Weigh) (s : List ℕ) (deep : ℕ) (z : Zones) (t m rows
   pub no_sync : kind ≡ 4 → ⊥
   pub no_instructions : kind ≡ 7 → ⊥
   pub no_note : kind ≡ 1 → ⊥
+
+-- it is, by its kind
+pub calls_site : {how : Weigh} {s : List ℕ} {deep : ℕ} {z : Zones} {t m rows : List ℕ} {kind site : ℕ} → ItemAsks Base how s kind deep z t m rows → site ≡ site_at s z.own.at
+    → ((kind ≡ 6) ⊎ ((kind ≡ 4) ⊎ ((kind ≡ 1) ⊎ (kind ≡ 7))) → ⊥) → Calls how s deep z t m rows kind site
+calls_site asks site_is other =
+    record { asks = asks; site_is = site_is; no_cost = λ e. other (inl e); no_sync = λ e. other (inr (inl e)); no_note = λ e. other (inr (inr (inl e))); no_instructions = λ e. other (inr (inr (inr e))) }
 
 module _ {how : Weigh} {s : List ℕ} {deep : ℕ} {z : Zones} {t m rows : List ℕ} {kind site : ℕ} (h : Calls how s deep z t m rows kind site) where
   says : Says Base kind_of s z.own.at kind

@@ -3,7 +3,7 @@ use mathlib.Core.Path.{◌≡◌, refl, ap, ◌∙◌, sym}
 use mathlib.Core.List.{List, [], ◌∷◌}
 use Prim.Native.Nat.{ℕ, ◌+◌, ◌-◌, ◌≤◌}
 use native.Mathlib.Omega.{arith}
-use lib.ListN.{length, take, drop, get_or, length-set, length-drop}
+use lib.ListN.{length, take, drop, get_or, length-drop}
 use lib.Seq.{get_or-drop, take-length}
 use borrow.Rule.Slice.PartMut.{put_mid, put_same}
 use Rattle.marks.specs.declared.Zones.{Zones}
@@ -27,9 +27,6 @@ module _ (z : Zones) (t : List ℕ) (l : 8 ≤ length t) where
   rest-same : drop 8 (park z t) ≡ drop 8 t
   rest-same = by_eight (λ (t : List ℕ). drop 8 (park z t) ≡ drop 8 t) (λ a b c d e f g h r. refl) t l
 
-  park-length : length (park z t) ≡ length t
-  park-length = simp length-set
-
   cleared : Zero t → park blank (park z t) ≡ t
   cleared o = by_eight (λ (t : List ℕ). Zero t → park blank (park z t) ≡ t) (λ a b c d e f g h r o. cc (o 0, o 1, o 2, o 3, o 4, o 5, o 6, o 7)) t l o
 
@@ -41,9 +38,6 @@ pub record Stored (z : Zones) (t t₁ : List ℕ) : Type 0 where
 
 -- while it is stored, the child is lent zeros; they come back as they were
 module _ {z : Zones} {t t₁ : List ℕ} (h : Stored z t t₁) where
-  pub stored-room : 8 ≤ length t₁
-  stored-room = omega (arith, ap length h.is, park-length z t h.room, h.room)
-
   abbrev part : List ℕ
   part = take (length t₁ - 8) (drop 8 t₁)
 
@@ -59,9 +53,6 @@ module _ {z : Zones} {t t₁ : List ℕ} (h : Stored z t t₁) where
   module _ (y : List ℕ) (same : y ≡ part) where
     back : put_mid 8 (length t₁ - 8) t₁ y ≡ park z t
     back = ap (λ (q : List ℕ). put_mid 8 (length t₁ - 8) t₁ q) same ∙ put_same 8 (length t₁ - 8) t₁ ∙ h.is
-
-    pub back-room : 8 ≤ length (put_mid 8 (length t₁ - 8) t₁ y)
-    back-room = omega (arith, ap length back, park-length z t h.room, h.room)
 
     pub load_is : (k : Zones) → k ≡ parked (put_mid 8 (length t₁ - 8) t₁ y) → k ≡ z
     load_is k q = q ∙ ap parked back ∙ loaded z t h.room

@@ -6,27 +6,26 @@ use Prim.Native.Nat.{ℕ, ◌+◌, ◌*◌, ◌-◌, ◌^◌, ◌≤◌, ◌<◌
 use native.Mathlib.Decide.{dec_lt}
 use native.Mathlib.Omega.{arith}
 use lib.ListN.{length, get_or, replicate, length-replicate, get_or-eq_default}
-use Rattle.line.specs.declared.Family.{Family}
+use Rattle.std.specs.Prelude.{Ok}
+use Rattle.line.specs.Family.{Family}
 use Rattle.line.specs.declared.Frame.{Frame}
 use Rattle.chain.specs.Over.{lines_in}
-use Rattle.trace.specs.declared.Answer.{Answer}
-use Rattle.trace.specs.declared.Answer.TheVariants.{Accepted, Refused}
+use Rattle.trace.specs.Answer.{Answer}
+use Rattle.trace.specs.Answer.{profiled as answered}
 use Rattle.trace.specs.Shape.{has}
 use Rattle.trace.specs.Rows.{columns}
 use Rattle.trace.specs.Column.{Column, slot}
-use Rattle.trace.specs.Refusals.{verdict_of, verdict}
+use Rattle.trace.specs.Refusals.{verdict_of}
 use Rattle.trace.specs.Promise.{marks, Lent, enough, scratch_room, rows_room, marks_room, ProfileOf, PromiseOf}
 use Rattle.trace.specs.ByTree.{cell, ProfileBy}
 use Rattle.trace.specs.Tree.{Body, size, Within, work_of, span_of}
 use Rattle.trace.specs.Fold.{nothing, its_cycles, its_instructions, chain_of, on_row}
 use Rattle.trace.proofs.Slots.{slot_in, is-column}
 use Rattle.trace.proofs.Scan.{accepted-is-of, accepted-same}
-use Rattle.admit.specs.declared.Verdict.TheVariants as Verdict
-use Rattle.admit.specs.Answer.{admission_of, admission}
-use Rattle.admit.proofs.Admitted.{refused-only, accepted-only}
+use Rattle.admit.specs.declared.Accepted.{Accepted}
+use Rattle.admit.specs.Answer.{admission_of}
+use Rattle.admit.proofs.Admitted.{accepted-only}
 use Rattle.weigh.specs.Weighed.{Weigh, Tabled, reweighed}
-use Rattle.forecast.specs.declared.Listed.{Listed}
-use Rattle.forecast.specs.OfList.{ForecastOf}
 use Rattle.walk.specs.declared.Open.{Open}
 use Rattle.walk.specs.declared.Credit.{Credit}
 use Rattle.walk.specs.Weight.{by_asking}
@@ -34,7 +33,7 @@ use Rattle.walk.specs.Reads.{Reads}
 use Rattle.walk.specs.Gain.{credit_of, ReturnFits, Returned}
 use Rattle.walk.specs.Profiled.{Profiled}
 use Rattle.walk.proofs.Weight.{weight-plain}
-use Rattle.walk.proofs.Profiled.{kept-refused, text-refused, plain_promise}
+use Rattle.walk.proofs.Profiled.{plain_promise}
 use Rattle.walk.proofs.Zeros.{zeros-at}
 use Rattle.walk.proofs.Accepted.{limits, rooms, rows-room, cleared, row-there, trace, root, body, lines_are, within, small, reads, ready, profiled, work_is, span_is, count_fits, cells, none-on, none_ion, rest}
 use Rattle.marks.specs.Reader.{BodyAsks, BodyLeft, BodyLeaves}
@@ -70,6 +69,10 @@ module _ {f : Family} {s : List ℕ} {D M : ℕ} {x : Lent} {count lines : ℕ} 
   pub record Blank (t₁ r₁ : List ℕ) : Type 0 where
     pub scratch_is : t₁ ≡ replicate (length x.scratch) 0
     pub rows_are : r₁ ≡ rows₀
+
+  -- the scratch and the rows were cleared
+  pub blanked : {t₁ r₁ : List ℕ} → t₁ ≡ replicate (length x.scratch) 0 → r₁ ≡ rows₀ → Blank t₁ r₁
+  blanked scratch_is rows_are = record { scratch_is = scratch_is; rows_are = rows_are }
 
   -- columns 2 and 3 of its row can be taken
   pub credit_asks : {t₁ r₁ : List ℕ} → Blank t₁ r₁ → slot 0 Column.span < length r₁
@@ -116,6 +119,12 @@ module _ {f : Family} {s : List ℕ} {D M : ℕ} {x : Lent} {count lines : ℕ} 
       pub marks_same : length m₂ ≡ length x.marks
       pub rows_same : length rows₁ ≡ length x.rows
       pub leaves : BodyLeaves f how s 0 0 x.marks r₁ c m₂ rows₁
+
+    -- it was, by what its reader leaves
+    pub was_read : {t₁ r₁ : List ℕ} {before : Credit} {c : Open} {t₂ m₂ rows₁ : List ℕ} → Blank t₁ r₁ → before ≡ credit_of r₁ 0 → t₂ ≡ t₁ → length m₂ ≡ length x.marks → length rows₁ ≡ length r₁ → length r₁ ≡ length x.rows
+        → BodyLeaves f how s 0 0 x.marks r₁ c m₂ rows₁ → Read before c t₂ m₂ rows₁
+    was_read {t₁} {r₁} blank taken same marks_same rows_same rows_long leaves =
+        record { t₁ = t₁; r₁ = r₁; blank = blank; taken = taken; zero = same ∙ blank.scratch_is; marks_same = marks_same; rows_same = rows_same ∙ rows_long; leaves = leaves }
 
     module _ {before : Credit} {c : Open} {t₂ m₂ rows₁ : List ℕ} (u : Read before c t₂ m₂ rows₁) where
       took : before ≡ credit_of rows₀ 0
@@ -168,7 +177,7 @@ module _ {f : Family} {s : List ℕ} {D M : ℕ} {x : Lent} {count lines : ℕ} 
         -- what it left
         module _ (t₃ rows₃ : List ℕ) (on : ColumnLeaves f how s lines t₂ m₂ rows₂ rows₃) (same : t₃ ≡ t₂) (lr₃ : length rows₃ ≡ length x.rows) where
           abbrev answer : Answer
-          answer = Accepted c.work.0 c.prefix.0 count lines
+          answer = answered c.work.0 c.prefix.0 count lines
 
           grown : (i : ℕ) → i < length x.rows → get_or rows₃ i 0 ≡ get_or rows₂ i 0 + on_gain m₂ 0 0 b i
           unfolding on-asks
@@ -205,7 +214,7 @@ module _ {f : Family} {s : List ℕ} {D M : ℕ} {x : Lent} {count lines : ℕ} 
           by-tree : ProfileBy marks count b x answer (lent t₃ m₂ rows₃)
           by-tree =
               record {
-                answer = ap (λ (y : ℕ). Accepted y c.prefix.0 count lines) (work_is f marks s D M x t a.is count a.count_is how tabled before took c rows₁ u.rows_same left.done) ∙ ap (λ (y : ℕ). Accepted (work_of b) y count lines) (span_is f marks s D M x t a.is count a.count_is how tabled before took c rows₁ u.rows_same left.done) ∙ ap (Accepted (work_of b) (span_of b) count) ends;
+                answer = ap (λ (y : ℕ). answered y c.prefix.0 count lines) (work_is f marks s D M x t a.is count a.count_is how tabled before took c rows₁ u.rows_same left.done) ∙ ap (λ (y : ℕ). answered (work_of b) y count lines) (span_is f marks s D M x t a.is count a.count_is how tabled before took c rows₁ u.rows_same left.done) ∙ ap (answered (work_of b) (span_of b) count) ends;
                 rows = record { same_length = lr₃; cells = cells_are; rest = rest-is };
                 scratch = same ∙ u.zero;
                 marked = record { same_length = u.marks_same; marks_are = λ k l. shown k (omega arith) (omega arith); rest = λ k l. left.kept k (λ v w. omega (arith, at_is)) };
@@ -218,20 +227,10 @@ module _ {f : Family} {s : List ℕ} {D M : ℕ} {x : Lent} {count lines : ℕ} 
 
 -- what the answer of acceptance says
 module _ (f : Family) (s : List ℕ) (D M : ℕ) (x : Lent) where
-  pub admitted : (count lines : ℕ) → Verdict.Accepted count lines ≡ admission_of f marks s D M (length x.scratch) (length x.rows) (length x.marks) → Admitted f s D M x count lines
-  admitted count lines e =
-      let h = accepted-only (verdict_of f s D M (enough marks s D M x)) count lines e in
+  pub admitted : (w : Accepted) → Ok w ≡ admission_of f marks s D M (length x.scratch) (length x.rows) (length x.marks) → Admitted f s D M x w.sites w.lines
+  admitted w e =
+      let h = accepted-only (verdict_of f s D M (enough marks s D M x)) w e in
       record { frames = h.0; is = h.1; count_is = h.2; lines_is = h.3 }
-
-  pub refuses : (number line : ℕ) → Verdict.Refused number line ≡ admission_of f marks s D M (length x.scratch) (length x.rows) (length x.marks) → PromiseOf f marks s D M x (Refused number line) x
-  refuses number line e =
-      let v = verdict_of f s D M (enough marks s D M x) in
-      kept-refused f marks v x number line (refused-only v number line e)
-
--- whatever is asked
-pub unasked : (s : List ℕ) (D M : ℕ) (x : Lent) (l : Listed) (number line : ℕ) → Verdict.Refused number line ≡ admission marks s D M (length x.scratch) (length x.rows) (length x.marks)
-    → ForecastOf marks l s D M x (Refused number line) x
-unasked s D M x l number line e = text-refused marks s D M x l number line (refused-only (verdict s D M (enough marks s D M x)) number line e)
 
 -- with no factor it is the plain profile
 pub plain : {f : Family} {s : List ℕ} {D M : ℕ} {x : Lent} {count lines : ℕ} → Admitted f s D M x count lines → (r : Answer) (y : Lent) → Profiled f marks (by_asking []) s D M x r y → PromiseOf f marks s D M x r y

@@ -1,7 +1,7 @@
 -- For proofs and engines, not for the reader of documents 01 and 02: what the readers of the finish family keep of a
 -- call's own span, beside the zones, which are those of the finish or async around it.
 use Rattle.std.specs.Prelude.{ℕ, ◌≡◌, cond, List, eqb}
-use Rattle.line.specs.declared.Family.TheVariants.{Finishes}
+use Rattle.line.specs.Family.{Finishes}
 use Rattle.line.specs.At.{site_at}
 use Rattle.trace.specs.Tree.{Body}
 use Rattle.weigh.specs.Weighed.{Weigh}

@@ -1,7 +1,7 @@
 -- For proofs and engines, not for the reader of document 01: what the three readers of the marks engine ask for and
 -- leave. t is the scratch from their invocation's part on, m the marks, and how is what a cost line weighs.
 use Rattle.std.specs.Prelude.{ℕ, ◌+◌, ◌*◌, ◌≤◌, ◌≡◌, List, length}
-use Rattle.line.specs.declared.Family.{Family}
+use Rattle.line.specs.Family.{Family}
 use Rattle.line.specs.Read.{width}
 use Rattle.trace.specs.Tree.{Body}
 use Rattle.trace.specs.Fold.{Chains, nothing, chain_of, run}

@@ -1,7 +1,7 @@
 -- What the marks engine is lent, as its promise says it; and for proofs, not for the reader of document 01, what it
 -- learns from acceptance.
 use Rattle.std.specs.Prelude.{ℕ, ◌≡◌, List, length}
-use Rattle.line.specs.declared.Family.{Family}
+use Rattle.line.specs.Family.{Family}
 use Rattle.line.specs.declared.Frame.{Frame}
 use Rattle.trace.specs.Shape.{sites}
 use Rattle.trace.specs.Refusals.{verdict_of, accepted}

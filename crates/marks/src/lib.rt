@@ -5,12 +5,12 @@
 
 #![tactic(auto)]
 
-ghost use Rattle.std.specs.Prelude.{◌≡◌, [], ◌+◌, ◌*◌, ◌^◌, ◌≤◌, ◌<◌, length, get_or, set, replicate};
-ghost use Rattle.line.specs.declared.Family.TheVariants.{Base, Finishes};
+ghost use Rattle.std.specs.Prelude.{◌≡◌, refl, ⊤, ℕ, List, [], ◌+◌, ◌*◌, ◌^◌, ◌≤◌, ◌<◌, length, get_or, set, replicate};
+ghost use Rattle.line.specs.Family.{Base, Finishes};
 ghost use Rattle.trace.specs.Rows.{columns};
 ghost use Rattle.trace.specs.Column.{Column};
-ghost use Rattle.trace.specs.Promise.{Engine, PromiseOf, Promise};
-ghost use Rattle.forecast.specs.OfList.{ForecastOf};
+ghost use Rattle.trace.specs.Promise.{Engine, PromiseOf};
+ghost use Rattle.forecast.specs.Promise.{Forecast};
 ghost use Rattle.walk.specs.Weight.{by_asking, Factors, weight_at, instructions_at};
 ghost use Rattle.walk.specs.Profiled.{Profiled};
 ghost use Rattle.walk.specs.Gain.{ColumnFits, Grown};
@@ -23,11 +23,15 @@ ghost use Rattle.marks.specs.Column.{marked, marked_gain, entered, Returned, Lin
 ghost use Rattle.marks.specs.Root.{lent, Admitted};
 ghost use Rattle.marks.specs.Heavier.{HeavierAsks, HeavierLeaves};
 
+use line::{Family, Refusal};
+use trace::Profile;
+use walk::{Cycles, Measure, Open};
+
 // An open invocation: its numbers, its row, and the lines at which the zones of its longest child and of its
 // continuation begin.
 #[derive(Clone, Copy)]
 struct Zones {
-    own: walk::Open,
+    own: Open,
     row: usize,
     child: usize,
     after: usize,
@@ -35,7 +39,7 @@ struct Zones {
 
 impl Zones {
     // An invocation all of whose lines so far are the prefix's zone.
-    fn prefix(own: walk::Open, row: usize) -> Zones
+    fn prefix(own: Open, row: usize) -> Zones
         ensures { result ≡ all_prefix own row }
     {
         Zones {
@@ -45,30 +49,6 @@ impl Zones {
             after: own.at,
         }
     }
-
-    // The same zones, for an invocation of a row that goes on in them.
-    fn of_row(self, row: usize) -> Zones
-        ensures { result ≡ of_row row self }
-    {
-        let own = self.own;
-        Zones {
-            own,
-            row,
-            child: self.child,
-            after: self.after,
-        }
-    }
-}
-
-// Clears marks.
-fn wipe(a: &mut [u8])
-    ensures { a.new ≡ replicate (length a.old) 0 }
-{
-    let mut i = 0;
-    while i < a.len() {
-        a[i] = 0;
-        i += 1;
-    }
 }
 
 // Clears the marks of the lines from a on and before e.
@@ -76,23 +56,19 @@ pub fn wipe_lines(marks: &mut [u8], a: usize, e: usize)
     requires { (a ≤ e) × (e ≤ length marks.old) }
     ensures { Wiped a e marks.old marks.new }
 {
-    wipe(&mut marks[a..e]);
+    marks[a..e].fill(0);
 }
 
 // A cost of v: its line is marked.
-fn spend(marks: &mut [u8], z: Zones, v: walk::Cycles) -> Zones
+fn spend(marks: &mut [u8], z: Zones, v: Cycles) -> Zones
     requires fits { Fits marks.old z v.0 }
     requires v_bound { z.own.work.0 + v.0 < 2 ^ 64 }
     ensures { Spent v.0 marks.old z result marks.new }
 {
-    let own = z.own;
-    let at = own.at;
-    marks[at] = 1;
+    marks[z.own.at] = 1;
     Zones {
-        own: own.spent(v),
-        row: z.row,
-        child: z.child,
-        after: z.after,
+        own: z.own.spent(v),
+        ..z
     }
 }
 
@@ -102,14 +78,11 @@ fn pass(marks: &mut [u8], z: Zones) -> Zones
     requires at_bound { z.own.at + 1 < 2 ^ 64 }
     ensures { Passed marks.old z result marks.new }
 {
-    let own = z.own;
-    let line = own.at;
+    let line = z.own.at;
     marks[line] = 0;
     Zones {
-        own: own.passed(),
-        row: z.row,
-        child: z.child,
-        after: z.after,
+        own: z.own.passed(),
+        ..z
     }
 }
 
@@ -119,66 +92,51 @@ fn join(marks: &mut [u8], z: Zones) -> Zones
     requires { Fits marks.old z 0 }
     ensures { Joined marks.old z result marks.new }
 {
-    let own = z.own;
-    let at = own.at;
-    let child = z.child;
-    let after = z.after;
-    let later = own.later_heavier();
-    marks[at] = 0;
+    let later = z.own.later_heavier();
+    marks[z.own.at] = 0;
     if later {
-        wipe_lines(marks, child, after);
-        return Zones::prefix(own.joined(later), z.row);
+        wipe_lines(marks, z.child, z.after);
+        return Zones::prefix(z.own.joined(later), z.row);
     }
-    wipe_lines(marks, after, at);
-    Zones::prefix(own.joined(later), z.row)
+    wipe_lines(marks, z.after, z.own.at);
+    Zones::prefix(z.own.joined(later), z.row)
 }
 
 // A called child has returned: its zone is the continuation's.
-fn called(marks: &mut [u8], z: Zones, c: walk::Open) -> Zones
+fn called(marks: &mut [u8], z: Zones, c: Open) -> Zones
     requires fits { Fits marks.old z c.prefix.0 }
     requires work_bound { z.own.work.0 + c.work.0 < 2 ^ 64 }
     ensures { Called marks.old z c result marks.new }
 {
-    let own = z.own;
-    let at = own.at;
-    marks[at] = 0;
+    marks[z.own.at] = 0;
     Zones {
-        own: own.called(c),
-        row: z.row,
-        child: z.child,
-        after: z.after,
+        own: z.own.called(c),
+        ..z
     }
 }
 
 // A spawned child has returned: where it is longer, it is the longest from now on and the one before it is cleared;
 // else it is cleared itself.
-fn spawned(marks: &mut [u8], z: Zones, c: walk::Open) -> Zones
+fn spawned(marks: &mut [u8], z: Zones, c: Open) -> Zones
     requires fits { Fits marks.old z c.prefix.0 }
     requires work_bound { (z.own.work.0 + c.work.0 < 2 ^ 64) × ((z.own.at < c.at) × (c.at ≤ length marks.old)) }
     ensures { Spawned marks.old z c result marks.new }
 {
-    let own = z.own;
-    let at = own.at;
-    let to = c.at;
-    let child = z.child;
-    let after = z.after;
-    let longer = own.child_longer(c);
+    let longer = z.own.child_longer(c);
     if longer {
-        marks[at] = 0;
-        wipe_lines(marks, child, after);
+        marks[z.own.at] = 0;
+        wipe_lines(marks, z.child, z.after);
         return Zones {
-            own: own.spawned(c, longer),
-            row: z.row,
-            child: at,
-            after: to,
+            own: z.own.spawned(c, longer),
+            child: z.own.at,
+            after: c.at,
+            ..z
         };
     }
-    wipe_lines(marks, at, to);
+    wipe_lines(marks, z.own.at, c.at);
     Zones {
-        own: own.spawned(c, longer),
-        row: z.row,
-        child,
-        after,
+        own: z.own.spawned(c, longer),
+        ..z
     }
 }
 
@@ -187,12 +145,11 @@ fn store(t: &mut [u64], z: Zones)
     requires { 8 ≤ length t.old }
     ensures { t.new ≡ park z t.old }
 {
-    let own = z.own;
-    t[0] = own.at as u64;
-    t[1] = own.work.0;
-    t[2] = own.prefix.0;
-    t[3] = own.longest.0;
-    t[4] = own.since.0;
+    t[0] = z.own.at as u64;
+    t[1] = z.own.work.0;
+    t[2] = z.own.prefix.0;
+    t[3] = z.own.longest.0;
+    t[4] = z.own.since.0;
     t[5] = z.row as u64;
     t[6] = z.child as u64;
     t[7] = z.after as u64;
@@ -204,27 +161,19 @@ fn load(t: &mut [u64]) -> Zones
     ensures value { result ≡ parked t.old }
     ensures t_after { t.new ≡ park blank t.old }
 {
-    let own = walk::Open {
-        at: t[0] as usize,
-        work: walk::Cycles(t[1]),
-        prefix: walk::Cycles(t[2]),
-        longest: walk::Cycles(t[3]),
-        since: walk::Cycles(t[4]),
-    };
     let z = Zones {
-        own,
+        own: Open {
+            at: t[0] as usize,
+            work: Cycles(t[1]),
+            prefix: Cycles(t[2]),
+            longest: Cycles(t[3]),
+            since: Cycles(t[4]),
+        },
         row: t[5] as usize,
         child: t[6] as usize,
         after: t[7] as usize,
     };
-    t[0] = 0;
-    t[1] = 0;
-    t[2] = 0;
-    t[3] = 0;
-    t[4] = 0;
-    t[5] = 0;
-    t[6] = 0;
-    t[7] = 0;
+    t[..8].fill(0);
     z
 }
 
@@ -246,10 +195,10 @@ fn read_items(
     ensures t_unchanged { t.new ≡ t.old }
 {
     let mut a = z;
-    let mut kind = line::kind_at(trace, z.own.at);
+    let mut kind = line::kind_at::<line::Base>(trace, z.own.at);
     while kind != 5 {
         a = item(trace, kind, a, deep, t, marks, rows, asking);
-        kind = line::kind_at(trace, a.own.at);
+        kind = line::kind_at::<line::Base>(trace, a.own.at);
     }
     a
 }
@@ -265,7 +214,7 @@ fn body(
     marks: &mut [u8],
     rows: &mut [u64],
     asking: &[u64],
-) -> walk::Open
+) -> Open
     requires { BodyAsks Base (by_asking asking.now) trace.now from row deep t.old marks.old rows.old }
     ensures body_leaves { BodyLeaves Base (by_asking asking.now) trace.now from row marks.old
         rows.old result marks.new rows.new }
@@ -273,15 +222,14 @@ fn body(
 {
     let z = read_items(
         trace,
-        Zones::prefix(walk::Open::new(from), row),
+        Zones::prefix(Open::new(from), row),
         deep,
         t,
         marks,
         rows,
         asking,
     );
-    let end = join(marks, z);
-    end.own
+    join(marks, z).own
 }
 
 // Reads one item, whose first line is of this kind, with the whole body of a call or a spawn.
@@ -302,42 +250,39 @@ fn item(
     ensures t_unchanged { t.new ≡ t.old }
 {
     let at = z.own.at;
-    if kind == 6 {
-        let v = walk::weight_at(trace, at, z.row, asking);
-        walk::spend(rows, z.row, v, walk::instructions_at(trace, at));
-        return spend(marks, z, v);
+    match kind {
+        6 => {
+            let v = walk::weight_at(trace, at, z.row, asking);
+            walk::spend(rows, z.row, v, walk::instructions_at(trace, at));
+            spend(marks, z, v)
+        }
+        4 => join(marks, z),
+        1 | 7 => pass(marks, z),
+        _ => {
+            let site = line::site_at(trace, at) as usize;
+            let before = walk::credit_of(rows, site);
+            store(t, z);
+            let c = body(
+                trace,
+                at + 1,
+                site,
+                deep - 1,
+                &mut t[8..],
+                marks,
+                rows,
+                asking,
+            );
+            let back = load(t);
+            walk::returned(rows, site, c.work, c.prefix, before);
+            if kind == 2 {
+                return called(marks, back, c);
+            }
+            spawned(marks, back, c)
+        }
     }
-    if kind == 4 {
-        return join(marks, z);
-    }
-    if kind == 7 {
-        return pass(marks, z);
-    }
-    if kind == 1 {
-        return pass(marks, z);
-    }
-    let site = line::site_at(trace, at) as usize;
-    let before = walk::credit_of(rows, site);
-    store(t, z);
-    let c = body(
-        trace,
-        at + 1,
-        site,
-        deep - 1,
-        &mut t[8..],
-        marks,
-        rows,
-        asking,
-    );
-    let back = load(t);
-    walk::returned(rows, site, c.work, c.prefix, before);
-    if kind == 2 {
-        return called(marks, back, c);
-    }
-    spawned(marks, back, c)
 }
 
-// The row of what a line of this kind opens in the finish family: a finish's is that around it, another's its site's.
+// The row of what a line of this kind opens: a finish's is that around it, another's its site's.
 fn row_of(trace: &[u8], at: usize, kind: u8, row: usize) -> usize
     ensures { result ≡ row_of trace.now at kind row }
 {
@@ -352,11 +297,12 @@ fn row_of(trace: &[u8], at: usize, kind: u8, row: usize) -> usize
 #[derive(Clone, Copy)]
 struct Reach {
     zones: Zones,
-    far: walk::Cycles,
+    far: Cycles,
 }
 
 // Reads the items of an invocation or a finish, which has come to from, up to its return, and leaves the join to its
-// caller. At most deep more things open inside one another.
+// caller. At most deep more things open inside one another. These readers are no twins of those above: a call's items go
+// on in the chains around it.
 #[cycle(finish_readers)]
 fn finish_items(
     trace: &[u8],
@@ -373,10 +319,10 @@ fn finish_items(
     ensures t_unchanged { t.new ≡ t.old }
 {
     let mut a = from;
-    let mut kind = line::finish_kind_at(trace, from.zones.own.at);
+    let mut kind = line::kind_at::<line::Finishes>(trace, from.zones.own.at);
     while kind != 5 {
         a = finish_item(trace, kind, a, deep, t, marks, rows);
-        kind = line::finish_kind_at(trace, a.zones.own.at);
+        kind = line::kind_at::<line::Finishes>(trace, a.zones.own.at);
     }
     a
 }
@@ -391,7 +337,7 @@ fn finish_body(
     t: &mut [u64],
     marks: &mut [u8],
     rows: &mut [u64],
-) -> walk::Open
+) -> Open
     requires { BodyAsks Finishes (by_asking []) trace.now from row deep t.old marks.old rows.old }
     ensures body_leaves { BodyLeaves Finishes (by_asking []) trace.now from row marks.old
         rows.old result marks.new rows.new }
@@ -400,16 +346,15 @@ fn finish_body(
     let a = finish_items(
         trace,
         Reach {
-            zones: Zones::prefix(walk::Open::new(from), row),
-            far: walk::Cycles(0),
+            zones: Zones::prefix(Open::new(from), row),
+            far: Cycles(0),
         },
         deep,
         t,
         marks,
         rows,
     );
-    let end = join(marks, a.zones);
-    end.own
+    join(marks, a.zones).own
 }
 
 // Reads a call with its items and its return. They go on from its caller's numbers and zones, and nothing is joined.
@@ -437,7 +382,7 @@ fn finish_call(
     let r = finish_items(
         trace,
         Reach {
-            zones: first.of_row(site),
+            zones: Zones { row: site, ..first },
             far: start,
         },
         deep - 1,
@@ -446,7 +391,7 @@ fn finish_call(
         rows,
     );
     let own = r.zones.own;
-    let reach = r.far.larger(own.series());
+    let reach = r.far.max(own.series());
     walk::returned(
         rows,
         site,
@@ -456,8 +401,8 @@ fn finish_call(
     );
     let end = pass(marks, r.zones);
     Reach {
-        zones: end.of_row(z.row),
-        far: a.far.larger(r.far),
+        zones: Zones { row: z.row, ..end },
+        far: a.far.max(r.far),
     }
 }
 
@@ -479,47 +424,40 @@ fn finish_item(
     ensures t_unchanged { t.new ≡ t.old }
 {
     let z = a.zones;
-    let far = a.far;
     let at = z.own.at;
-    if kind == 6 {
-        let v = walk::weight_at(trace, at, z.row, &[]);
-        walk::spend(rows, z.row, v, walk::instructions_at(trace, at));
-        return Reach {
-            zones: spend(marks, z, v),
-            far,
-        };
-    }
-    if kind == 7 {
-        return Reach {
+    match kind {
+        6 => {
+            let v = walk::weight_at(trace, at, z.row, &[]);
+            walk::spend(rows, z.row, v, walk::instructions_at(trace, at));
+            Reach {
+                zones: spend(marks, z, v),
+                ..a
+            }
+        }
+        1 | 7 => Reach {
             zones: pass(marks, z),
-            far,
-        };
-    }
-    if kind == 1 {
-        return Reach {
-            zones: pass(marks, z),
-            far,
-        };
-    }
-    if kind == 2 {
-        return finish_call(trace, a, deep, t, marks, rows);
-    }
-    let series = z.own.series();
-    let row = row_of(trace, at, kind, z.row);
-    let credit = walk::credit_of(rows, row);
-    store(t, z);
-    let c = finish_body(trace, at + 1, row, deep - 1, &mut t[8..], marks, rows);
-    let back = load(t);
-    if kind == 0x12 {
-        walk::returned(rows, row, c.work, c.prefix, credit);
-        return Reach {
-            zones: spawned(marks, back, c),
-            far: far.larger(series.plus(c.prefix)),
-        };
-    }
-    Reach {
-        zones: called(marks, back, c),
-        far,
+            ..a
+        },
+        2 => finish_call(trace, a, deep, t, marks, rows),
+        _ => {
+            let series = z.own.series();
+            let row = row_of(trace, at, kind, z.row);
+            let credit = walk::credit_of(rows, row);
+            store(t, z);
+            let c = finish_body(trace, at + 1, row, deep - 1, &mut t[8..], marks, rows);
+            let back = load(t);
+            if kind == 0x12 {
+                walk::returned(rows, row, c.work, c.prefix, credit);
+                return Reach {
+                    zones: spawned(marks, back, c),
+                    far: a.far.max(series.plus(c.prefix)),
+                };
+            }
+            Reach {
+                zones: called(marks, back, c),
+                ..a
+            }
+        }
     }
 }
 
@@ -540,7 +478,7 @@ fn add_marked(trace: &[u8], at: usize, row: usize, marks: &[u8], rows: &mut [u64
             trace::COLUMNS * row + trace::ON_SPAN,
             walk::weight_at(trace, at, row, asking),
         );
-        walk::add_instructions(
+        walk::add(
             rows,
             trace::COLUMNS * row + trace::ION_SPAN,
             walk::instructions_at(trace, at),
@@ -562,11 +500,10 @@ fn enter(t: &mut [u64], a: Present, site: usize) -> Present
     ensures value { result ≡ entered site a }
     ensures t_after { t.new ≡ set t.old a.around a.row }
 {
-    let d = a.around;
-    t[d] = a.row as u64;
+    t[a.around] = a.row as u64;
     Present {
         row: site,
-        around: d + 1,
+        around: a.around + 1,
     }
 }
 
@@ -585,7 +522,7 @@ fn leave(t: &mut [u64], a: Present) -> Present
 }
 
 // Reads a line once more: a marked cost is added to column 5 of the present row, and its instructions to column 7.
-fn on_line(
+fn on_line<F: Family>(
     trace: &[u8],
     at: usize,
     a: Present,
@@ -594,93 +531,103 @@ fn on_line(
     rows: &mut [u64],
     asking: &[u64],
 ) -> Present
-    requires { LineAsks Base (by_asking asking.now) trace.now at a t.old marks.now rows.old }
-    ensures { LineLeaves Base (by_asking asking.now) trace.now at a t.old
+    requires { LineAsks F.family (by_asking asking.now) trace.now at a t.old marks.now rows.old }
+    ensures { LineLeaves F.family (by_asking asking.now) trace.now at a t.old
         marks.now rows.old result t.new rows.new }
 {
-    let kind = line::kind_at(trace, at);
-    if kind == 6 {
-        add_marked(trace, at, a.row, marks, rows, asking);
-        return a;
+    let kind = line::kind_at::<F>(trace, at);
+    match kind {
+        6 => {
+            add_marked(trace, at, a.row, marks, rows, asking);
+            a
+        }
+        5 => leave(t, a),
+        1 | 4 | 7 => a,
+        _ => enter(t, a, row_of(trace, at, kind, a.row)),
     }
-    if kind == 5 {
-        return leave(t, a);
-    }
-    if kind == 4 {
-        return a;
-    }
-    if kind == 7 {
-        return a;
-    }
-    if kind == 1 {
-        return a;
-    }
-    enter(t, a, line::site_at(trace, at) as usize)
 }
 
 // Reads the root's lines once more: each marked cost is added to columns 5 and 7 of the row that it stands in.
-fn column(trace: &[u8], lines: usize, t: &mut [u64], marks: &[u8], rows: &mut [u64], asking: &[u64])
-    requires { ColumnAsks Base (by_asking asking.now) trace.now lines t.old marks.now rows.old }
-    ensures column_leaves { ColumnLeaves Base (by_asking asking.now) trace.now lines t.old
-        marks.now rows.old rows.new }
-    ensures t_unchanged { t.new ≡ t.old }
-{
-    let mut a = Present { row: 0, around: 0 };
-    let mut at = 0;
-    while at < lines {
-        a = on_line(trace, at, a, t, marks, rows, asking);
-        at += 1;
-    }
-}
-
-// Reads a line of the finish family once more.
-fn finish_on_line(
+fn column<F: Family>(
     trace: &[u8],
-    at: usize,
-    a: Present,
+    lines: usize,
     t: &mut [u64],
     marks: &[u8],
     rows: &mut [u64],
-) -> Present
-    requires { LineAsks Finishes (by_asking []) trace.now at a t.old marks.now rows.old }
-    ensures { LineLeaves Finishes (by_asking []) trace.now at a t.old
-        marks.now rows.old result t.new rows.new }
-{
-    let kind = line::finish_kind_at(trace, at);
-    if kind == 6 {
-        add_marked(trace, at, a.row, marks, rows, &[]);
-        return a;
-    }
-    if kind == 5 {
-        return leave(t, a);
-    }
-    if kind == 7 {
-        return a;
-    }
-    if kind == 1 {
-        return a;
-    }
-    enter(t, a, row_of(trace, at, kind, a.row))
-}
-
-// Reads the root's lines once more.
-fn finish_column(trace: &[u8], lines: usize, t: &mut [u64], marks: &[u8], rows: &mut [u64])
-    requires { ColumnAsks Finishes (by_asking []) trace.now lines t.old marks.now rows.old }
-    ensures column_leaves { ColumnLeaves Finishes (by_asking []) trace.now lines t.old
+    asking: &[u64],
+)
+    requires { ColumnAsks F.family (by_asking asking.now) trace.now lines t.old marks.now rows.old }
+    ensures column_leaves { ColumnLeaves F.family (by_asking asking.now) trace.now lines t.old
         marks.now rows.old rows.new }
     ensures t_unchanged { t.new ≡ t.old }
 {
     let mut a = Present { row: 0, around: 0 };
-    let mut at = 0;
-    while at < lines {
-        a = finish_on_line(trace, at, a, t, marks, rows);
-        at += 1;
+    for at in 0..lines {
+        a = on_line::<F>(trace, at, a, t, marks, rows, asking);
     }
+}
+
+// How a family's root is read: the two read a call in ways of their own.
+pub trait Reader: Family {
+    // The numbers that may ask what its cost lines weigh.
+    ghost asks: { List ℕ → Type 0 };
+
+    // Reads the root, from line 0 up to and with its return.
+    fn root(
+        trace: &[u8],
+        deep: usize,
+        t: &mut [u64],
+        marks: &mut [u8],
+        rows: &mut [u64],
+        asking: &[u64],
+    ) -> Open
+        requires asked { asks asking.now }
+        requires body_asks { BodyAsks Self.family (by_asking asking.now) trace.now 0 0 deep t.old marks.old rows.old }
+        ensures body_leaves { BodyLeaves Self.family (by_asking asking.now) trace.now 0 0 marks.old
+            rows.old result marks.new rows.new }
+        ensures t_unchanged { t.new ≡ t.old };
+
+    ghost unasked: { asks [] };
+}
+
+impl Reader for line::Base {
+    ghost asks = { λ _. ⊤ };
+
+    fn root(
+        trace: &[u8],
+        deep: usize,
+        t: &mut [u64],
+        marks: &mut [u8],
+        rows: &mut [u64],
+        asking: &[u64],
+    ) -> Open {
+        body(trace, 0, 0, deep, t, marks, rows, asking)
+    }
+
+    ghost unasked = { tt };
+}
+
+// No number asks: its readers take plain costs.
+impl Reader for line::Finishes {
+    ghost asks = { λ asking. asking ≡ [] };
+
+    fn root(
+        trace: &[u8],
+        deep: usize,
+        t: &mut [u64],
+        marks: &mut [u8],
+        rows: &mut [u64],
+        _asking: &[u64],
+    ) -> Open {
+        finish_body(trace, 0, 0, deep, t, marks, rows)
+    }
+
+    ghost unasked = { refl };
 }
 
 // An accepted trace of count sites and lines lines, each cost weighed by its row's factor: the room is cleared, and the
 // root is read twice, once for all and once for columns 5 and 7.
-fn accepted(
+fn accepted<F: Reader>(
     text: &[u8],
     depth: usize,
     sites: usize,
@@ -690,20 +637,26 @@ fn accepted(
     marks: &mut [u8],
     rows: &mut [u64],
     asking: &[u64],
-) -> trace::Answer
-    requires admitted { Admitted Base text.now depth sites (lent scratch.old marks.old rows.old) count lines }
+) -> Result<Profile, Refusal>
+    requires admitted { Admitted F.family text.now depth sites (lent scratch.old marks.old rows.old) count lines }
+    requires asked { F.asks asking.now }
     requires factors { Factors asking.now }
-    ensures { Profiled Base Engine.marks (by_asking asking.now) text.now depth sites
+    ensures { Profiled F.family Engine.marks (by_asking asking.now) text.now depth sites
         (lent scratch.old marks.old rows.old) result
         (lent scratch.new marks.new rows.new) }
 {
-    walk::zero(scratch, scratch.len());
+    scratch.fill(0);
     walk::zero(rows, trace::COLUMNS * (count + 1));
     let before = walk::credit_of(rows, 0);
-    let f = body(text, 0, 0, depth - 1, scratch, marks, rows, asking);
+    let f = F::root(text, depth - 1, scratch, marks, rows, asking);
     walk::returned(rows, 0, f.work, f.prefix, before);
-    column(text, lines, scratch, marks, rows, asking);
-    trace::Answer::Accepted(f.work.0, f.prefix.0, count, lines)
+    column::<F>(text, lines, scratch, marks, rows, asking);
+    Ok(Profile {
+        work: f.work.0,
+        span: f.prefix.0,
+        sites: count,
+        lines,
+    })
 }
 
 // Room for the rows of as many sites as there may be.
@@ -721,118 +674,42 @@ pub fn with_heavier(
     line: usize,
     scratch: &mut [u64],
     marks: &mut [u8],
-) -> walk::Cycles
+) -> Cycles
     requires { HeavierAsks text.now depth scratch.old marks.old }
     ensures heavier_leaves { HeavierLeaves text.now depth line marks.old result.0 marks.new }
     ensures scratch_after { scratch.new ≡ replicate (length scratch.old) 0 }
 {
-    walk::zero(scratch, scratch.len());
+    scratch.fill(0);
     let asking = walk::ask_heavier(line);
     let mut rows = no_rows();
     let f = body(text, 0, 0, depth - 1, scratch, marks, &mut rows, &asking);
     f.prefix
 }
 
-// The marks engine: any text, any limits and any room.
-pub fn profile(
+// The marks engine for traces of a family: any text, any limits and any room.
+pub fn profile<F: Reader>(
     text: &[u8],
     depth: usize,
     sites: usize,
     scratch: &mut [u64],
     marks: &mut [u8],
     rows: &mut [u64],
-) -> trace::Answer
-    ensures { Promise Engine.marks text.now depth sites
+) -> Result<Profile, Refusal>
+    ensures { PromiseOf F.family Engine.marks text.now depth sites
         (lent scratch.old marks.old rows.old) result
         (lent scratch.new marks.new rows.new) }
 {
-    match admit::for_marks(text, depth, sites, scratch.len(), rows.len(), marks.len()) {
-        admit::Verdict::Accepted(count, lines) => accepted(
-            text,
-            depth,
-            sites,
-            count,
-            lines,
-            scratch,
-            marks,
-            rows,
-            &[],
-        ),
-        admit::Verdict::Refused(number, line) => trace::Answer::Refused(number, line),
-    }
-}
-
-// An accepted trace of the finish family, of count sites and lines lines.
-fn finish_accepted(
-    text: &[u8],
-    depth: usize,
-    sites: usize,
-    count: usize,
-    lines: usize,
-    scratch: &mut [u64],
-    marks: &mut [u8],
-    rows: &mut [u64],
-) -> trace::Answer
-    requires { Admitted Finishes text.now depth sites (lent scratch.old marks.old rows.old) count lines }
-    ensures { Profiled Finishes Engine.marks (by_asking []) text.now depth sites
-        (lent scratch.old marks.old rows.old) result
-        (lent scratch.new marks.new rows.new) }
-{
-    walk::zero(scratch, scratch.len());
-    walk::zero(rows, trace::COLUMNS * (count + 1));
-    let credit = walk::credit_of(rows, 0);
-    let f = finish_body(text, 0, 0, depth - 1, scratch, marks, rows);
-    walk::returned(rows, 0, f.work, f.prefix, credit);
-    finish_column(text, lines, scratch, marks, rows);
-    trace::Answer::Accepted(f.work.0, f.prefix.0, count, lines)
-}
-
-// The marks engine for traces of the finish family: any text, any limits and any room.
-pub fn finish_profile(
-    text: &[u8],
-    depth: usize,
-    sites: usize,
-    scratch: &mut [u64],
-    marks: &mut [u8],
-    rows: &mut [u64],
-) -> trace::Answer
-    ensures { PromiseOf Finishes Engine.marks text.now depth sites
-        (lent scratch.old marks.old rows.old) result
-        (lent scratch.new marks.new rows.new) }
-{
-    match admit::finish_for_marks(text, depth, sites, scratch.len(), rows.len(), marks.len()) {
-        admit::Verdict::Accepted(count, lines) => finish_accepted(
-            text, depth, sites, count, lines, scratch, marks, rows,
-        ),
-        admit::Verdict::Refused(number, line) => trace::Answer::Refused(number, line),
-    }
-}
-
-// An accepted trace of count sites and lines lines, asked by a list of forecast entries: refusal 19 or 20 of the list,
-// else the trace with each cost weighed by its row's factor.
-fn asked(
-    text: &[u8],
-    depth: usize,
-    sites: usize,
-    count: usize,
-    lines: usize,
-    list: forecast::Listed,
-    scratch: &mut [u64],
-    marks: &mut [u8],
-    rows: &mut [u64],
-) -> trace::Answer
-    requires { Admitted Base text.now depth sites (lent scratch.old marks.old rows.old) count lines }
-    ensures { ForecastOf Engine.marks list text.now depth sites
-        (lent scratch.old marks.old rows.old) result
-        (lent scratch.new marks.new rows.new) }
-{
-    let number = forecast::check(list, count);
-    if number != 0 {
-        return trace::Answer::Refused(number, 0);
-    }
-    let factors = forecast::factors(list);
-    accepted(
-        text, depth, sites, count, lines, scratch, marks, rows, &factors,
+    let found = admit::for_marks::<F>(text, depth, sites, scratch.len(), rows.len(), marks.len())?;
+    accepted::<F>(
+        text,
+        depth,
+        sites,
+        found.sites,
+        found.lines,
+        scratch,
+        marks,
+        rows,
+        &[],
     )
 }
 
@@ -841,20 +718,34 @@ pub fn forecast(
     text: &[u8],
     depth: usize,
     sites: usize,
-    list: forecast::Listed,
+    entries: &[forecast::Entry],
     scratch: &mut [u64],
     marks: &mut [u8],
     rows: &mut [u64],
-) -> trace::Answer
-    ensures { ForecastOf Engine.marks list text.now depth sites
+) -> Result<Profile, Refusal>
+    ensures { Forecast Engine.marks entries.now text.now depth sites
         (lent scratch.old marks.old rows.old) result
         (lent scratch.new marks.new rows.new) }
 {
-    let verdict = admit::for_marks(text, depth, sites, scratch.len(), rows.len(), marks.len());
-    match verdict {
-        admit::Verdict::Accepted(count, lines) => asked(
-            text, depth, sites, count, lines, list, scratch, marks, rows,
-        ),
-        admit::Verdict::Refused(number, line) => trace::Answer::Refused(number, line),
-    }
+    let admitted = admit::for_marks::<line::Base>(
+        text,
+        depth,
+        sites,
+        scratch.len(),
+        rows.len(),
+        marks.len(),
+    )?;
+    forecast::check(entries, admitted.sites)?;
+    let factors = forecast::factors(entries);
+    accepted::<line::Base>(
+        text,
+        depth,
+        sites,
+        admitted.sites,
+        admitted.lines,
+        scratch,
+        marks,
+        rows,
+        &factors,
+    )
 }

@@ -5,11 +5,10 @@ use mathlib.Core.List.{List, [], ◌∷◌, map}
 use Prim.Native.Nat.{ℕ, ◌+◌, ◌≤◌}
 use native.Mathlib.Omega.{arith}
 use lib.ListN.{get_or}
-use Rattle.line.specs.declared.Family.TheVariants.{Base}
+use Rattle.line.specs.Family.{Base}
 use Rattle.line.specs.declared.Frame.{Frame}
 use Rattle.line.specs.declared.Frame.TheVariants.{Cost}
-use Rattle.trace.specs.declared.Answer.{Answer}
-use Rattle.trace.specs.declared.Answer.TheVariants.{Accepted}
+use Rattle.trace.specs.Answer.{Answer, profiled}
 use Rattle.trace.specs.Shape.{Is, root}
 use Rattle.trace.specs.Series.{Span}
 use Rattle.trace.specs.Refusals.{Verdict, accepted, verdict}
@@ -50,14 +49,14 @@ abbrev computed : Case → Tested
 computed c = record { trace = raised (lines_of plain) c.line c.by; ruling = verdict (text c) 4 2 true; answer = acceptance (lines_of (body c)) (span_of (body c)); base = is_of Base 0 (body c) }
 
 abbrev wanted : Case → Tested
-wanted c = record { trace = lines_of (body c); ruling = accepted (lines_of (body c)); answer = Accepted (22 + c.by) c.span 2 12; base = true }
+wanted c = record { trace = lines_of (body c); ruling = accepted (lines_of (body c)); answer = profiled (22 + c.by) c.span 2 12; base = true }
 
 -- the one computed test
 test : map computed cases ≡ map wanted cases
 test = refl
 
 -- where a case computes so, the engines answer so
-answered : (c : Case) → computed c ≡ wanted c → (e : Engine) (y : Run) → Ran e (text c) 4 2 y → HasRoom e (text c) 4 2 y → y.answer ≡ Accepted (22 + c.by) c.span 2 12
+answered : (c : Case) → computed c ≡ wanted c → (e : Engine) (y : Run) → Ran e (text c) 4 2 y → HasRoom e (text c) 4 2 y → y.answer ≡ profiled (22 + c.by) c.span 2 12
 answered c h e y r q =
     let a = ap (λ (x : Tested). x.ruling) h in
     let p = accepts e (text c) 4 2 y r q (lines_of (body c)) a in

@@ -11,8 +11,7 @@ use lib.Seq.{length-take-le, take-append-le, drop-append-le, take-append-add, dr
 use borrow.Author.Tests.{le-leb}
 use Rattle.line.specs.declared.Frame.{Frame}
 use Rattle.line.specs.declared.Frame.TheVariants.{Cost}
-use Rattle.line.specs.declared.Read.TheVariants.{Line}
-use Rattle.line.specs.Read.{read_line, line_at, read_at}
+use Rattle.line.specs.Read.{read_line, line_at, read_at, says}
 use Rattle.line.specs.Write.{writable, write_chars}
 use Rattle.line.proofs.Writable.{writable-value, chars-length}
 use Rattle.line.proofs.RoundTrip.{write_read}
@@ -77,7 +76,7 @@ module _ (s : List ℕ) (k : ℕ) (l : List ℕ) (fits : k < line_count s) (wide
 
 -- ── it is accepted ──
 
-reads-by : (s : List ℕ) (n : ℕ) (u : List Frame) → ((j : ℕ) (f : Frame) → Is u j f → read_at s (n + j) ≡ Line (n + j) f) → Reads n (reads_from s n (length u)) u
+reads-by : (s : List ℕ) (n : ℕ) (u : List Frame) → ((j : ℕ) (f : Frame) → Is u j f → read_at s (n + j) ≡ says (n + j) f) → Reads n (reads_from s n (length u)) u
 reads-by s n [] h = tt
 reads-by s n (e ∷ u) h =
     let here : n + 0 ≡ n = omega arith in (
@@ -103,15 +102,15 @@ module _ (g : ℕ → ℕ) (s : List ℕ) (D M : ℕ) (room : Bool) (t : List Fr
     can : writable (Cost (g v)) ≡ true
     can = writable-value (Cost (g v)) (g v) (omega arith) ∙ le-leb 1 (g v) low
 
-    read_line_lem : (j : ℕ) (f : Frame) → Is u j f → read_at z j ≡ Line j f
+    read_line_lem : (j : ℕ) (f : Frame) → Is u j f → read_at z j ≡ says j f
     read_line_lem j f h = elim (same_or_not j k) [
       | inl e ↦
           (let f-is : Cost (g v) ≡ f = is_one u k (Cost (g v)) f (line-there g t k v i) (subst (λ (n : ℕ). Is u n f) e h) in
           ap (read_at z) e
           ∙ ap (λ (l : List ℕ). read_line l k) (with-there s k (write_chars (Cost (g v))) there (chars-length (Cost (g v))))
           ∙ write_read (Cost (g v)) can k
-          ∙ ap (Line k) f-is
-          ∙ ap (λ (n : ℕ). Line n f) (sym e))
+          ∙ ap (says k) f-is
+          ∙ ap (λ (n : ℕ). says n f) (sym e))
       | inr o ↦
           ap (λ (l : List ℕ). read_line l j) (with_elsewhere s k (write_chars (Cost (g v))) there (chars-length (Cost (g v))) j o)
           ∙ accepted-reads s D M room t a j f (line_elsewhere g t k j f o h)

@@ -3,7 +3,7 @@
 -- and lines 2, 6 and 8 (1 + 2 + 8). The heaviest with line 10 is lines 2, 6 and 10 (1 + 2 + 1).
 use Rattle.std.specs.Prelude.{ℕ, ◌+◌, ◌≡◌, true, List, [], ◌∷◌, get_or}
 use Rattle.line.specs.declared.Frame.{Frame}
-use Rattle.trace.specs.declared.Answer.TheVariants.{Accepted}
+use Rattle.trace.specs.Answer.{profiled}
 use Rattle.trace.specs.Shape.{root}
 use Rattle.trace.specs.Refusals.{accepted, verdict}
 use Rattle.trace.specs.Promise.{Engine}
@@ -43,7 +43,7 @@ cases =
 abbrev pub AllAnswered : List Case → Type 0
 AllAnswered [] = Unit {0}
 AllAnswered (c ∷ l) =
-    ((e : Engine) (y : Run) → Ran e (with_cost G c.line (c.cost + c.by)) 4 2 y → HasRoom e (with_cost G c.line (c.cost + c.by)) 4 2 y → y.answer ≡ Accepted (22 + c.by) c.span 2 12)
+    ((e : Engine) (y : Run) → Ran e (with_cost G c.line (c.cost + c.by)) 4 2 y → HasRoom e (with_cost G c.line (c.cost + c.by)) 4 2 y → y.answer ≡ profiled (22 + c.by) c.span 2 12)
     × AllAnswered l
 
 -- which lines stand on some heaviest chain

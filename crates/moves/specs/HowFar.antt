@@ -2,7 +2,7 @@
 use Rattle.std.specs.Prelude.{ℕ, ◌+◌, ◌≤◌, ◌≡◌, Bool, true, List, length}
 use Rattle.line.specs.declared.Frame.{Frame}
 use Rattle.line.specs.declared.Frame.TheVariants.{Cost}
-use Rattle.trace.specs.declared.Answer.TheVariants.{Accepted}
+use Rattle.trace.specs.Answer.{profiled}
 use Rattle.trace.specs.Shape.{Is, root, sites}
 use Rattle.trace.specs.Series.{Span}
 use Rattle.trace.specs.Rows.{total, ilocal, ion_span}
@@ -42,8 +42,8 @@ HowFar = (s : List ℕ) (D M : ℕ) (room : Bool) (t : List Frame) (k v d : ℕ)
 pub record Moved (t : List Frame) (k d : ℕ) (x y : Run) : Type 0 where
   pub span : ℕ
   pub raised_span : ℕ
-  pub answers : x.answer ≡ Accepted (total t) span (sites t) (length t)
-  pub raised_answers : y.answer ≡ Accepted (total t + d) raised_span (sites t) (length t)
+  pub answers : x.answer ≡ profiled (total t) span (sites t) (length t)
+  pub raised_answers : y.answer ≡ profiled (total t + d) raised_span (sites t) (length t)
   pub moves : Moves t root k d span raised_span
 
 -- "and carry it to both engines": of every two runs, each of either engine, that do not lack room

@@ -1,5 +1,9 @@
 -- Laws of lines and of their places. Assumes nothing.
-use Prim.Native.Nat.{ℕ, suc, ◌+◌, ◌-◌, ◌≤◌, ◌<◌}
+use Rattle.std.specs.List.{AllWithin, HoldsAt}
+use Rattle.std.specs.Option.{MatchOption, unwrap_or}
+use Rattle.std.proofs.Common.{Option, ◌≢◌}
+use Rattle.std.proofs.lemmas.Iterator.{index_from_first}
+use Prim.Native.Nat.{ℕ, suc, ◌+◌, ◌-◌, ◌<◌}
 use mathlib.Core.Bool.{Bool, true, false, cond}
 use mathlib.Core.List.{List, [], ◌∷◌}
 use mathlib.Core.Path.{◌≡◌, refl, ap, ◌∙◌, sym}
@@ -8,8 +12,8 @@ use native.Mathlib.Omega.{arith}
 use borrow.Author.Tests.{eq-eqb, ne_eqb, lt-ltb, le-ltb}
 use native.Mathlib.Decide.{dec_lt}
 use lib.Dec.{eqb}
-use lib.ListN.{length, take, drop, get_or, length-drop, drop_of_length-le}
-use lib.Seq.{take_all, drop-cons, drop-drop}
+use lib.ListN.{length, take, drop, drop_of_length-le}
+use lib.Seq.{drop-drop}
 use Rattle.names.specs.Names.{first_line, other_lines, from_line, line_in, or_else, shown}
 use Rattle.names.specs.Places.{part, end_of, next_of}
 
@@ -32,24 +36,16 @@ others-part (c ∷ s) = go (eqb c 10) (others-part s)
     go true h = refl
     go false h = h
 
-pub head_is : (s : List ℕ) (i : ℕ) → i < length s → drop i s ≡ get_or s i 0 ∷ drop (i + 1) s
-head_is s i l = drop-cons s i 0 l ∙ ap (λ (n : ℕ). get_or s i 0 ∷ drop n s) (sym (add-one i))
+-- a line is as long as there are characters before its line feed
+pub line-length : (s : List ℕ) (r : Option ℕ) → MatchOption r (AllWithin (λ x. x ≢ 10) s 0 (length s)) (λ i. (i < length s) × HoldsAt (λ x. x ≡ 10) s i × AllWithin (λ x. x ≢ 10) s 0 i)
+    → length (first_line s) ≡ unwrap_or r (length s)
+line-length s r h =
+    index_from_first (λ (s : List ℕ). length (first_line s)) (λ x. x ≡ 10) (λ x. x ≢ 10) refl
+    (λ x xs y. ap (λ (b : Bool). length (cond b [] (x ∷ first_line xs))) (eq-eqb x 10 y))
+    (λ x xs n. ap (λ (b : Bool). length (cond b [] (x ∷ first_line xs))) (ne_eqb x 10 n) ∙ sym (add-one (length (first_line xs))))
+    s r h
 
 module _ (s : List ℕ) (i : ℕ) where
-  -- another character, the line feed, and the end of the text
-  pub end_on : i < length s → (get_or s i 0 ≡ 10 → ⊥) → end_of s i ≡ end_of s (i + 1)
-  end_on l n =
-      let first = ap first_line (head_is s i l) ∙ ap (λ (b : Bool). cond b [] (get_or s i 0 ∷ first_line (drop (i + 1) s))) (ne_eqb (get_or s i 0) 10 n) in
-      omega (arith, ap length first)
-
-  pub end_feed : i < length s → get_or s i 0 ≡ 10 → end_of s i ≡ i
-  end_feed l n =
-      let first = ap first_line (head_is s i l) ∙ ap (λ (b : Bool). cond b [] (get_or s i 0 ∷ first_line (drop (i + 1) s))) (eq-eqb (get_or s i 0) 10 n) in
-      omega (arith, ap length first)
-
-  pub end-text : length s ≤ i → end_of s i ≡ i
-  end-text l = omega (arith, ap (λ (u : List ℕ). length (first_line u)) (drop_of_length-le s l))
-
   -- from the next place on stands what is behind place i
   next-drop : drop (next_of s i) s ≡ drop (i + 1) s
   next-drop = go (dec_lt i (length s))
@@ -60,18 +56,6 @@ module _ (s : List ℕ) (i : ℕ) where
           ap (λ (b : Bool). drop (cond b (i + 1) i) s) (le-ltb i (length s) (omega arith))
           ∙ drop_of_length-le s {i = i} (omega arith)
           ∙ sym (drop_of_length-le s {i = i + 1} (omega arith))
-
--- a part of nothing, one that begins behind the text, and one that goes to its end
-pub part_none : (s : List ℕ) (a e : ℕ) → e ≤ a → [] ≡ part s a e
-part_none s a e h = let z : e - a ≡ 0 = omega arith in rw z
-
-pub part-behind : (s : List ℕ) (a e : ℕ) → length s ≤ a → [] ≡ part s a e
-part-behind s a e h = sym (drop_of_length-le s h) ∙ sym (take_all (e - a) (drop a s) (omega (arith, length-drop a s)))
-
-pub part-rest : (s : List ℕ) (a e : ℕ) → length s < e → part s a (length s) ≡ part s a e
-part-rest s a e h =
-    take_all (length s - a) (drop a s) (omega (arith, length-drop a s))
-    ∙ sym (take_all (e - a) (drop a s) (omega (arith, length-drop a s)))
 
 -- line r begins at place a
 abbrev pub Begins : List ℕ → ℕ → ℕ → Type 0

@@ -9,17 +9,19 @@ use native.Mathlib.Omega.{arith}
 use borrow.Author.Tests.{lt-leb, le-leb}
 use lib.Dec.{ltb, leb}
 use lib.ListN.{length}
-use Rattle.line.specs.declared.Family.TheVariants.{Base}
+use Rattle.line.specs.Family.{Base}
+use Rattle.std.specs.Prelude.{Result}
 use Rattle.line.specs.declared.Frame.{Frame}
+use Rattle.line.specs.declared.Refusal.{Refusal}
 use Rattle.trace.specs.Refusals.{Verdict, accepted, refused, verdict}
 use Rattle.trace.proofs.Basics.{clash}
 use Rattle.report.specs.Room.{leave}
 use Rattle.admit.proofs.Refused.{refused-line}
-use Rattle.why.specs.declared.Answer.{Answer}
+use Rattle.why.specs.declared.Why.{Why}
 use Rattle.why.specs.Promise.{roomy, asking, Answers, Asked}
 use Rattle.why.proofs.Once.{asked_unique}
 use Rattle.nyolifuwe.specs.Code.{code, Gives}
-use Rattle.nyolifuwe.specs.Inside.{line_asked, unroomy}
+use Rattle.nyolifuwe.specs.Inside.{line_of, unroomy}
 use Rattle.nyolifuwe.specs.Asking.{why_numbered, asked_of, AsksWhy}
 use Rattle.nyolifuwe.proofs.Profiled.{roomless}
 
@@ -37,16 +39,16 @@ module _ (s : List ℕ) (D M q : ℕ) (scratch marks : List ℕ) where
   enough = roomy (length s) D (length scratch) (length marks)
 
   -- the line in the answer
-  pub asked-line : (r : Answer) (scratch' marks' : List ℕ) → q ≤ 4294967295 → Asked s D M q scratch marks r scratch' marks' → line_asked r ≤ 4294967295
+  pub asked-line : (r : Result Why Refusal) (scratch' marks' : List ℕ) → q ≤ 4294967295 → Asked s D M q scratch marks r scratch' marks' → line_of r ≤ 4294967295
   asked-line r scratch' marks' few p = go (asking q (verdict s D M enough)) refl
     where
       low : (number line : ℕ) → (line ≡ q) ⊎ (verdict s D M enough ≡ refused number line) → line ≤ 4294967295
       low number line (inl h) = omega (arith, h)
       low number line (inr h) = omega (arith, refused-line s D M enough number line h)
 
-      go : (v : Verdict) → asking q (verdict s D M enough) ≡ v → line_asked r ≤ 4294967295
-      go (accepted t) h = omega (arith, ap line_asked (p.when_accepted t h).given)
-      go (refused number line) h = omega (arith, ap line_asked (p.when_refused number line h).0, low number line (asking-line q (verdict s D M enough) number line h))
+      go : (v : Verdict) → asking q (verdict s D M enough) ≡ v → line_of r ≤ 4294967295
+      go (accepted t) h = omega (arith, ap line_of (p.when_accepted t h).given)
+      go (refused number line) h = omega (arith, ap line_of (p.when_refused number line h).0, low number line (asking-line q (verdict s D M enough) number line h))
 
   module _ (answer : List ℕ) where
     -- the verdict without room for the answer, and with it
@@ -64,7 +66,7 @@ module _ (s : List ℕ) (D M q : ℕ) (scratch marks : List ℕ) where
           when_refused = λ number line h. (let z = sym is ∙ h in let n : unroomy (length s) D M ≡ number = cc in let l : 0 ≡ line = cc in (omega arith, refl, refl, refl));
         }
 
-    pub why_given : (r : Answer) (given : ℕ) (scratch' marks' answer' : List ℕ) → 2 ≤ length answer → Asked s D M q scratch marks r scratch' marks' → Gives (why_numbered r) given answer answer'
+    pub why_given : (r : Result Why Refusal) (given : ℕ) (scratch' marks' answer' : List ℕ) → 2 ≤ length answer → Asked s D M q scratch marks r scratch' marks' → Gives (why_numbered r) given answer answer'
         → AsksWhy s D M q scratch marks answer given scratch' marks' answer'
     why_given r given scratch' marks' answer' some p g =
         let is = having (le-leb _ _ some) in
@@ -72,16 +74,16 @@ module _ (s : List ℕ) (D M q : ℕ) (scratch marks : List ℕ) where
           when_accepted = λ t h. (r, p.when_accepted t (sym is ∙ h), g);
           when_refused = λ number line h. (
               let k = p.when_refused number line (sym is ∙ h) in (
-                g.answered ∙ ap (λ (a : Answer). code (why_numbered a)) k.0,
+                g.answered ∙ ap (λ (a : Result Why Refusal). code (why_numbered a)) k.0,
                 k.1,
                 k.2,
-                g.left ∙ ap (λ (a : Answer). leave (why_numbered a) answer) k.0,
+                g.left ∙ ap (λ (a : Result Why Refusal). leave (why_numbered a) answer) k.0,
               )
               );
         }
 
     -- what is accepted with room for the answer keeps the promise of asking
-    asked-of : (t : List Frame) (r : Answer) (scratch' marks' : List ℕ) → asked_of s D M q scratch marks answer ≡ accepted t → Answers t q scratch marks r scratch' marks'
+    asked-of : (t : List Frame) (r : Result Why Refusal) (scratch' marks' : List ℕ) → asked_of s D M q scratch marks answer ≡ accepted t → Answers t q scratch marks r scratch' marks'
         → Asked s D M q scratch marks r scratch' marks'
     asked-of t r scratch' marks' h p = go (leb 2 (length answer)) refl
       where
@@ -105,10 +107,10 @@ module _ (s : List ℕ) (D M q : ℕ) (scratch marks : List ℕ) where
             let (r, x, g) = p.when_accepted t h in
             let (r', x', g') = k.when_accepted t h in
             let u = asked_unique q scratch marks r r' scratch' scratch'' marks' marks'' s D M (asked-of t r scratch' marks' h x) (asked-of t r' scratch'' marks'' h x') in (
-              g.answered ∙ ap (λ (a : Answer). code (why_numbered a)) u.0 ∙ sym g'.answered,
+              g.answered ∙ ap (λ (a : Result Why Refusal). code (why_numbered a)) u.0 ∙ sym g'.answered,
               u.1,
               u.2,
-              g.left ∙ ap (λ (a : Answer). leave (why_numbered a) answer) u.0 ∙ sym g'.left,
+              g.left ∙ ap (λ (a : Result Why Refusal). leave (why_numbered a) answer) u.0 ∙ sym g'.left,
             )
         go (refused number line) h =
             let x = p.when_refused number line h in

@@ -3,29 +3,34 @@
 use Prim.Native.Nat.{ℕ, ◌+◌, ◌*◌, ◌≤◌, ◌<◌}
 use mathlib.Core.Bool.{Bool, true, false, cond, ◌&&◌, ◌||◌}
 use mathlib.Core.List.{List, ◌++◌}
-use mathlib.Core.Path.{◌≡◌, refl, ap, ◌∙◌, sym}
+use mathlib.Core.Path.{◌≡◌, refl, ap, ◌∙◌, sym, ap₂}
 use native.Mathlib.Omega.{arith}
 use borrow.Author.Tests.{eq-eqb, ne_eqb, lt-ltb, le-ltb}
 use lib.Dec.{ltb}
 use lib.ListN.{length, drop}
-use Rattle.line.specs.declared.Family.{Family}
+use Rattle.std.specs.Prelude.{Ok, Err, is_ok}
+use Rattle.line.specs.declared.Fields.{Fields}
+use Rattle.line.specs.declared.Refusal.{Refusal}
+use Rattle.line.specs.declared.Line.{Line}
+use Rattle.line.specs.Family.{Family}
 use Rattle.line.specs.declared.Frame.{Frame}
-use Rattle.line.specs.declared.Read.{Read}
-use Rattle.line.specs.declared.Read.TheVariants.{Line, Refused}
-use Rattle.line.specs.declared.Wrote.{Wrote}
-use Rattle.line.specs.Table.{Fields, Entry, frame, none, table_of}
-use Rattle.line.specs.Read.{tabled, read_line_of}
-use Rattle.line.specs.Write.{chars, narrow, is_frame, writable_of, write_chars_of}
+use Rattle.line.specs.Table.{Entry, frame, none, table_of, fields_of}
+use Rattle.line.specs.Read.{tabled, read_line_of, Read, says}
+use Rattle.line.specs.Write.{chars, narrow, is_frame, writable_of, write_chars_of, write_line_of}
 use Rattle.line.proofs.Cases.{CaseOf, long, wrongs, unlisted, listed, line-case-of}
 use Rattle.line.proofs.RoundTrip.{written_of, table-fields-of}
-use Rattle.report.specs.Room.{Decision, write, refuse, fitting, answer, leave, Writes}
+use Rattle.line.specs.Refusal.{refusal}
+use Rattle.line.proofs.Same.{same-line, same-refusal}
+use Rattle.line.proofs.Writable.{write_line-ok, write_line-is}
+use Rattle.report.specs.Room.{Decision, write, refuse, answer, leave, Writes, Wrote, fitting}
 use Rattle.trace.specs.Rows.{columns}
+use Rattle.report.proofs.Decisions.{refused as writes-none, fitting-text}
 use Rattle.report.specs.Report.{reporting}
 use Rattle.report.specs.Refusal.{refusal_text, print_refusal}
 use Rattle.nyolifuwe.specs.Code.{coded, code, Gives}
 use Rattle.nyolifuwe.specs.Lines.{fields_in, framed, read_frame_of, write_frame_of}
 use Rattle.nyolifuwe.specs.Texts.{counted, count, Tells}
-use Rattle.nyolifuwe.specs.Inside.{framed_by, told, line_of, noted}
+use Rattle.nyolifuwe.specs.Inside.{framed_by, told, line_of, noted, written_by}
 
 -- no two refusals have one code, and none has the code of acceptance
 pub code-tells : (number number' line line' : ℕ) → number < 256 → number' < 256 → coded number line ≡ coded number' line' → (number ≡ number') × (line ≡ line')
@@ -56,19 +61,19 @@ module _ (i : Family) (s : List ℕ) (room : ℕ) where
       ∙ ap (λ (b : Bool). cond b (refuse 4 0) (framed (read_line_of i s 0))) (le-ltb _ _ enough)
       ∙ ap framed e
 
-pub read_at_0 : (i : Family) (s : List ℕ) (number line : ℕ) → read_line_of i s 0 ≡ Refused number line → line ≤ 4294967295
-read_at_0 i s number line e = go (line-case-of i s 0)
+pub read_at_0 : (i : Family) (s : List ℕ) (r : Refusal) → read_line_of i s 0 ≡ Err r → r.line ≤ 4294967295
+read_at_0 i s r e = go (line-case-of i s 0)
   where
-    go : CaseOf i s 0 (read_line_of i s 0) → line ≤ 4294967295
-    go (long h r) = let z : line ≡ 0 = cc in omega arith
-    go (wrongs h w r) = let z : line ≡ 0 = cc in omega arith
-    go (unlisted h w t r) = let z : line ≡ 0 = cc in omega arith
-    go (listed h w f t r) = absurd (let z : ◌≡◌ {A = ℕ} 0 1 = cc in omega arith)
+    go : CaseOf i s 0 (read_line_of i s 0) → r.line ≤ 4294967295
+    go (long h q) = let z = (same-refusal (sym e ∙ q)).1 in omega arith
+    go (wrongs h w q) = let z = (same-refusal (sym e ∙ q)).1 in omega arith
+    go (unlisted h w t q) = let z = (same-refusal (sym e ∙ q)).1 in omega arith
+    go (listed h w f t q) = absurd (let z : ◌≡◌ {A = ℕ} 0 1 = cc in omega arith)
 
 -- five fields that are a frame, and that are not
 pub data Framed (i : Family) (x : Fields) (r : Read) : Type 0 where
-  as_frame : (f : Frame) → narrow x ≡ true → table_of i x ≡ frame f → r ≡ Line 0 f → Framed i x r
-  as_none : (narrow x && is_frame (table_of i x)) ≡ false → r ≡ Refused 6 0 → Framed i x r
+  as_frame : (f : Frame) → narrow x ≡ true → table_of i x ≡ frame f → r ≡ says 0 f → Framed i x r
+  as_none : (narrow x && is_frame (table_of i x)) ≡ false → r ≡ Err (refusal 6 0) → Framed i x r
 
 framed-case : (i : Family) (x : Fields) → Framed i x (framed_by i x)
 framed-case i x = go (narrow x) (table_of i x) refl refl
@@ -78,54 +83,45 @@ framed-case i x = go (narrow x) (table_of i x) refl refl
     go true none hb he = as_none (simp (hb, he)) (simp hb (ap (λ (y : Entry). tabled y 0) he))
     go true (frame f) hb he = as_frame f hb he (simp hb (ap (λ (y : Entry). tabled y 0) he))
 
-pub framed-narrow : (i : Family) (x : Fields) → narrow x ≡ true → tabled (table_of i x) 0 ≡ framed_by i x
-framed-narrow i x e = sym (ap (λ (b : Bool). cond b (tabled (table_of i x) 0) (Refused 6 0)) e)
+-- five fields whose line is written: nothing where they are no frame, else the line of that frame
+module _ (i : Family) (x : Fields) where
+  pub unwritten : (out : List ℕ) (r : Refusal) → framed_by i x ≡ Err r → Writes (written_by i x (length out)) (Err r) out out
+  unwritten out r e = go (framed-case i x)
+    where
+      go : Framed i x (framed_by i x) → Writes (written_by i x (length out)) (Err r) out out
+      go (as_frame f h t q) = absurd (let z : ◌≡◌ {A = ℕ} 0 1 = cc in omega arith)
+      go (as_none h q) =
+          let s = same-refusal (sym e ∙ q) in
+          let k : written_by i x (length out) ≡ refuse 6 0 = simp h in
+          writes-none r.number r.line out (k ∙ sym (ap₂ refuse s.0 s.1))
 
-pub framed-wide : (i : Family) (x : Fields) → narrow x ≡ false → Refused 6 0 ≡ framed_by i x
-framed-wide i x e = sym (ap (λ (b : Bool). cond b (tabled (table_of i x) 0) (Refused 6 0)) e)
+  module _ (l : Line) (e : framed_by i x ≡ Ok l) where
+    -- the fields are those of a frame that is writable
+    written-frame : (writable_of i l.frame ≡ true) × (fields_of l.frame ≡ x)
+    written-frame = go (framed-case i x)
+      where
+        go : Framed i x (framed_by i x) → (writable_of i l.frame ≡ true) × (fields_of l.frame ≡ x)
+        go (as_none h q) = absurd (let z : ◌≡◌ {A = ℕ} 0 1 = cc in omega arith)
+        go (as_frame f h t q) =
+            let same = (same-line (sym e ∙ q)).1 in
+            let y = table-fields-of i x l.frame (t ∙ ap frame (sym same)) in
+            (ap (λ (z : Fields). narrow z && is_frame (table_of i z)) y ∙ simp (h, t), y)
 
--- the line writer
-module _ (i : Family) (n : List ℕ) (room written : ℕ) where
-  pub write_4_frame : length n < 5 → write_frame_of i n room written ≡ refuse 4 0
-  write_4_frame h = simp (lt-ltb _ _ h)
+    pub line-written : is_ok (write_line_of i l.frame) ≡ true
+    line-written = ap is_ok (write_line-is i l.frame written-frame.0)
 
-  module _ (five : 5 ≤ length n) where
-    pub write_4_out : room < 23 → write_frame_of i n room written ≡ refuse 4 0
-    write_4_out h = simp (le-ltb _ _ five, lt-ltb _ _ h)
+    -- so what the line writer gives is what is written
+    pub written-line : (room : ℕ) (s : List ℕ) → write_line_of i l.frame ≡ Ok s → fitting 4 s room ≡ written_by i x room
+    written-line room s w =
+        let h = written-frame in
+        let k = (write_line-ok i l.frame s w).1 in
+        ap (λ (y : List ℕ). fitting 4 y room) (k ∙ written_of i l.frame h.0)
+        ∙ sym (ap (λ (b : Bool). cond b (fitting 4 (chars (fields_of l.frame)) room) (refuse 6 0)) h.0)
+        ∙ ap (λ (y : Fields). cond (narrow y && is_frame (table_of i y)) (fitting 4 (chars y) room) (refuse 6 0)) h.1
 
-    module _ (enough : 23 ≤ room) where
-      pub write_4_count : written < 1 → write_frame_of i n room written ≡ refuse 4 0
-      write_4_count h = simp (le-ltb _ _ five, le-ltb _ _ enough, lt-ltb _ _ h)
-
-      module _ (counts : 1 ≤ written) where
-        on : {b : Bool} → (narrow (fields_in n) && is_frame (table_of i (fields_in n))) ≡ b → write_frame_of i n room written ≡ cond b (write (chars (fields_in n))) (refuse 6 0)
-        on e = simp (le-ltb _ _ five, le-ltb _ _ enough, le-ltb _ _ counts) (ap (λ (b : Bool). cond b (write (chars (fields_in n))) (refuse 6 0)) e)
-
-        pub write-refused : (number line : ℕ) → framed_by i (fields_in n) ≡ Refused number line → write_frame_of i n room written ≡ refuse number line
-        write-refused number line e = go (framed-case i (fields_in n))
-          where
-            go : Framed i (fields_in n) (framed_by i (fields_in n)) → write_frame_of i n room written ≡ refuse number line
-            go (as_none h r) = let d = on h in cc
-            go (as_frame f h t r) = absurd (let z : ◌≡◌ {A = ℕ} 0 1 = cc in omega arith)
-
-        pub write-framed : (k : ℕ) (f : Frame) → framed_by i (fields_in n) ≡ Line k f → write_frame_of i n room written ≡ write (write_chars_of i f)
-        write-framed k f e = go (framed-case i (fields_in n))
-          where
-            go : Framed i (fields_in n) (framed_by i (fields_in n)) → write_frame_of i n room written ≡ write (write_chars_of i f)
-            go (as_none h r) = absurd (let z : ◌≡◌ {A = ℕ} 0 1 = cc in omega arith)
-            go (as_frame g h t r) =
-                let same : g ≡ f = cc in
-                let x = table-fields-of i (fields_in n) f (t ∙ ap frame same) in
-                let is : (narrow (fields_in n) && is_frame (table_of i (fields_in n))) ≡ true = simp (h, t) in
-                let w : writable_of i f ≡ true = ap (λ (y : Fields). narrow y && is_frame (table_of i y)) x ∙ is in
-                on is ∙ ap write (ap chars (sym x) ∙ sym (written_of i f w))
-
-pub framed_at_0 : (i : Family) (x : Fields) (number line : ℕ) → framed_by i x ≡ Refused number line → line ≤ 4294967295
-framed_at_0 i x number line e = go (framed-case i x)
-  where
-    go : Framed i x (framed_by i x) → line ≤ 4294967295
-    go (as_none h r) = let z : line ≡ 0 = cc in omega arith
-    go (as_frame f h t r) = absurd (let z : ◌≡◌ {A = ℕ} 0 1 = cc in omega arith)
+-- room for a line and its count is enough, and what is decided is the writer's
+pub written-so : (i : Family) (n : List ℕ) (room written : ℕ) → 5 ≤ length n → 23 ≤ room → 1 ≤ written → written_by i (fields_in n) room ≡ write_frame_of i n room written
+written-so i n room written five enough counts = simp (le-ltb _ _ five, le-ltb _ _ enough, le-ltb _ _ counts)
 
 -- the writers of text: a refusal that is given, with both rooms as they were
 pub untold : {d : Decision} (number line : ℕ) (text written : List ℕ) → d ≡ refuse number line → Tells d (coded number line) text text written written
@@ -144,13 +140,6 @@ counted_is (refuse number line) room h = refl
 pub tells : (d : Decision) {r : Wrote} {given : ℕ} {text text' written written' : List ℕ} → Writes d r text text' → given ≡ told r → written' ≡ noted r written → Tells d given text text' written written'
 tells (write s) {written = written} w g n = record { answered = g ∙ ap told w.answered; text_left = w.left; count_left = n ∙ ap (λ (r : Wrote). noted r written) w.answered }
 tells (refuse number line) {written = written} w g n = record { answered = g ∙ ap told w.answered; text_left = w.left; count_left = n ∙ ap (λ (r : Wrote). noted r written) w.answered }
-
-pub fitting_at_0 : (s : List ℕ) (room : ℕ) {r : Wrote} → r ≡ answer (fitting 4 s room) → line_of r ≤ 65536
-fitting_at_0 s room e = let z = ap line_of e ∙ go (ltb room (length s)) in omega arith
-  where
-    go : (b : Bool) → line_of (answer (cond b (refuse 4 0) (write s))) ≡ 0
-    go true = refl
-    go false = refl
 
 -- the reports
 module _ (rows : List ℕ) (number asked : ℕ) (s : List ℕ) (room : ℕ) where

@@ -9,10 +9,9 @@ use native.Mathlib.Omega.{arith}
 use borrow.Author.Tests.{lt-leb, le-leb}
 use lib.Dec.{eqb}
 use lib.ListN.{length}
-use Rattle.line.specs.declared.Family.{Family}
-use Rattle.line.specs.declared.Family.TheVariants.{Base}
+use Rattle.line.specs.Family.{Family, Base}
 use Rattle.line.specs.declared.Frame.{Frame}
-use Rattle.trace.specs.declared.Answer.{Answer}
+use Rattle.trace.specs.Answer.{Answer}
 use Rattle.trace.specs.Refusals.{Verdict, accepted, refused, verdict_of, verdict}
 use Rattle.trace.specs.Shape.{sites}
 use Rattle.trace.specs.Promise.{Engine, Lent, enough, ProfileOf, KeptOf}
@@ -22,20 +21,15 @@ use Rattle.trace.proofs.Checks.{passed, by-checks}
 use Rattle.trace.proofs.Parse.{accepted-parts-of, accepted-parts}
 use Rattle.trace.proofs.Outcome.{kept_unique_of}
 use Rattle.forecast.specs.declared.Entry.{Entry}
-use Rattle.forecast.specs.declared.Listed.{Listed}
 use Rattle.forecast.specs.Rewritten.{rewritten}
-use Rattle.forecast.specs.Asked.{asking}
-use Rattle.forecast.specs.Listed.{listed, asked_of}
-use Rattle.forecast.specs.OfList.{entries_of, asking_of}
+use Rattle.forecast.specs.Asked.{asked, asking}
 use Rattle.forecast.proofs.Asked.{forecast_of}
 use Rattle.forecast.proofs.Outcome.{rewritten-parts}
-use Rattle.forecast.proofs.OfList.{asking-listed}
 use Rattle.report.specs.Room.{leave}
 use Rattle.admit.proofs.Refused.{refused-line-of}
 use Rattle.nyolifuwe.specs.Code.{code, Gives}
 use Rattle.nyolifuwe.specs.Engines.{roomy, numbered, AnswersOf, Answers, ProfilesOf, Profiles, Forecasts}
-use Rattle.nyolifuwe.specs.InsideForecasts.{ForecastsOf}
-use Rattle.nyolifuwe.specs.Inside.{line_in, unroomy}
+use Rattle.nyolifuwe.specs.Inside.{line_of, unroomy}
 
 -- What is asked of a verdict: nothing, or a forecast. A refusal stays, and another has line 0.
 pub record Asks (f : Verdict → Verdict) : Type 0 where
@@ -45,14 +39,14 @@ pub record Asks (f : Verdict → Verdict) : Type 0 where
 pub plain : Asks (λ v. v)
 plain = record { keeps = λ n k. refl; adds = λ v n k h. inr h }
 
-pub by_list : (l : Listed) → Asks (asking_of l)
-by_list l = record { keeps = λ n k. refl; adds = adds }
+pub forecasting : (es : List Entry) → Asks (asking es)
+forecasting es = record { keeps = λ n k. refl; adds = adds }
   where
-    adds : (v : Verdict) (number line : ℕ) → asking_of l v ≡ refused number line → (line ≡ 0) ⊎ (v ≡ refused number line)
+    adds : (v : Verdict) (number line : ℕ) → asking es v ≡ refused number line → (line ≡ 0) ⊎ (v ≡ refused number line)
     adds (refused n k) number line h = inr h
-    adds (accepted t) number line h = go (eqb (asked_of (sites t) l) 0) h
+    adds (accepted t) number line h = go (eqb (asked (sites t) es) 0) h
       where
-        go : (b : Bool) → cond b (accepted (rewritten (entries_of l) t)) (refused (asked_of (sites t) l) 0) ≡ refused number line → (line ≡ 0) ⊎ (accepted t ≡ refused number line)
+        go : (b : Bool) → cond b (accepted (rewritten es t)) (refused (asked (sites t) es) 0) ≡ refused number line → (line ≡ 0) ⊎ (accepted t ≡ refused number line)
         go true q = clash (cc)
         go false q = inl (let z : 0 ≡ line = cc in sym z)
 
@@ -62,16 +56,16 @@ roomless i s D M = elim (by-checks i s D M false) [ inl h ↦ no_way (passed (le
 
 module _ (i : Family) {f : Verdict → Verdict} (asks : Asks f) (e : Engine) (s : List ℕ) (D M : ℕ) (before : Lent) where
   -- the line in an engine's answer
-  pub answer-line : (after : Lent) (r : Answer) → KeptOf i e (f (verdict_of i s D M (enough e s D M before))) before r after → line_in r ≤ 65536
+  pub answer-line : (after : Lent) (r : Answer) → KeptOf i e (f (verdict_of i s D M (enough e s D M before))) before r after → line_of r ≤ 65536
   answer-line after r p = go (f (verdict_of i s D M (enough e s D M before))) refl
     where
       low : (number line : ℕ) → (line ≡ 0) ⊎ (verdict_of i s D M (enough e s D M before) ≡ refused number line) → line ≤ 65536
       low number line (inl h) = omega (arith, h)
       low number line (inr h) = refused-line-of i s D M (enough e s D M before) number line h
 
-      go : (v : Verdict) → f (verdict_of i s D M (enough e s D M before)) ≡ v → line_in r ≤ 65536
-      go (accepted t) h = omega (arith, ap line_in (p.when_accepted t h).answer)
-      go (refused number line) h = omega (arith, ap line_in (p.when_refused number line h).0, low number line (asks.adds (verdict_of i s D M (enough e s D M before)) number line h))
+      go : (v : Verdict) → f (verdict_of i s D M (enough e s D M before)) ≡ v → line_of r ≤ 65536
+      go (accepted t) h = omega (arith, ap line_of (p.when_accepted t h).answer)
+      go (refused number line) h = omega (arith, ap line_of (p.when_refused number line h).0, low number line (asks.adds (verdict_of i s D M (enough e s D M before)) number line h))
 
   module _ (answer : List ℕ) where
     pub without-room : length answer < 4 → AnswersOf i e (f (verdict_of i s D M (roomy e s D M before answer))) before answer (unroomy (length s) D M) before answer
@@ -98,11 +92,6 @@ module _ (i : Family) {f : Verdict → Verdict} (asks : Asks f) (e : Engine) (s 
               )
               );
         }
-
--- entries by value give what the lent entries give
-pub lent-entries : (e : Engine) (es : List Entry) (s : List ℕ) (D M : ℕ) (before : Lent) (answer : List ℕ) (given : ℕ) (after : Lent) (answer' : List ℕ)
-    → ForecastsOf e (listed es) s D M before answer given after answer' → Forecasts e es s D M before answer given after answer'
-lent-entries e es s D M before answer given after answer' h = subst (λ (v : Verdict). Answers e v before answer given after answer') (asking-listed es (verdict s D M (roomy e s D M before answer))) h
 
 -- ── one outcome ──
 

@@ -8,10 +8,10 @@ use native.Mathlib.Omega.{arith}
 use borrow.Author.Tests.{lt-ltb, le-ltb}
 use lib.Dec.{ltb}
 use lib.ListN.{length}
-use Rattle.line.specs.declared.Wrote.{Wrote}
+use Rattle.std.proofs.Common.{Result}
 use Rattle.trace.specs.Rows.{columns}
-use Rattle.report.specs.Room.{Decision, write, refuse, fitting, answer, leave}
-use Rattle.sheet.specs.declared.Counted.{Counted}
+use Rattle.report.specs.Room.{Decision, write, refuse, fitting, answer, leave, Wrote}
+use Rattle.line.specs.declared.Refusal.{Refusal}
 use Rattle.sheet.specs.Text.{sheet_text}
 use Rattle.sheet.specs.Writing.{writing}
 use Rattle.sheet.specs.Grammar.{Sheet, sheet, bad, sheet_of}
@@ -20,8 +20,7 @@ use Rattle.sheet.specs.Reading.{refuse as turn, answer as tell_of, leave as leav
 use Rattle.sheet.proofs.Apart.{bad-few}
 use Rattle.nyolifuwe.specs.Texts.{Tells}
 use Rattle.nyolifuwe.specs.Sheets.{csv_write, csv_read, code_of, sites, Takes}
-use Rattle.nyolifuwe.specs.Inside.{line_of}
-use Rattle.nyolifuwe.specs.InsideSheets.{told_sites, record_in, noted_sites}
+use Rattle.nyolifuwe.specs.Inside.{line_of, told, noted}
 
 -- the writer
 module _ (rows : List ℕ) (number room w : ℕ) where
@@ -65,32 +64,32 @@ csv_untaken s rows count few =
       count_left = sym (ap (λ (t : Taken). leave (sites t) count) e);
     }
 
-takes : (t : Taken) {r : Counted} {given : ℕ} {rows rows' count count' : List ℕ} → Reads t r rows rows' → given ≡ told_sites r
-    → count' ≡ noted_sites r count → Takes t given rows rows' count count'
-takes (fill n xs) {count = count} w g k = record { answered = g ∙ ap told_sites w.answered; rows_left = w.left; count_left = k ∙ ap (λ (r : Counted). noted_sites r count) w.answered }
-takes (turn n l) {count = count} w g k = record { answered = g ∙ ap told_sites w.answered; rows_left = w.left; count_left = k ∙ ap (λ (r : Counted). noted_sites r count) w.answered }
+takes : (t : Taken) {r : Result ℕ Refusal} {given : ℕ} {rows rows' count count' : List ℕ} → Reads t r rows rows' → given ≡ told r
+    → count' ≡ noted r count → Takes t given rows rows' count count'
+takes (fill n xs) {count = count} w g k = record { answered = g ∙ ap told w.answered; rows_left = w.left; count_left = k ∙ ap (λ (r : Result ℕ Refusal). noted r count) w.answered }
+takes (turn n l) {count = count} w g k = record { answered = g ∙ ap told w.answered; rows_left = w.left; count_left = k ∙ ap (λ (r : Result ℕ Refusal). noted r count) w.answered }
 
-pub csv_taken : (s rows rows' count count' : List ℕ) {r : Counted} {given : ℕ} → 1 ≤ length count
-    → Reads (reading s (length rows)) r rows rows' → given ≡ told_sites r → count' ≡ noted_sites r count
+pub csv_taken : (s rows rows' count count' : List ℕ) {r : Result ℕ Refusal} {given : ℕ} → 1 ≤ length count
+    → Reads (reading s (length rows)) r rows rows' → given ≡ told r → count' ≡ noted r count
     → Takes (csv_read s (length rows) (length count)) given rows rows' count count'
 csv_taken s rows rows' count count' {given = given} some w g k =
     let e : csv_read s (length rows) (length count) ≡ reading s (length rows) = simp (le-ltb _ _ some) in
     rw e (takes (reading s (length rows)) w g k)
 
 -- the record in the reader's answer
-pub csv_record : (s : List ℕ) (room : ℕ) {r : Counted} → r ≡ tell_of (reading s room) → record_in r ≤ 65536
+pub csv_record : (s : List ℕ) (room : ℕ) {r : Result ℕ Refusal} → r ≡ tell_of (reading s room) → line_of r ≤ 65536
 unfolding reading
 csv_record s room {r} e = go (sheet_of s) refl
   where
-    room-enough : (b : Bool) (n : ℕ) (xs : List ℕ) → record_in (tell_of (cond b (turn 16 0) (fill n xs))) ≡ 0
+    room-enough : (b : Bool) (n : ℕ) (xs : List ℕ) → line_of (tell_of (cond b (turn 16 0) (fill n xs))) ≡ 0
     room-enough true n xs = refl
     room-enough false n xs = refl
 
-    go : (x : Sheet) → sheet_of s ≡ x → record_in r ≤ 65536
+    go : (x : Sheet) → sheet_of s ≡ x → line_of r ≤ 65536
     go (sheet n xs) h =
         omega
-        (arith, ap record_in e, ap (λ (y : Sheet). record_in (tell_of (taken y room))) h, room-enough (ltb room (columns * n)) (n - 1) xs)
-    go (bad k) h = omega (arith, ap record_in e, ap (λ (y : Sheet). record_in (tell_of (taken y room))) h, bad-few s k h)
+        (arith, ap line_of e, ap (λ (y : Sheet). line_of (tell_of (taken y room))) h, room-enough (ltb room (columns * n)) (n - 1) xs)
+    go (bad k) h = omega (arith, ap line_of e, ap (λ (y : Sheet). line_of (tell_of (taken y room))) h, bad-few s k h)
 
 -- LAW: a decision of the writer leaves one code and one outcome
 pub one_telling : {d : Decision} {given given' : ℕ} {text text' text'' written written' written'' : List ℕ}

@@ -8,13 +8,12 @@ use native.Mathlib.Omega.{arith}
 use borrow.Author.Tests.{le-leb, lt-leb}
 use lib.Dec.{leb, ltb}
 use lib.ListN.{length}
-use Rattle.line.specs.declared.Family.TheVariants.{Base}
+use Rattle.line.specs.Family.{Base}
 use Rattle.line.specs.declared.Frame.{Frame}
-use Rattle.line.specs.declared.Wrote.{Wrote}
 use Rattle.trace.specs.Refusals.{Verdict, accepted, refused, verdict}
 use Rattle.trace.specs.Written.{text_of}
 use Rattle.trace.proofs.Basics.{clash}
-use Rattle.report.specs.Room.{write, refuse, answer}
+use Rattle.report.specs.Room.{write, refuse, answer, Wrote}
 use Rattle.compact.specs.Promise.{shelved, Compacts}
 use Rattle.compact.proofs.Tied.{compact-only}
 use Rattle.admit.proofs.Refused.{refused-line}

@@ -8,13 +8,12 @@ use native.Mathlib.Omega.{arith}
 use borrow.Author.Tests.{le-leb, lt-leb, ltb-true}
 use lib.Dec.{leb, ltb}
 use lib.ListN.{length}
-use Rattle.line.specs.declared.Family.TheVariants.{Base}
+use Rattle.line.specs.Family.{Base}
 use Rattle.line.specs.declared.Frame.{Frame}
-use Rattle.line.specs.declared.Wrote.{Wrote}
 use Rattle.trace.specs.Shape.{sites}
 use Rattle.trace.specs.Refusals.{Verdict, accepted, refused, verdict}
 use Rattle.trace.proofs.Scan.{accepted-fine}
-use Rattle.report.specs.Room.{Decision, write, refuse, fitting, answer}
+use Rattle.report.specs.Room.{Decision, write, refuse, fitting, answer, Wrote}
 use Rattle.names.specs.Names.{shown, first_bad}
 use Rattle.folded.specs.Text.{folded}
 use Rattle.folded.specs.Folding.{decide, folding, cleared, Folds}

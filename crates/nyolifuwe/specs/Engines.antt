@@ -1,10 +1,8 @@
 -- What the exported engines promise: the engine's own promise, with the answer in a lent slice of four numbers.
-use Rattle.std.specs.Prelude.{ℕ, Bool, ◌&&◌, List, [], ◌∷◌, ◌≡◌, leb, length}
-use Rattle.line.specs.declared.Family.{Family}
-use Rattle.line.specs.declared.Family.TheVariants.{Base}
+use Rattle.std.specs.Prelude.{ℕ, Bool, ◌&&◌, List, [], ◌∷◌, ◌≡◌, leb, length, Ok, Err}
+use Rattle.line.specs.Family.{Family, Base}
 use Rattle.line.specs.declared.Frame.{Frame}
-use Rattle.trace.specs.declared.Answer.{Answer}
-use Rattle.trace.specs.declared.Answer.TheVariants.{Accepted, Refused}
+use Rattle.trace.specs.Answer.{Answer}
 use Rattle.trace.specs.Refusals.{Verdict, accepted, refused, verdict_of, verdict}
 use Rattle.trace.specs.Promise.{Engine, Lent, enough, ProfileOf}
 use Rattle.forecast.specs.declared.Entry.{Entry}
@@ -18,8 +16,8 @@ roomy e s D M lent answer = enough e s D M lent && leb 4 (length answer)
 
 -- "Accepted: total work, total span, number of sites, number of lines."
 abbrev pub numbered : Answer → Decision
-numbered (Accepted work span sites lines) = write (work ∷ span ∷ sites ∷ lines ∷ [])
-numbered (Refused number line) = refuse number line
+numbered (Ok p) = write (p.work ∷ p.span ∷ p.sites ∷ p.lines ∷ [])
+numbered (Err r) = refuse r.number r.line
 
 -- The engine e, lent the room before and the room for the answer, gives this code and leaves after and answer', where
 -- this is the verdict.

@@ -1,49 +1,38 @@
 -- For proofs, not for the reader of the interface: what its private functions give.
-use Rattle.std.specs.Prelude.{ℕ, cond, false, List, ◌∷◌, drop}
-use Rattle.line.specs.declared.Family.{Family}
-use Rattle.line.specs.declared.Read.{Read}
-use Rattle.line.specs.declared.Read.TheVariants.{Refused as Unread}
-use Rattle.line.specs.declared.Wrote.{Wrote}
-use Rattle.line.specs.declared.Wrote.TheVariants.{Chars, Refused}
-use Rattle.line.specs.Table.{Fields, table_of}
-use Rattle.line.specs.Read.{tabled}
-use Rattle.line.specs.Write.{narrow}
-use Rattle.trace.specs.declared.Answer.{Answer}
-use Rattle.trace.specs.declared.Answer.TheVariants.{Accepted}
-use Rattle.trace.specs.declared.Answer.TheVariants.{Refused as Turned}
+use Rattle.std.specs.Prelude.{ℕ, cond, false, List, ◌∷◌, drop, Ok, Err, ◌&&◌, Result}
+use Rattle.line.specs.declared.Fields.{Fields}
+use Rattle.line.specs.Family.{Family}
+use Rattle.line.specs.declared.Refusal.{Refusal}
+use Rattle.report.specs.Room.{Decision, refuse, fitting}
+use Rattle.line.specs.Table.{table_of}
+use Rattle.line.specs.Read.{tabled, Read}
+use Rattle.line.specs.Write.{narrow, chars, is_frame}
+use Rattle.line.specs.Refusal.{refusal}
 use Rattle.trace.specs.Refusals.{checks}
-use Rattle.why.specs.declared.Answer.{Answer as WhyAnswer}
-use Rattle.why.specs.declared.Answer.TheVariants.{Given}
-use Rattle.why.specs.declared.Answer.TheVariants.{Refused as NotGiven}
 use Rattle.nyolifuwe.specs.Code.{coded}
 
 -- the frame that five fields are, refusal 6 where one has no room in its digits or they are not as the family's table has
 -- them
 abbrev pub framed_by : Family → Fields → Read
-framed_by g x = cond (narrow x) (tabled (table_of g x) 0) (Unread 6 0)
+framed_by g x = cond (narrow x) (tabled (table_of g x) 0) (Err (refusal 6 0))
 
--- a writer's answer: its code, the line in it, and what the room for the count then holds
-abbrev pub told : Wrote → ℕ
-told (Chars n) = 0
-told (Refused number line) = coded number line
+-- what writing its line into so much room decides
+abbrev pub written_by : Family → Fields → ℕ → Decision
+written_by g x room = cond (narrow x && is_frame (table_of g x)) (fitting 4 (chars x) room) (refuse 6 0)
 
-abbrev pub line_of : Wrote → ℕ
-line_of (Chars n) = 0
-line_of (Refused number line) = line
+-- an answer that counts characters or sites: its code, and what the room for the count then holds
+abbrev pub told : Result ℕ Refusal → ℕ
+told (Ok n) = 0
+told (Err r) = coded r.number r.line
 
-abbrev pub noted : Wrote → List ℕ → List ℕ
-noted (Chars n) written = n ∷ drop 1 written
-noted (Refused number line) written = written
+abbrev pub noted : Result ℕ Refusal → List ℕ → List ℕ
+noted (Ok n) count = n ∷ drop 1 count
+noted (Err r) count = count
 
--- an engine's answer: the line in it
-abbrev pub line_in : Answer → ℕ
-line_in (Accepted work span sites lines) = 0
-line_in (Turned number line) = line
-
--- an answer to why: the line in it
-abbrev pub line_asked : WhyAnswer → ℕ
-line_asked (Given a) = 0
-line_asked (NotGiven number line) = line
+-- the line, record or row that an answer names; 0 where it refuses nothing
+abbrev pub line_of : {A : Type 0} → Result A Refusal → ℕ
+line_of (Ok x) = 0
+line_of (Err r) = r.line
 
 -- the number of the first of checks 1 to 3 that fails, else 4
 abbrev pub unroomy : ℕ → ℕ → ℕ → ℕ

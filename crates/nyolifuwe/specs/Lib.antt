@@ -4,8 +4,6 @@ pub mod Texts
 pub mod Inside
 pub mod Engines
 pub mod Sheets
-pub mod InsideSheets
 pub mod Stacks
-pub mod InsideForecasts
 pub mod Shelf
 pub mod Asking

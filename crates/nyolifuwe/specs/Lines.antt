@@ -1,11 +1,9 @@
 -- What the exported line readers and line writers decide. A frame passes as five numbers: kind, site, value, file, column.
-use Rattle.std.specs.Prelude.{ℕ, cond, ◌&&◌, ◌||◌, List, [], ◌∷◌, eqb, ltb, length, get_or}
-use Rattle.line.specs.declared.Family.{Family}
-use Rattle.line.specs.declared.Family.TheVariants.{Base}
-use Rattle.line.specs.declared.Read.{Read}
-use Rattle.line.specs.declared.Read.TheVariants.{Line, Refused}
-use Rattle.line.specs.Table.{Fields, table_of, fields_of}
-use Rattle.line.specs.Read.{width, read_line_of}
+use Rattle.std.specs.Prelude.{ℕ, cond, ◌&&◌, ◌||◌, List, [], ◌∷◌, eqb, ltb, length, get_or, Ok, Err}
+use Rattle.line.specs.declared.Fields.{Fields}
+use Rattle.line.specs.Family.{Family, Base}
+use Rattle.line.specs.Table.{table_of, fields_of}
+use Rattle.line.specs.Read.{width, read_line_of, Read}
 use Rattle.line.specs.Write.{chars, narrow, is_frame}
 use Rattle.report.specs.Room.{Decision, write, refuse}
 
@@ -18,8 +16,8 @@ fields_in n = record { kind = get_or n 0 0; site = get_or n 1 0; value = get_or 
 
 -- a line that is read: the numbers of its frame, or its refusal
 abbrev pub framed : Read → Decision
-framed (Line n f) = write (numbers (fields_of f))
-framed (Refused number line) = refuse number line
+framed (Ok x) = write (numbers (fields_of x.frame))
+framed (Err r) = refuse r.number r.line
 
 -- "refusal 2 unless it is lent exactly 23 characters", 4 where the frame has no room for five numbers, "then 5, then
 -- 6, each with line 0; otherwise the frame"

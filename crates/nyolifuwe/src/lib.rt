@@ -4,40 +4,37 @@
 #![tactic(auto)]
 
 ghost use Rattle.std.specs.Prelude.{◌≡◌, ◌≤◌, [], ◌++◌, length, drop};
-ghost use Rattle.line.specs.declared.Family.TheVariants.{Finishes};
+ghost use Rattle.line.specs.Family.{Finishes};
 ghost use Rattle.line.specs.Table.{fields_of};
-ghost use Rattle.line.specs.Read.{read_line_of};
-ghost use Rattle.line.specs.Write.{write_answer_of, write_chars_of};
 ghost use Rattle.report.specs.Report.{report, full_report};
 ghost use Rattle.report.specs.Refusal.{print_refusal};
+ghost use Rattle.report.specs.Room.{Writes};
 ghost use Rattle.nyolifuwe.specs.Code.{coded, Gives};
 ghost use Rattle.nyolifuwe.specs.Lines.{numbers, read_frame_of, read_frame, write_frame_of, write_frame};
 ghost use Rattle.nyolifuwe.specs.Texts.{counted, Tells};
-ghost use Rattle.trace.specs.Promise.{Engine, PromiseOf};
+ghost use Rattle.trace.specs.Promise.{Engine};
 ghost use Rattle.nyolifuwe.specs.Engines.{numbered, ProfilesOf, Profiles, Forecasts};
-ghost use Rattle.nyolifuwe.specs.InsideForecasts.{ForecastsOf};
 ghost use Rattle.nyolifuwe.specs.Sheets.{csv_write, csv_read, Takes};
 ghost use Rattle.nyolifuwe.specs.Stacks.{folded_stacks, Folded};
 ghost use Rattle.nyolifuwe.specs.Shelf.{Shelves};
 ghost use Rattle.nyolifuwe.specs.Asking.{numbers_of, why_numbered, AsksWhy};
-ghost use Rattle.nyolifuwe.specs.InsideSheets.{told_sites, record_in, noted_sites};
-ghost use Rattle.nyolifuwe.specs.Inside.{framed_by, told, line_of, noted, line_in, line_asked, unroomy};
+ghost use Rattle.nyolifuwe.specs.Inside.{framed_by, written_by, told, line_of, noted, unroomy};
 
-use forecast::{Entry, Listed};
-use line::{Family, Frame, Read, Written, Wrote};
-use sheet::Counted;
-use trace::Answer;
+use forecast::Entry;
+use line::{Family, Fields, Frame, LINE, Line, Refusal};
+use names::Lists;
+use trace::Profile;
 use why::Why;
 
 // "kind, site, value, file, column"
 const FIELDS: usize = 5;
 
 // A refusal in one number.
-fn code(number: u8, line: usize) -> u64
-    requires { line ≤ 4294967295 }
-    ensures { result ≡ coded number line }
+fn code(refusal: Refusal) -> u64
+    requires { refusal.line ≤ 4294967295 }
+    ensures { result ≡ coded refusal.number refusal.line }
 {
-    number as u64 + 256 * line as u64
+    refusal.number as u64 + 256 * refusal.line as u64
 }
 
 // Copies all of `from` over the front of `to`.
@@ -45,64 +42,40 @@ fn put(from: &[u64], to: &mut [u64])
     requires { length from.now ≤ length to.old }
     ensures { to.new ≡ from.now ++ drop (length from.now) to.old }
 {
-    let mut i = 0;
-    while i < from.len() {
-        to[i] = from[i];
-        i += 1;
-    }
+    to[..from.len()].copy_from_slice(from);
 }
 
-// The five fields of a frame.
-fn fields_of(f: Frame) -> [u64; FIELDS]
-    ensures { result ≡ numbers (fields_of f) }
+// The five fields of a frame, as numbers.
+fn numbers(frame: Frame) -> [u64; FIELDS]
+    ensures { result ≡ numbers (fields_of frame) }
 {
-    match f {
-        Frame::Site(site, place) => [
-            1,
-            site as u64,
-            place.line as u64,
-            place.file as u64,
-            place.column as u64,
-        ],
-        Frame::Call(site) => [2, site as u64, 0, 0, 0],
-        Frame::Spawn(site) => [3, site as u64, 0, 0, 0],
-        Frame::Sync => [4, 0, 0, 0, 0],
-        Frame::Return => [5, 0, 0, 0, 0],
-        Frame::Cost(value) => [6, 0, value as u64, 0, 0],
-        Frame::Instructions(value) => [7, 0, value as u64, 0, 0],
-        Frame::Async(site) => [0x12, site as u64, 0, 0, 0],
-        Frame::Finish => [0x13, 0, 0, 0, 0],
-    }
-}
-
-// What the characters lent are as a line of a family's trace.
-fn line_as(line: &[u8], family: Family) -> Read
-    ensures { result ≡ read_line_of family line.now 0 }
-{
-    match family {
-        Family::Base => line::read_line(line),
-        Family::Finishes => line::finish_read_line(line),
-    }
+    let x = frame.fields();
+    [
+        u64::from(x.kind),
+        u64::from(x.site),
+        u64::from(x.value),
+        u64::from(x.file),
+        u64::from(x.column),
+    ]
 }
 
 // Reads one line of a family's trace: its frame goes to `frame`, or refusal 2, 4, 5 or 6.
-fn read_as(line: &[u8], frame: &mut [u64], family: Family) -> u64
-    ensures { Gives (read_frame_of family line.now (length frame.old)) result frame.old
+fn read_as<F: Family>(line: &[u8], frame: &mut [u64]) -> u64
+    ensures { Gives (read_frame_of F.family line.now (length frame.old)) result frame.old
         frame.new }
 {
-    if line.len() != line::LINE {
+    if line.len() != LINE {
         return 2;
     }
     if frame.len() < FIELDS {
         return 4;
     }
-    match line_as(line, family) {
-        Read::Line(_, f) => {
-            let fields = fields_of(f);
-            put(&fields, frame);
+    match line::read_line::<F>(line) {
+        Ok(read) => {
+            put(&numbers(read.frame), frame);
             0
         }
-        Read::Refused(number, at) => code(number, at),
+        Err(refusal) => code(refusal),
     }
 }
 
@@ -112,7 +85,7 @@ pub extern "C" fn nyo_read_line(line: &[u8], frame: &mut [u64]) -> u64
     ensures { Gives (read_frame line.now (length frame.old)) result frame.old
         frame.new }
 {
-    read_as(line, frame, Family::Base)
+    read_as::<line::Base>(line, frame)
 }
 
 // The same of a trace of asyncs and finishes.
@@ -121,80 +94,92 @@ pub extern "C" fn nyo_finish_read_line(line: &[u8], frame: &mut [u64]) -> u64
     ensures { Gives (read_frame_of Finishes line.now (length frame.old)) result
         frame.old frame.new }
 {
-    read_as(line, frame, Family::Finishes)
+    read_as::<line::Finishes>(line, frame)
 }
 
 // The frame that five numbers are by a family's table of kinds, else refusal 6.
-fn frame_of(kind: u64, site: u64, value: u64, file: u64, column: u64, family: Family) -> Read
-    ensures { result ≡ framed_by family
+fn frame_of<F: Family>(
+    kind: u64,
+    site: u64,
+    value: u64,
+    file: u64,
+    column: u64,
+) -> Result<Line, Refusal>
+    ensures { result ≡ framed_by F.family
         (record { kind = kind; site = site; value = value; file = file; column = column }) }
 {
-    let narrow = (kind < 256)
-        & (site < 65536)
-        & (value < 4294967296)
-        & (file < 65536)
-        & (column < 65536);
-    if !narrow {
-        return Read::Refused(6, 0);
-    }
-    let kind = kind as u32;
-    let site = site as u16;
-    let value = value as u32;
-    let file = file as u16;
-    let column = column as u16;
-    match family {
-        Family::Base => line::framed(kind, site, value, file, column, 0),
-        Family::Finishes => line::finish_framed(kind, site, value, file, column, 0),
-    }
+    let (Ok(kind), Ok(site), Ok(value), Ok(file), Ok(column)) = (
+        u8::try_from(kind),
+        u16::try_from(site),
+        u32::try_from(value),
+        u16::try_from(file),
+        u16::try_from(column),
+    ) else {
+        return Err(Refusal { number: 6, line: 0 });
+    };
+    let x = Fields {
+        kind: u32::from(kind),
+        site,
+        value,
+        file,
+        column,
+    };
+    F::framed(x, 0)
 }
 
-// What a writer of text answered, in one number; how many characters it wrote goes to `written`.
-fn tell(wrote: Wrote, written: &mut [u64]) -> u64
-    requires { (line_of wrote ≤ 65536) × (1 ≤ length written.old) }
-    ensures { (result ≡ told wrote) × (written.new ≡ noted wrote written.old) }
+// What a writer of text or the reader of comma-separated text answered, in one number; how many characters or sites
+// they are goes to `count`.
+fn tell(counted: Result<usize, Refusal>, count: &mut [u64]) -> u64
+    requires { (line_of counted ≤ 65536) × (1 ≤ length count.old) }
+    ensures { (result ≡ told counted) × (count.new ≡ noted counted count.old) }
 {
-    match wrote {
-        Wrote::Chars(n) => {
-            written[0] = n as u64;
+    match counted {
+        Ok(n) => {
+            count[0] = n as u64;
             0
         }
-        Wrote::Refused(number, at) => code(number, at),
+        Err(refusal) => code(refusal),
     }
 }
 
-// What a frame is as a line of a family's trace.
-fn written_as(f: Frame, family: Family) -> Written
-    ensures { (result.answer ≡ write_answer_of family f) × (result.chars ≡ write_chars_of family f) }
+// Writes the line of the frame that five numbers are, or refuses: 6, then 4 for output too short.
+fn write_fields<F: Family>(
+    kind: u64,
+    site: u64,
+    value: u64,
+    file: u64,
+    column: u64,
+    out: &mut [u8],
+) -> Result<usize, Refusal>
+    ensures { Writes
+        (written_by F.family
+        (record { kind = kind; site = site; value = value; file = file; column = column }) (length out.old))
+        result out.old out.new }
 {
-    match family {
-        Family::Base => line::write_line(f),
-        Family::Finishes => line::finish_write_line(f),
-    }
+    let read = frame_of::<F>(kind, site, value, file, column)?;
+    let chars = line::write_line::<F>(read.frame).unwrap();
+    report::put_text(&chars, out)
 }
 
 // Writes one line of a family's trace from the five numbers of its frame: 23 characters go to `out`, or refusal 4 or 6.
-fn write_as(frame: &[u64], out: &mut [u8], written: &mut [u64], family: Family) -> u64
+fn write_as<F: Family>(frame: &[u64], out: &mut [u8], written: &mut [u64]) -> u64
     ensures { Tells
-        (write_frame_of family frame.now (length out.old) (length written.old)) result
+        (write_frame_of F.family frame.now (length out.old) (length written.old)) result
         out.old out.new written.old written.new }
 {
-    if frame.len() < FIELDS {
+    let [kind, site, value, file, column, ..] = *frame else {
         return 4;
-    }
-    if out.len() < line::LINE {
+    };
+    if out.len() < LINE {
         return 4;
     }
     if written.len() < 1 {
         return 4;
     }
-    match frame_of(frame[0], frame[1], frame[2], frame[3], frame[4], family) {
-        Read::Line(_, f) => {
-            let line = written_as(f, family);
-            let chars = line.chars;
-            tell(report::put_text(&chars, out), written)
-        }
-        Read::Refused(number, at) => code(number, at),
-    }
+    tell(
+        write_fields::<F>(kind, site, value, file, column, out),
+        written,
+    )
 }
 
 // Writes one line from the five numbers of its frame: 23 characters go to `out`, or refusal 4 or 6.
@@ -203,7 +188,7 @@ pub extern "C" fn nyo_write_line(frame: &[u64], out: &mut [u8], written: &mut [u
     ensures { Tells (write_frame frame.now (length out.old) (length written.old)) result
         out.old out.new written.old written.new }
 {
-    write_as(frame, out, written, Family::Base)
+    write_as::<line::Base>(frame, out, written)
 }
 
 // The same of a trace of asyncs and finishes.
@@ -213,7 +198,7 @@ pub extern "C" fn nyo_finish_write_line(frame: &[u64], out: &mut [u8], written: 
         (write_frame_of Finishes frame.now (length out.old) (length written.old)) result
         out.old out.new written.old written.new }
 {
-    write_as(frame, out, written, Family::Finishes)
+    write_as::<line::Finishes>(frame, out, written)
 }
 
 // Writes the report of `count` sites from their rows, row 0 and those with calls above zero: its text goes to `out`, or
@@ -277,16 +262,23 @@ pub extern "C" fn nyo_refusal(number: u64, line: u64, out: &mut [u8], written: &
 }
 
 // Hands an engine's answer over: its four numbers go to `answer`, or a refusal's code is given.
-fn hand_over(found: Answer, answer: &mut [u64]) -> u64
-    requires { (line_in found ≤ 65536) × (4 ≤ length answer.old) }
+fn hand_over(found: Result<Profile, Refusal>, answer: &mut [u64]) -> u64
+    requires { (line_of found ≤ 65536) × (4 ≤ length answer.old) }
     ensures { Gives (numbered found) result answer.old answer.new }
 {
     match found {
-        Answer::Accepted(work, span, sites, lines) => {
+        Ok(
+            Profile {
+                work,
+                span,
+                sites,
+                lines,
+            },
+        ) => {
             put(&[work, span, sites as u64, lines as u64], answer);
             0
         }
-        Answer::Refused(number, line) => code(number, line),
+        Err(refusal) => code(refusal),
     }
 }
 
@@ -294,50 +286,29 @@ fn hand_over(found: Answer, answer: &mut [u64]) -> u64
 fn refuse_room(bytes: usize, depth: usize, sites: usize) -> u64
     ensures { result ≡ unroomy bytes depth sites }
 {
-    let first = admit::opening(bytes, depth, sites);
-    if first != 0 {
-        return first as u64;
-    }
-    4
-}
-
-// A family's table engine.
-fn by_tables(
-    trace: &[u8],
-    depth: usize,
-    sites: usize,
-    scratch: &mut [u64],
-    rows: &mut [u64],
-    family: Family,
-) -> Answer
-    ensures { PromiseOf family Engine.tables trace.now depth sites
-        (record { scratch = scratch.old; rows = rows.old; marks = [] }) result
-        (record { scratch = scratch.new; rows = rows.new; marks = [] }) }
-{
-    match family {
-        Family::Base => tables::profile(trace, depth, sites, scratch, rows),
-        Family::Finishes => tables::finish_profile(trace, depth, sites, scratch, rows),
+    match admit::opening(bytes, depth, sites) {
+        Ok(()) => 4,
+        Err(refusal) => refusal.number as u64,
     }
 }
 
 // Profiles a family's trace with the table engine: the rows go to `rows`, work, span, sites and lines to `answer`.
-fn tables_as(
+fn tables_as<F: tables::Reader>(
     trace: &[u8],
     depth: u64,
     sites: u64,
     scratch: &mut [u64],
     rows: &mut [u64],
     answer: &mut [u64],
-    family: Family,
 ) -> u64
-    ensures { ProfilesOf family Engine.tables trace.now depth sites
+    ensures { ProfilesOf F.family Engine.tables trace.now depth sites
         (record { scratch = scratch.old; rows = rows.old; marks = [] }) answer.old result
         (record { scratch = scratch.new; rows = rows.new; marks = [] }) answer.new }
 {
     if answer.len() < 4 {
         return refuse_room(trace.len(), depth as usize, sites as usize);
     }
-    let found = by_tables(trace, depth as usize, sites as usize, scratch, rows, family);
+    let found = tables::profile::<F>(trace, depth as usize, sites as usize, scratch, rows);
     hand_over(found, answer)
 }
 
@@ -355,7 +326,7 @@ pub extern "C" fn nyo_tables(
         (record { scratch = scratch.old; rows = rows.old; marks = [] }) answer.old result
         (record { scratch = scratch.new; rows = rows.new; marks = [] }) answer.new }
 {
-    tables_as(trace, depth, sites, scratch, rows, answer, Family::Base)
+    tables_as::<line::Base>(trace, depth, sites, scratch, rows, answer)
 }
 
 // The same of a trace of asyncs and finishes.
@@ -372,31 +343,11 @@ pub extern "C" fn nyo_finish_tables(
         (record { scratch = scratch.old; rows = rows.old; marks = [] }) answer.old result
         (record { scratch = scratch.new; rows = rows.new; marks = [] }) answer.new }
 {
-    tables_as(trace, depth, sites, scratch, rows, answer, Family::Finishes)
-}
-
-// A family's marks engine.
-fn by_marks(
-    trace: &[u8],
-    depth: usize,
-    sites: usize,
-    scratch: &mut [u64],
-    marks: &mut [u8],
-    rows: &mut [u64],
-    family: Family,
-) -> Answer
-    ensures { PromiseOf family Engine.marks trace.now depth sites
-        (record { scratch = scratch.old; rows = rows.old; marks = marks.old }) result
-        (record { scratch = scratch.new; rows = rows.new; marks = marks.new }) }
-{
-    match family {
-        Family::Base => marks::profile(trace, depth, sites, scratch, marks, rows),
-        Family::Finishes => marks::finish_profile(trace, depth, sites, scratch, marks, rows),
-    }
+    tables_as::<line::Finishes>(trace, depth, sites, scratch, rows, answer)
 }
 
 // Profiles a family's trace with the marks engine: besides, the marks of the chosen chain go to `marks`.
-fn marks_as(
+fn marks_as<F: marks::Reader>(
     trace: &[u8],
     depth: u64,
     sites: u64,
@@ -404,9 +355,8 @@ fn marks_as(
     marks: &mut [u8],
     rows: &mut [u64],
     answer: &mut [u64],
-    family: Family,
 ) -> u64
-    ensures { ProfilesOf family Engine.marks trace.now depth sites
+    ensures { ProfilesOf F.family Engine.marks trace.now depth sites
         (record { scratch = scratch.old; rows = rows.old; marks = marks.old })
         answer.old result
         (record { scratch = scratch.new; rows = rows.new; marks = marks.new })
@@ -415,15 +365,7 @@ fn marks_as(
     if answer.len() < 4 {
         return refuse_room(trace.len(), depth as usize, sites as usize);
     }
-    let found = by_marks(
-        trace,
-        depth as usize,
-        sites as usize,
-        scratch,
-        marks,
-        rows,
-        family,
-    );
+    let found = marks::profile::<F>(trace, depth as usize, sites as usize, scratch, marks, rows);
     hand_over(found, answer)
 }
 
@@ -444,16 +386,7 @@ pub extern "C" fn nyo_marks(
         (record { scratch = scratch.new; rows = rows.new; marks = marks.new })
         answer.new }
 {
-    marks_as(
-        trace,
-        depth,
-        sites,
-        scratch,
-        marks,
-        rows,
-        answer,
-        Family::Base,
-    )
+    marks_as::<line::Base>(trace, depth, sites, scratch, marks, rows, answer)
 }
 
 // The same of a trace of asyncs and finishes.
@@ -473,69 +406,7 @@ pub extern "C" fn nyo_finish_marks(
         (record { scratch = scratch.new; rows = rows.new; marks = marks.new })
         answer.new }
 {
-    marks_as(
-        trace,
-        depth,
-        sites,
-        scratch,
-        marks,
-        rows,
-        answer,
-        Family::Finishes,
-    )
-}
-
-// The table engine's forecast by a list of entries: the rows go to `rows`, work, span, sites and lines to `answer`.
-fn forecast_tables(
-    trace: &[u8],
-    depth: u64,
-    sites: u64,
-    list: Listed,
-    scratch: &mut [u64],
-    rows: &mut [u64],
-    answer: &mut [u64],
-) -> u64
-    ensures { ForecastsOf Engine.tables list trace.now depth sites
-        (record { scratch = scratch.old; rows = rows.old; marks = [] }) answer.old result
-        (record { scratch = scratch.new; rows = rows.new; marks = [] }) answer.new }
-{
-    if answer.len() < 4 {
-        return refuse_room(trace.len(), depth as usize, sites as usize);
-    }
-    let found = tables::forecast(trace, depth as usize, sites as usize, list, scratch, rows);
-    hand_over(found, answer)
-}
-
-// The marks engine's forecast by a list of entries: besides, the marks of the chosen chain go to `marks`.
-fn forecast_marks(
-    trace: &[u8],
-    depth: u64,
-    sites: u64,
-    list: Listed,
-    scratch: &mut [u64],
-    marks: &mut [u8],
-    rows: &mut [u64],
-    answer: &mut [u64],
-) -> u64
-    ensures { ForecastsOf Engine.marks list trace.now depth sites
-        (record { scratch = scratch.old; rows = rows.old; marks = marks.old })
-        answer.old result
-        (record { scratch = scratch.new; rows = rows.new; marks = marks.new })
-        answer.new }
-{
-    if answer.len() < 4 {
-        return refuse_room(trace.len(), depth as usize, sites as usize);
-    }
-    let found = marks::forecast(
-        trace,
-        depth as usize,
-        sites as usize,
-        list,
-        scratch,
-        marks,
-        rows,
-    );
-    hand_over(found, answer)
+    marks_as::<line::Finishes>(trace, depth, sites, scratch, marks, rows, answer)
 }
 
 // Profiles a trace whose costs are divided by the factors of their rows, with the table engine: as `nyo_tables`, or
@@ -554,8 +425,18 @@ pub extern "C" fn nyo_forecast_tables(
         (record { scratch = scratch.old; rows = rows.old; marks = [] }) answer.old result
         (record { scratch = scratch.new; rows = rows.new; marks = [] }) answer.new }
 {
-    let list = forecast::taken(entries);
-    forecast_tables(trace, depth, sites, list, scratch, rows, answer)
+    if answer.len() < 4 {
+        return refuse_room(trace.len(), depth as usize, sites as usize);
+    }
+    let found = tables::forecast(
+        trace,
+        depth as usize,
+        sites as usize,
+        entries,
+        scratch,
+        rows,
+    );
+    hand_over(found, answer)
 }
 
 // The same with the marks engine: as `nyo_marks`, or refusal 19 or 20.
@@ -576,8 +457,19 @@ pub extern "C" fn nyo_forecast_marks(
         (record { scratch = scratch.new; rows = rows.new; marks = marks.new })
         answer.new }
 {
-    let list = forecast::taken(entries);
-    forecast_marks(trace, depth, sites, list, scratch, marks, rows, answer)
+    if answer.len() < 4 {
+        return refuse_room(trace.len(), depth as usize, sites as usize);
+    }
+    let found = marks::forecast(
+        trace,
+        depth as usize,
+        sites as usize,
+        entries,
+        scratch,
+        marks,
+        rows,
+    );
+    hand_over(found, answer)
 }
 
 // Writes the rows of `count` sites as comma-separated text: it goes to `out`, or refusal 1, 4 or 16.
@@ -601,20 +493,6 @@ pub extern "C" fn nyo_csv_write(
     tell(sheetout::write_sheet(rows, count as usize, out), written)
 }
 
-// What the reader of comma-separated text answered, in one number; the site count goes to `count`.
-fn tell_sites(found: Counted, count: &mut [u64]) -> u64
-    requires { (record_in found ≤ 65536) × (1 ≤ length count.old) }
-    ensures { (result ≡ told_sites found) × (count.new ≡ noted_sites found count.old) }
-{
-    match found {
-        Counted::Sites(n) => {
-            count[0] = n as u64;
-            0
-        }
-        Counted::Refused(number, at) => code(number, at),
-    }
-}
-
 // Reads comma-separated text: its rows go to `rows` and how many sites they are to `count`, or refusal 4, 15 or 16.
 #[unsafe(no_mangle)]
 pub extern "C" fn nyo_csv_read(text: &[u8], rows: &mut [u64], count: &mut [u64]) -> u64
@@ -624,7 +502,7 @@ pub extern "C" fn nyo_csv_read(text: &[u8], rows: &mut [u64], count: &mut [u64])
     if count.len() < 1 {
         return 4;
     }
-    tell_sites(sheetin::read_sheet(text, rows), count)
+    tell(sheetin::read_sheet(text, rows), count)
 }
 
 // Writes the folded stacks of a trace, with the names of two lists: the text goes to `out`, or a refusal of the
@@ -649,15 +527,8 @@ pub extern "C" fn nyo_folded<'a>(
     if written.len() < 1 {
         return refuse_room(trace.len(), depth as usize, sites as usize);
     }
-    let wrote = folded::write_folded(
-        trace,
-        depth as usize,
-        sites as usize,
-        project,
-        stock,
-        scratch,
-        out,
-    );
+    let lists = Lists { project, stock };
+    let wrote = folded::write_folded(trace, depth as usize, sites as usize, lists, scratch, out);
     tell(wrote, written)
 }
 
@@ -693,17 +564,17 @@ fn numbers_of(why: Why) -> [u64; 2]
 }
 
 // Hands an answer to why over: its two numbers go to `answer`, or a refusal's code is given.
-fn hand_why(found: why::Answer, answer: &mut [u64]) -> u64
-    requires { (line_asked found ≤ 4294967295) × (2 ≤ length answer.old) }
+fn hand_why(found: Result<Why, Refusal>, answer: &mut [u64]) -> u64
+    requires { (line_of found ≤ 4294967295) × (2 ≤ length answer.old) }
     ensures { Gives (why_numbered found) result answer.old answer.new }
 {
     match found {
-        why::Answer::Given(why) => {
+        Ok(why) => {
             let numbers = numbers_of(why);
             put(&numbers, answer);
             0
         }
-        why::Answer::Refused(number, line) => code(number, line),
+        Err(refusal) => code(refusal),
     }
 }
 

@@ -8,10 +8,6 @@ ghost use Rattle.report.specs.Rows.{width};
 ghost use Rattle.report.specs.Report.{full_text};
 ghost use Rattle.report.specs.Refusal.{refusal_text};
 ghost use Rattle.program.specs.Print.{Put, Printed};
-ghost use Rattle.program.specs.Inside.{chars_of};
-
-use line::Wrote;
-use trace::Answer;
 
 // "with D = 32, M = 31"
 const DEPTH: usize = 32;
@@ -24,31 +20,21 @@ const MOST: usize = 65527;
 // The longest text: a line for the root's row and for each site's.
 pub const ROOM: usize = report::WIDTH * (SITES + 1);
 
-// How many characters a writer wrote.
-fn written(answer: Wrote) -> usize
-    ensures { result ≡ chars_of answer }
-{
-    match answer {
-        Wrote::Chars(n) => n,
-        Wrote::Refused(_, _) => 0,
-    }
-}
-
-// Prints a refusal.
+// Prints a refusal. The room is never too short.
 fn print_refusal(number: u8, line: usize, out: &mut [u8]) -> usize
     requires { (line ≤ 65536) × (13 ≤ length out.old) }
     ensures { Put (refusal_text number line) result out.old out.new }
 {
-    written(report::write_refusal(number as u64, line as u64, out))
+    report::write_refusal(number as u64, line as u64, out).unwrap()
 }
 
-// Prints the report of count sites.
+// Prints the report of count sites. The room is never too short.
 fn print_report(rows: &[u64], count: usize, out: &mut [u8]) -> usize
     requires { (count ≤ 31)
         × ((columns * (count + 1) ≤ length rows.now) × (width * (count + 1) ≤ length out.old)) }
     ensures { Put (full_text rows.now count) result out.old out.new }
 {
-    written(report::write_full_report(rows, count, out))
+    report::write_full_report(rows, count, out).unwrap()
 }
 
 // Prints what comes of an input to the front of the output, and answers how many characters that is.
@@ -60,8 +46,8 @@ pub fn print(input: &[u8], out: &mut [u8; ROOM]) -> usize
     }
     let mut scratch = [0u64; trace::SCRATCH * DEPTH * (SITES + 3)];
     let mut rows = [0u64; trace::COLUMNS * (SITES + 1)];
-    match tables::profile(input, DEPTH, SITES, &mut scratch, &mut rows) {
-        Answer::Accepted(_, _, count, _) => print_report(&rows, count, out),
-        Answer::Refused(number, line) => print_refusal(number, line, out),
+    match tables::profile::<line::Base>(input, DEPTH, SITES, &mut scratch, &mut rows) {
+        Ok(profile) => print_report(&rows, profile.sites, out),
+        Err(refusal) => print_refusal(refusal.number, refusal.line, out),
     }
 }

@@ -5,7 +5,7 @@ use mathlib.Core.Bool.{Bool, true, false, cond, ◌||◌}
 use mathlib.Core.List.{List, [], ◌∷◌, ◌++◌, flat_map}
 use mathlib.Core.Path.{◌≡◌, refl, ap, ◌∙◌, sym}
 use native.Mathlib.Omega.{arith}
-use borrow.Author.Tests.{ltb-false, eq-eqb, ne_eqb}
+use borrow.Author.Tests.{ltb-false, ne_eqb}
 use borrow.Rule.Slice.PartMut.{put_mid}
 use lib.Dec.{ltb}
 use lib.ListN.{length, get_or, length-append}
@@ -93,19 +93,12 @@ module _ (rows : List ℕ) (count room : ℕ) where
       ∙ ap (λ (s : List ℕ). reporting rows count (width * (count + 1)) s room) (pieces_are true rows (first (count + 1)) ∙ ap (lines_of rows) all-printed)
 
 -- when a row is printed: row 0 always, another where it has calls or where idle rows are asked for
-pub root-asked : (idle : Bool) (rows : List ℕ) (r : ℕ) → r ≡ 0 → true ≡ asked idle rows r
-root-asked true rows r e = refl
-root-asked false rows r e = rw (eq-eqb r 0 e)
-
 pub calls-asked : (idle : Bool) (rows : List ℕ) (r : ℕ) → idle ≡ false → (r ≡ 0 → ⊥) → ltb 0 (get_or rows (slot r Column.calls) 0) ≡ asked idle rows r
 calls-asked idle rows r e f = rw (e, ne_eqb r 0 f)
 
 -- the characters of one row more, as they are counted
 pub line-counted : (idle : Bool) (rows : List ℕ) (r : ℕ) → columns * (r + 1) ≤ length rows → true ≡ asked idle rows r → width ≡ length (piece idle rows r)
 line-counted idle rows r h e = sym (piece-length idle rows r h ∙ ap (λ (b : Bool). cond b width 0) (sym e))
-
-pub none-counted : (idle : Bool) (rows : List ℕ) (r : ℕ) → false ≡ asked idle rows r → 0 ≡ length (piece idle rows r)
-none-counted idle rows r e = ap (λ (b : Bool). length (cond b (row_line rows r) [])) e
 
 -- a row that is not printed leaves the output as it was; the line of one that is printed is laid into it
 pub lays_none : (idle : Bool) (rows : List ℕ) (r at : ℕ) (out : List ℕ) → false ≡ asked idle rows r → Lays at (piece idle rows r) out at out

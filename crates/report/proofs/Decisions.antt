@@ -4,22 +4,22 @@ use mathlib.Core.List.{List, ◌++◌}
 use mathlib.Core.Path.{◌≡◌, ap, ◌∙◌, sym}
 use borrow.Author.Tests.{lt-ltb, le-ltb}
 use lib.ListN.{length, drop}
-use Rattle.line.specs.declared.Wrote.{Wrote}
-use Rattle.line.specs.declared.Wrote.TheVariants.{Chars, Refused}
-use Rattle.report.specs.Room.{Decision, write, refuse, fitting, answer, leave, Writes}
+use Rattle.std.specs.Prelude.{Ok, Err}
+use Rattle.line.specs.Refusal.{refusal}
+use Rattle.report.specs.Room.{Decision, write, refuse, fitting, answer, leave, Writes, Wrote}
 use Rattle.trace.specs.Rows.{columns}
 use Rattle.report.specs.Report.{reporting}
 use Rattle.report.specs.Refusal.{refusal_text, print_refusal}
 
 -- a refusal that is given, with the room as it was
-pub refused : {d : Decision} (number line : ℕ) (room : List ℕ) → d ≡ refuse number line → Writes d (Refused number line) room room
+pub refused : {d : Decision} (number line : ℕ) (room : List ℕ) → d ≡ refuse number line → Writes d (Err (refusal number line)) room room
 refused number line room e = record { answered = sym (ap answer e); left = sym (ap (λ (d : Decision). leave d room) e) }
 
 -- a text of n characters that is written
-pub written : {d : Decision} (s before after : List ℕ) (n : ℕ) → d ≡ write s → length s ≡ n → after ≡ s ++ drop n before → Writes d (Chars n) before after
+pub written : {d : Decision} (s before after : List ℕ) (n : ℕ) → d ≡ write s → length s ≡ n → after ≡ s ++ drop n before → Writes d (Ok n) before after
 written s before after n e l f =
     record {
-      answered = ap Chars (sym l) ∙ sym (ap answer e);
+      answered = ap Ok (sym l) ∙ sym (ap answer e);
       left = f ∙ ap (λ (k : ℕ). s ++ drop k before) (sym l) ∙ sym (ap (λ (d : Decision). leave d before) e);
     }
 

@@ -3,12 +3,13 @@
 use Prim.Native.Nat.{ℕ, ◌+◌, ◌-◌, ◌≤◌, ◌<◌}
 use mathlib.Core.List.{List, [], ◌∷◌, ◌++◌, append_assoc}
 use mathlib.Core.Path.{◌≡◌, refl, ap, ◌∙◌, sym, subst}
-use native.Mathlib.Nat.{add-sub_cancel_left, add_assoc, add-zero, zero-add}
+use native.Mathlib.Nat.{add-sub_cancel_left, add_assoc, add-zero, zero-add, sub-zero}
 use native.Mathlib.Numerals.{add-one}
 use native.Mathlib.Omega.{arith}
 use borrow.Rule.Slice.PartMut.{put_mid, mid_of, mid_len}
-use lib.ListN.{length, take, drop, get_or, set, length-append, length-drop, take-append-drop, get_or-append}
-use lib.Seq.{length-take-le, take_at, take-suc, drop_at, drop-drop, get_or-drop, set_split}
+use lib.ListN.{length, take, drop, set, length-append, length-drop, take-append-drop}
+use Rattle.std.proofs.lemmas.List.{drop-take}
+use lib.Seq.{length-take-le, take-take, take_at, drop_at, drop-drop, set_split}
 use Rattle.digits.specs.Decimal.{size_of, figures, decimal}
 use Rattle.digits.proofs.Figures.{decimal-length}
 use Rattle.report.specs.Room.{laid, Lays}
@@ -49,14 +50,6 @@ module _ (at : ℕ) (room : List ℕ) where
     laid-part e h =
         ap (λ (k : ℕ). take at room ++ (piece ++ drop k (drop at room))) (ap (λ (n : ℕ). n - at) h ∙ add-sub_cancel_left at (length piece))
         ∙ ap (λ (l : List ℕ). take at room ++ (piece ++ l)) (drop-drop (length piece) at room)
-
-    -- what stands before it is as it was
-    pub laid-before : (i : ℕ) → i < at → get_or (laid at piece room) i 0 ≡ get_or room i 0
-    unfolding laid
-    laid-before i h =
-        get_or-append (take at room) (piece ++ drop (at + length piece) room) 0 i (omega (arith, length-take-le at room (omega arith)))
-        ∙ sym (get_or-append (take at room) (drop at room) 0 i (omega (arith, length-take-le at room (omega arith))))
-        ∙ ap (λ (l : List ℕ). get_or l i 0) (take-append-drop at room)
 
   -- it stands there, whatever is laid behind it as one with it
   pub laid-there : (piece more : List ℕ) → at ≤ length room → take (length piece) (drop at (laid at (piece ++ more) room)) ≡ piece
@@ -100,23 +93,28 @@ lays_one at c before h = record { ends = refl; left = laid_one at before c h }
 pub lays_as : (at : ℕ) {a b before : List ℕ} {e : ℕ} {after : List ℕ} → a ≡ b → Lays at a before e after → Lays at b before e after
 lays_as at {before = before} {e = e} {after = after} h x = subst (λ (p : List ℕ). Lays at p before e after) h x
 
--- one character more of what stands at an earlier place
-pub lays_again : (at from i : ℕ) (before : List ℕ) {middle : List ℕ} → from + i < at → at + i < length before → length middle ≡ length before
-    → Lays at (take i (drop from before)) before (at + i) middle
-    → Lays at (take (i + 1) (drop from before)) before (at + (i + 1)) (set middle (at + i) (get_or middle (from + i) 0))
-lays_again at from i before {middle} h l same x =
-    let piece = take i (drop from before) in
-    let long : length piece ≡ i = length-take-le i (drop from before) (omega (arith, length-drop from before)) in
-    let seen : get_or middle (from + i) 0 ≡ get_or before (from + i) 0 = ap (λ (m : List ℕ). get_or m (from + i) 0) x.left ∙ laid-before at before piece (omega arith) (from + i) h in
-    let more : piece ++ get_or middle (from + i) 0 ∷ [] ≡ take (i + 1) (drop from before) =
-    ap (λ (y : ℕ). piece ++ y ∷ []) (seen ∙ sym (get_or-drop from before i 0))
-    ∙ sym (take-suc (drop from before) i 0 (omega (arith, length-drop from before)))
-    ∙ ap (λ (n : ℕ). take n (drop from before)) (sym (add-one i)) in
-    let next = lays_next at piece (get_or middle (from + i) 0 ∷ []) before (omega arith) x (lays_one (at + i) (get_or middle (from + i) 0) middle (omega arith)) in
-    lays_ends (add_assoc at i 1) (lays_as at more next)
+-- what stands at an earlier place, once more: the room parted at the place, and its back filled from its front
+pub lays_again : (at from n : ℕ) (room : List ℕ) → from + n ≤ at → at + n ≤ length room → {front back piece : List ℕ}
+    → front ≡ take at room → back ≡ drop at room → piece ≡ take (from + n - from) (drop from front)
+    → Lays at (take n (drop from room)) room (at + n) (front ++ (piece ++ drop (n - 0) back))
+unfolding laid
+lays_again at from n room h l {front} {back} {piece} e f g =
+    record {
+      ends = ap (λ (k : ℕ). at + k) (sym long);
+      left = cc (e, f, same, sub-zero n, drop-drop n at room, ap (λ (k : ℕ). drop (at + k) room) long);
+    }
   where
-    lays_ends : {piece after : List ℕ} {e f : ℕ} → e ≡ f → Lays at piece before e after → Lays at piece before f after
-    lays_ends {piece} {after} z y = subst (λ (k : ℕ). Lays at piece before k after) z y
+    long : length (take n (drop from room)) ≡ n
+    long = length-take-le n (drop from room) (omega (arith, length-drop from room))
+
+    same : piece ≡ take n (drop from room)
+    same =
+        g
+        ∙ ap (λ (k : ℕ). take k (drop from front)) (add-sub_cancel_left from n)
+        ∙ ap (λ (s : List ℕ). take n (drop from s)) e
+        ∙ ap (λ (k : ℕ). take n (drop from (take k room))) (let m : at ≡ from + (at - from) = omega arith in m)
+        ∙ ap (take n) (drop-take from (at - from) room)
+        ∙ take-take n (at - from) (drop from room) (omega arith)
 
 -- a part of as many characters as x has figures, filled with its last figures, is the number laid there
 pub decimal-laid : (x at n : ℕ) (out piece : List ℕ) → at + length (decimal x) ≤ length out → n ≡ size_of x → piece ≡ figures (length (mid_of at (at + n - at) out)) x

@@ -1,8 +1,12 @@
 -- What every writer of text into lent room answers and leaves there, once it is decided what it writes; and a piece
 -- of text that is laid into room at a place.
-use Rattle.std.specs.Prelude.{ℕ, ◌+◌, cond, List, ◌++◌, ◌≡◌, ltb, length, take, drop}
-use Rattle.line.specs.declared.Wrote.{Wrote}
-use Rattle.line.specs.declared.Wrote.TheVariants.{Chars, Refused}
+use Rattle.std.specs.Prelude.{ℕ, ◌+◌, cond, List, ◌++◌, ◌≡◌, ltb, length, take, drop, Ok, Err, Result}
+use Rattle.line.specs.declared.Refusal.{Refusal}
+use Rattle.line.specs.Refusal.{refusal}
+
+-- "The writer answers how many characters it wrote"; "Refused: a number and a line."
+abbrev pub Wrote : Type 0
+Wrote = Result ℕ Refusal
 
 -- a text to write, or a refusal: a number and a line
 pub data Decision : Type 0 where
@@ -13,10 +17,10 @@ pub data Decision : Type 0 where
 abbrev pub fitting : ℕ → List ℕ → ℕ → Decision
 fitting number s room = cond (ltb room (length s)) (refuse number 0) (write s)
 
--- "The writer answers how many characters it wrote"; "Refused: a number and a line."
+-- what each is answered with
 abbrev pub answer : Decision → Wrote
-answer (write s) = Chars (length s)
-answer (refuse number line) = Refused number line
+answer (write s) = Ok (length s)
+answer (refuse number line) = Err (refusal number line)
 
 -- "output beyond them is unchanged"; refused, "nothing changes"
 abbrev pub leave : Decision → List ℕ → List ℕ

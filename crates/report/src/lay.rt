@@ -29,11 +29,8 @@ pub fn again(out: &mut [u8], at: usize, from: usize, n: usize) -> usize
     requires { (from + n ≤ at) × (at + n ≤ length out.old) }
     ensures { Lays at (take n (drop from out.old)) out.old result out.new }
 {
-    let mut i = 0;
-    while i < n {
-        out[at + i] = out[from + i];
-        i += 1;
-    }
+    let (before, room) = out.split_at_mut(at);
+    copy(&mut room[0..n], &before[from..from + n]);
     at + n
 }
 

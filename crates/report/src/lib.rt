@@ -14,14 +14,14 @@ ghost use Rattle.report.specs.Report.{report, full_report};
 ghost use Rattle.report.specs.Pieces.{asked, piece, pieces, decided};
 ghost use Rattle.report.specs.Refusal.{refusal_text, print_refusal};
 
-use line::Wrote;
+use line::Refusal;
 use trace::{CALLS, COLUMNS};
 
 // A row's line: 4 digits, 16 for each number, and a line feed. "A report line, and the room for one, is 117 characters
 // in both reports".
 pub const WIDTH: usize = 4 + 16 * COLUMNS + 1;
 
-// A row's line, which is built whole before it goes out.
+// A row's line, which is built whole before it goes out: the form that the rules name.
 #[derive(Clone, Copy)]
 pub struct ReportLine {
     pub row: u16,
@@ -33,10 +33,8 @@ fn put_numbers(part: &mut [u8], numbers: &[u64])
     requires { length part.old ≡ 16 * length numbers.now }
     ensures { part.new ≡ flat_map (digits 16) numbers.now }
 {
-    let mut k = 0;
-    while k < numbers.len() {
-        digits::write::put_digits(&mut part[16 * k..16 * k + 16], numbers[k]);
-        k += 1;
+    for (k, x) in numbers.iter().enumerate() {
+        digits::write::put_digits(&mut part[16 * k..16 * k + 16], *x);
     }
 }
 
@@ -51,38 +49,28 @@ fn report_line(row: u16, numbers: &[u64]) -> ReportLine
     ReportLine { row, chars }
 }
 
-// Copies all of `from` over `to`, which is as long.
+// Copies all of `from` over `to`, which is as long. A loop, for `copy_from_slice` of a length that is not known asks for
+// `memmove`, and the archive wants `memcpy` and `memset` alone.
 pub(crate) fn copy(to: &mut [u8], from: &[u8])
     requires { length to.old ≡ length from.now }
     ensures { to.new ≡ from.now }
 {
-    let mut i = 0;
-    while i < from.len() {
-        to[i] = from[i];
-        i += 1;
+    for (i, c) in from.iter().enumerate() {
+        to[i] = *c;
     }
 }
 
 // Writes a text to the front of the output, or refuses: 4 for output too short.
-pub fn put_text(text: &[u8], out: &mut [u8]) -> Wrote
+pub fn put_text(text: &[u8], out: &mut [u8]) -> Result<usize, Refusal>
     ensures { Writes (fitting 4 text.now (length out.old)) result out.old
         out.new }
 {
     let n = text.len();
     if out.len() < n {
-        return Wrote::Refused(4, 0);
+        return Err(trace::refused(4));
     }
-    copy(&mut out[0..n], text);
-    Wrote::Chars(n)
-}
-
-// A line goes out to its part of the output. An array in a struct has no known length, so both lengths are asked.
-fn put_line(part: &mut [u8], line: ReportLine)
-    requires { (length part.old ≡ width) × (length line.chars ≡ width) }
-    ensures { part.new ≡ line.chars }
-{
-    let chars = line.chars;
-    copy(part, &chars);
+    out[0..n].copy_from_slice(text);
+    Ok(n)
 }
 
 // Whether a row is printed: row 0, a row with calls, and where idle rows are asked for every row.
@@ -90,13 +78,7 @@ fn is_printed(rows: &[u64], row: usize, idle: bool) -> bool
     requires { columns * (row + 1) ≤ length rows.now }
     ensures { result ≡ asked idle rows.now row }
 {
-    if idle {
-        return true;
-    }
-    if row == 0 {
-        return true;
-    }
-    0 < rows[COLUMNS * row + CALLS]
+    idle || row == 0 || 0 < rows[COLUMNS * row + CALLS]
 }
 
 // How many characters a row takes: those of a line where it is printed.
@@ -105,9 +87,10 @@ fn row_size(rows: &[u64], row: usize, idle: bool) -> usize
     ensures { (result ≡ length (piece idle rows.now row)) × (result ≤ width) }
 {
     if is_printed(rows, row, idle) {
-        return WIDTH;
+        WIDTH
+    } else {
+        0
     }
-    0
 }
 
 // How many characters the first n rows take.
@@ -116,10 +99,8 @@ fn rows_size(rows: &[u64], n: usize, idle: bool) -> usize
     ensures { result ≡ length (pieces idle rows.now n) }
 {
     let mut size = 0;
-    let mut row = 0;
-    while row < n {
+    for row in 0..n {
         size += row_size(rows, row, idle);
-        row += 1;
     }
     size
 }
@@ -135,7 +116,7 @@ fn put_row(rows: &[u64], row: usize, idle: bool, out: &mut [u8], at: usize) -> u
     }
     let line = report_line(row as u16, &rows[COLUMNS * row..COLUMNS * row + COLUMNS]);
     let end = at + WIDTH;
-    put_line(&mut out[at..end], line);
+    out[at..end].copy_from_slice(&line.chars);
     end
 }
 
@@ -147,34 +128,32 @@ fn put_rows(rows: &[u64], n: usize, idle: bool, out: &mut [u8]) -> usize
     ensures { Lays 0 (pieces idle rows.now n) out.old result out.new }
 {
     let mut end = 0;
-    let mut row = 0;
-    while row < n {
+    for row in 0..n {
         end = put_row(rows, row, idle, out, end);
-        row += 1;
     }
     end
 }
 
 // Writes a line for each row that is printed, or refuses: 1 for a count above 255, then 4 for rows or output too short.
-fn write(rows: &[u64], count: usize, idle: bool, out: &mut [u8]) -> Wrote
+fn write(rows: &[u64], count: usize, idle: bool, out: &mut [u8]) -> Result<usize, Refusal>
     ensures { Writes (decided idle rows.now count (length out.old)) result out.old
         out.new }
 {
     if 255 < count {
-        return Wrote::Refused(1, 0);
+        return Err(trace::refused(1));
     }
     let n = count + 1;
     if rows.len() < COLUMNS * n {
-        return Wrote::Refused(4, 0);
+        return Err(trace::refused(4));
     }
     if out.len() < rows_size(rows, n, idle) {
-        return Wrote::Refused(4, 0);
+        return Err(trace::refused(4));
     }
-    Wrote::Chars(put_rows(rows, n, idle, out))
+    Ok(put_rows(rows, n, idle, out))
 }
 
 // The report: a line for row 0 and for each row with calls above zero.
-pub fn write_report(rows: &[u64], count: usize, out: &mut [u8]) -> Wrote
+pub fn write_report(rows: &[u64], count: usize, out: &mut [u8]) -> Result<usize, Refusal>
     ensures { Writes (report rows.now count (length out.old)) result out.old
         out.new }
 {
@@ -182,7 +161,7 @@ pub fn write_report(rows: &[u64], count: usize, out: &mut [u8]) -> Wrote
 }
 
 // The full report: a line for the root's row and for each site's.
-pub fn write_full_report(rows: &[u64], count: usize, out: &mut [u8]) -> Wrote
+pub fn write_full_report(rows: &[u64], count: usize, out: &mut [u8]) -> Result<usize, Refusal>
     ensures { Writes (full_report rows.now count (length out.old)) result out.old
         out.new }
 {
@@ -201,15 +180,15 @@ fn refusal_line(number: u64, line: u64) -> [u8; 13]
 }
 
 // Writes a refusal's line, or refuses: 1 where its number or line has no room in the digits, then 4 for output too short.
-pub fn write_refusal(number: u64, line: u64, out: &mut [u8]) -> Wrote
+pub fn write_refusal(number: u64, line: u64, out: &mut [u8]) -> Result<usize, Refusal>
     ensures { Writes (print_refusal number line (length out.old)) result out.old
         out.new }
 {
     if 255 < number {
-        return Wrote::Refused(1, 0);
+        return Err(trace::refused(1));
     }
     if 4294967295 < line {
-        return Wrote::Refused(1, 0);
+        return Err(trace::refused(1));
     }
     let chars = refusal_line(number, line);
     put_text(&chars, out)

@@ -6,12 +6,12 @@ use mathlib.Core.Path.{◌≡◌, ap, ◌∙◌, sym, subst}
 use native.Mathlib.Omega.{arith}
 use lib.ListN.{length, take, drop}
 use lib.Seq.{take_at, length-take-le}
-use Rattle.line.specs.declared.Wrote.TheVariants.{Chars}
+use Rattle.std.specs.Prelude.{Ok}
 use Rattle.trace.specs.Rows.{columns}
 use Rattle.report.specs.Room.{Decision, write, leave, Writes}
 use Rattle.report.specs.Report.{first}
-use Rattle.sheet.specs.declared.Counted.{Counted}
-use Rattle.sheet.specs.declared.Counted.TheVariants.{Sites}
+use Rattle.std.proofs.Common.{Result, Ok}
+use Rattle.line.specs.declared.Refusal.{Refusal}
 use Rattle.sheet.specs.Text.{line_ends, column_names, row_name, follows, row_records, sheet_records, record_text, sheet_text}
 use Rattle.sheet.specs.Writing.{writing}
 use Rattle.sheet.specs.Grammar.{sheet, sheet_of}
@@ -54,10 +54,10 @@ written_good rows count g = spelled_is_good rows count g (written_spells rows co
 
 -- "Writing and reading gives the rows again": whoever wrote n characters, and read them into room enough, has the
 -- count and the rows, and the room past them as it was
-module _ (rows : List ℕ) (count : ℕ) (small : Small rows) (out out' : List ℕ) (n : ℕ) (room room' : List ℕ) (c : Counted) where
-  pub round_trip : Writes (writing rows count (length out)) (Chars n) out out'
+module _ (rows : List ℕ) (count : ℕ) (small : Small rows) (out out' : List ℕ) (n : ℕ) (room room' : List ℕ) (c : Result ℕ Refusal) where
+  pub round_trip : Writes (writing rows count (length out)) (Ok n) out out'
       → Reads (reading (take n out') (length room)) c room room' → columns * (count + 1) ≤ length room
-      → (c ≡ Sites count) × (room' ≡ take (columns * (count + 1)) rows ++ drop (columns * (count + 1)) room)
+      → (c ≡ Ok count) × (room' ≡ take (columns * (count + 1)) rows ++ drop (columns * (count + 1)) room)
   round_trip w r h = (
     r.answered ∙ ap tell is,
     r.left ∙ ap (λ (t : Taken). fill_in t room) is ∙ ap (λ (k : ℕ). take k' rows ++ drop k room) (length-take-le k' rows a.1),

@@ -1,8 +1,8 @@
 -- What the reader answers and leaves in the room for rows.
-use Rattle.std.specs.Prelude.{ℕ, ◌-◌, ◌*◌, cond, List, ◌++◌, ◌≡◌, ltb, length, drop}
+use Rattle.std.specs.Prelude.{ℕ, ◌-◌, ◌*◌, cond, List, ◌++◌, ◌≡◌, Result, Ok, Err, ltb, length, drop}
 use Rattle.trace.specs.Rows.{columns}
-use Rattle.sheet.specs.declared.Counted.{Counted}
-use Rattle.sheet.specs.declared.Counted.TheVariants.{Sites, Refused}
+use Rattle.line.specs.declared.Refusal.{Refusal}
+use Rattle.line.specs.Refusal.{refusal}
 use Rattle.sheet.specs.Grammar.{Sheet, sheet, bad, sheet_of}
 
 -- a site count and rows to fill in, or a refusal: a number and a record or line
@@ -20,9 +20,9 @@ unfoldable pub reading : List ℕ → ℕ → Taken
 reading s room = taken (sheet_of s) room
 
 -- "Reading answers the site count"
-abbrev pub answer : Taken → Counted
-answer (fill count numbers) = Sites count
-answer (refuse number line) = Refused number line
+abbrev pub answer : Taken → Result ℕ Refusal
+answer (fill count numbers) = Ok count
+answer (refuse number line) = Err (refusal number line)
 
 -- "and leaves the room past the rows unchanged"; refused, "nothing is written"
 abbrev pub leave : Taken → List ℕ → List ℕ
@@ -30,6 +30,6 @@ leave (fill count numbers) room = numbers ++ drop (length numbers) room
 leave (refuse number line) room = room
 
 -- a reader that decided so gave this answer, and made this room of what the room held before
-pub record Reads (t : Taken) (given : Counted) (before after : List ℕ) : Type 0 where
+pub record Reads (t : Taken) (given : Result ℕ Refusal) (before after : List ℕ) : Type 0 where
   pub answered : given ≡ answer t
   pub left : after ≡ leave t before

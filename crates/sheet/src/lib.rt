@@ -5,10 +5,3 @@
 
 // "a header record `row,calls,work,span,local,onspan`"; "Spreadsheets gain `ilocal,ionspan`".
 pub const NAMES: [u8; 47] = *b"row,calls,work,span,local,onspan,ilocal,ionspan";
-
-// What reading gives: the site count, or a refusal's number and its record or line.
-#[derive(Clone, Copy)]
-pub enum Counted {
-    Sites(usize),
-    Refused(u8, usize),
-}

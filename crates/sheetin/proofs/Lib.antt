@@ -1,6 +1,6 @@
-mod Scan
-mod Front
-mod Head
-mod Rows
-mod Stores
-mod Whole
+pub mod Front
+pub mod Head
+pub mod Rows
+pub mod Scan
+pub mod Stores
+pub mod Whole

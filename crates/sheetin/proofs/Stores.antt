@@ -1,176 +1,148 @@
--- Laws of numbers as they are stored: those of a record, and those of all records. Assumes nothing.
-use Prim.Native.Nat.{ℕ, suc, ◌+◌, ◌*◌, ◌-◌, ◌≤◌, ◌<◌}
-use mathlib.Core.List.{List, [], ◌∷◌, ◌++◌, append_assoc, append-nil}
-use mathlib.Core.Path.{◌≡◌, refl, ap, ◌∙◌, sym}
+-- Laws of numbers stored: those of one record, and those of all. Assumes nothing.
+use denote.Ref.{Bor}
+use Rattle.std.proofs.Common.{◌≡◌, ℕ, suc, ◌+◌, ◌-◌, ◌*◌, ◌≤◌, ◌<◌, List, [], ◌∷◌, ◌++◌, Option, Some, None, Ok, IsSome, length, take, drop, set, sym, refl, ap, ◌∙◌, append_assoc, append-nil, add-one, arith, length-append, length-drop, length-set, take-append-drop, take-suc-set, take_all, take_at}
+use lib.Seq.{drop-drop, length-take-le, drop_at}
 use native.Mathlib.Nat.{add-sub_cancel_left}
-use native.Mathlib.Numerals.{add-one}
-use native.Mathlib.Omega.{arith}
 use borrow.Rule.Slice.PartMut.{put_mid}
-use lib.ListN.{length, take, drop, set, length-append, length-drop, length-set, take-append-drop}
-use lib.Seq.{take-suc-set, take_all, drop-drop, take_at, drop_at, length-take-le}
 use Rattle.trace.specs.Rows.{columns}
-use Rattle.sheetin.specs.declared.fields.Past.{Past}
-use Rattle.sheetin.specs.declared.fields.Got.{Got}
-use Rattle.sheet.specs.Found.{found}
-use Rattle.sheet.specs.Grammar.{line_end, numeral, next_numeral, next_numerals, record_of, sheet, records}
-use Rattle.sheetin.specs.Seen.{Passes, Gets, Fills, FillsRecord, FillsRows}
-use Rattle.sheet.proofs.Apart.{First, first_of, none_of, record_of_lem, Split, one_more, no_more_lem}
-use Rattle.sheetin.proofs.Front.{pass_is, get_is}
+use Rattle.sheet.specs.Found.{Found, none, found, then}
+use Rattle.sheet.specs.Grammar.{line_end, next_numeral, also, no_more, next_numerals, record_of, Sheet, sheet, bad, with, records}
+use Rattle.sheetin.specs.Seen.{past, filled, numbers_of, tally, IsSheet, FillsRows}
+use Rattle.sheet.proofs.Apart.{record_of_lem, record_length, Split, one_more, no_more_lem}
+use Rattle.sheetin.proofs.Rows.{also-then, tally-with}
 
--- the first k numbers are stored, and the others still stand in the text
-pub record Rest (s before part : List ℕ) (at k : ℕ) (numbers u : List ℕ) : Type 0 where
-  pub others : List ℕ
-  pub front : take k part ++ others ≡ numbers
-  pub there : next_numerals (length before - k) (drop at s) ≡ found others u
+-- numbers in front of those that are found
+abbrev before : List ℕ → Found (List ℕ) → Found (List ℕ)
+before vs none = none
+before vs (found ws u) = found (vs ++ ws) u
 
-pub record Filling (s before part : List ℕ) (at k : ℕ) : Type 0 where
-  pub long : length part ≡ length before
-  pub within : at ≤ length s
-  pub few : k ≤ length before
-  pub rest : (numbers u : List ℕ) → next_numerals (length before) s ≡ found numbers u → Rest s before part at k numbers u
+before-nothing : (f : Found (List ℕ)) → before [] f ≡ f
+before-nothing none = refl
+before-nothing (found ws u) = refl
 
-pub filling_none : (s before : List ℕ) → Filling s before before 0 0
-filling_none s before =
-    record {
-      long = refl;
-      within = omega arith;
-      few = omega arith;
-      rest = λ numbers u e. record { others = numbers; front = refl; there = ap (λ (n : ℕ). next_numerals n s) (omega_zero (length before)) ∙ e };
-    }
-  where
-    omega_zero : (n : ℕ) → n - 0 ≡ n
-    omega_zero n = omega arith
+before-also : (vs : List ℕ) (v : ℕ) (f : Found (List ℕ)) → before (vs ++ v ∷ []) f ≡ before vs (also v f)
+before-also vs v none = refl
+before-also vs v (found ws u) = ap (λ (l : List ℕ). found l u) (append_assoc vs (v ∷ []) ws)
 
-module _ (s before part : List ℕ) (at k : ℕ) (r : Filling s before part at k) (u : List ℕ) (e : u ≡ drop at s) where
-  pub filling_more : k < length part → {g : Got} → Gets u (next_numeral u) g
-      → Filling s before (set part k g.value) (at + g.next) (k + 1)
-  filling_more h {g} t =
-      record {
-        long = length-set part k g.value ∙ r.long;
-        within = omega (arith, r.within, t.within, ap length e, length-drop at s);
-        few = omega (arith, r.long);
-        rest = λ numbers x f. go numbers x (r.rest numbers x f);
-      }
-    where
-      one : length before - k ≡ suc (length before - (k + 1))
-      one = omega (arith, r.long)
+before-end : (vs : List ℕ) (r : Option (Bor (List ℕ))) → filled r vs ≡ before vs (no_more (past r))
+before-end vs None = refl
+before-end vs (Some u) = ap (λ (l : List ℕ). found l u.now) (sym (append-nil vs))
 
-      step : (numbers x : List ℕ) (q : Rest s before part at k numbers x)
-          → First (length before - (k + 1)) (drop at s) q.others x
-          → Rest s before (set part k g.value) (at + g.next) (k + 1) numbers x
-      step numbers x q f =
-          let i = get_is f.value f.behind t (ap next_numeral e ∙ f.here) in
-          record {
-            others = f.others;
-            front =
-                ap (λ (j : ℕ). take j (set part k g.value) ++ f.others) (add-one k)
-                ∙ ap (λ (l : List ℕ). l ++ f.others) (take-suc-set part k g.value h)
-                ∙ append_assoc (take k part) (g.value ∷ []) f.others
-                ∙ ap (λ (v : ℕ). take k part ++ (v ∷ f.others)) i.0
-                ∙ ap (λ (l : List ℕ). take k part ++ l) (sym f.all)
-                ∙ q.front;
-            there =
-                ap (next_numerals (length before - (k + 1)))
-                (sym (drop-drop g.next at s) ∙ ap (drop g.next) (sym e) ∙ i.1)
-                ∙ f.there;
-          }
+pub not-filled : (q : Option (Bor (List ℕ))) (vs : List ℕ) {f : Found (List ℕ)} → q ≡ None → none ≡ f → filled q vs ≡ f
+not-filled q vs e g = ap (λ (r : Option (Bor (List ℕ))). filled r vs) e ∙ g
 
-      go : (numbers x : List ℕ) → Rest s before part at k numbers x
-          → Rest s before (set part k g.value) (at + g.next) (k + 1) numbers x
-      go numbers x q =
-          step numbers x q
-          (first_of (length before - (k + 1)) (drop at s) q.others x
-          (ap (λ (n : ℕ). next_numerals n (drop at s)) (sym one) ∙ q.there))
+-- the first k numbers are stored, and the others stand in the text w
+pub record Filling (s w start part : List ℕ) (k : ℕ) : Type 0 where
+  long : length part ≡ length start
+  rest : before (take k part) (next_numerals (length start - k) w) ≡ next_numerals (length start) s
 
-  pub filling_end : length part ≤ k → {p : Past} → Passes u (line_end u) p
-      → Fills s (next_numerals (length before) s) (at + p.next) part
-  filling_end h {p} t =
-      record {
-        holds = λ numbers x f. go numbers x (r.rest numbers x f);
-        within = omega (arith, r.within, t.within, ap length e, length-drop at s);
-      }
-    where
-      zero_left : length before - k ≡ 0
-      zero_left = omega (arith, r.long)
+pub filling_none : (s start : List ℕ) → Filling s s start start 0
+filling_none s start =
+    let all : length start - 0 ≡ length start = omega arith in
+    record { long = refl; rest = before-nothing (next_numerals (length start - 0) s) ∙ ap (λ (n : ℕ). next_numerals n s) all }
 
-      go : (numbers x : List ℕ) → Rest s before part at k numbers x → (part ≡ numbers) × (drop (at + p.next) s ≡ x)
-      go numbers x q =
-          let f = none_of (drop at s) q.others x (ap (λ (n : ℕ). next_numerals n (drop at s)) (sym zero_left) ∙ q.there) in (
-            sym (append-nil part) ∙ ap (λ (l : List ℕ). l ++ []) (sym (take_all k part h)) ∙ ap (λ (l : List ℕ). take k part ++ l) (sym f.0) ∙ q.front,
-            sym (drop-drop p.next at s) ∙ ap (drop p.next) (sym e) ∙ pass_is x t (ap line_end e ∙ f.1),
-          )
+module _ (s w start part : List ℕ) (k : ℕ) (r : Filling s w start part k) where
+  module _ (h : k < length part) where
+    step : before (take k part) (also-then (length start - (k + 1)) (next_numeral w)) ≡ next_numerals (length start) s
+    step =
+        let one : suc (length start - (k + 1)) ≡ length start - k = omega (arith, r.long) in
+        ap (λ (n : ℕ). before (take k part) (next_numerals n w)) one ∙ r.rest
 
--- a record's numbers stored behind its first field
-pub fills_record : (s u after : List ℕ) (n k : ℕ) {g : Got} → n ≡ columns → Gets s (numeral s) g → u ≡ drop g.next s
-    → Fills u (next_numerals n u) k after → FillsRecord s (g.next + k) after
-fills_record s u after n k {g} c t e f =
-    record {
-      any = λ row.
-          record {
-            holds = λ numbers x h. go (record_of_lem row s numbers x h);
-            within = omega (arith, t.within, f.within, ap length e, length-drop g.next s);
-          };
-    }
-  where
-    go : {row : ℕ} {numbers x : List ℕ}
-        → (y : List ℕ) × (numeral s ≡ found row y) × (next_numerals columns y ≡ found numbers x)
-        → (after ≡ numbers) × (drop (g.next + k) s ≡ x)
-    go {row} {numbers} {x} (y, h, j) =
-        let i = (get_is row y t h).1 in
-        let q = f.holds numbers x (ap (λ (m : ℕ). next_numerals m u) c ∙ ap (next_numerals columns) (e ∙ i) ∙ j) in
-        (q.0, sym (drop-drop k g.next s) ∙ ap (drop k) (sym e) ∙ q.1)
+    pub filling_no : none ≡ next_numeral w → none ≡ next_numerals (length start) s
+    filling_no f = ap (λ (y : Found ℕ). before (take k part) (also-then (length start - (k + 1)) y)) f ∙ step
 
--- the rows so far are stored, and the others still stand in the text
-pub record Left (s room : List ℕ) (at row n : ℕ) (numbers : List ℕ) : Type 0 where
-  pub others : List ℕ
-  pub front : take (columns * row) room ++ others ≡ numbers
-  pub there : records (256 - row) row (drop at s) ≡ sheet n others
+    pub filling_more : (v : ℕ) (u : List ℕ) → found v u ≡ next_numeral w → Filling s u start (set part k v) (k + 1)
+    filling_more v u f =
+        record {
+          long = length-set part k v ∙ r.long;
+          rest =
+              ap (λ (j : ℕ). before (take j (set part k v)) (next_numerals (length start - (k + 1)) u)) (add-one k)
+              ∙ ap (λ (l : List ℕ). before l (next_numerals (length start - (k + 1)) u)) (take-suc-set part k v h)
+              ∙ before-also (take k part) v (next_numerals (length start - (k + 1)) u)
+              ∙ ap (λ (y : Found ℕ). before (take k part) (also-then (length start - (k + 1)) y)) f
+              ∙ step;
+        }
 
-pub record Storing (s : List ℕ) (n : ℕ) (before room : List ℕ) (at row : ℕ) : Type 0 where
-  pub long : length room ≡ length before
-  pub within : at ≤ length s
-  pub few : row ≤ n
-  pub kept : drop (columns * row) room ≡ drop (columns * row) before
-  pub rest : (numbers : List ℕ) → records 256 0 s ≡ sheet n numbers → Left s room at row n numbers
+  pub filling_end : length part ≤ k → (q : Option (Bor (List ℕ))) → past q ≡ line_end w → filled q part ≡ next_numerals (length start) s
+  filling_end h q e =
+      let over : 0 ≡ length start - k = omega (arith, r.long) in
+      before-end part q
+      ∙ ap (λ (f : Found _). before part (no_more f)) e
+      ∙ ap (λ (l : List ℕ). before l (no_more (line_end w))) (sym (take_all k part h))
+      ∙ ap (λ (n : ℕ). before (take k part) (next_numerals n w)) over
+      ∙ r.rest
 
-pub storing_none : (s : List ℕ) (n : ℕ) (before : List ℕ) → Storing s n before before 0 0
-storing_none s n before =
-    record {
-      long = refl;
-      within = omega arith;
-      few = omega arith;
-      kept = refl;
-      rest = λ numbers e. record { others = numbers; front = refl; there = e };
-    }
+-- numbers in front of those of a sheet, twice
+with-with : (vs ws : List ℕ) (x : Sheet) → with vs (with ws x) ≡ with (vs ++ ws) x
+with-with vs ws (sheet n xs) = ap (sheet n) (sym (append_assoc vs ws xs))
+with-with vs ws (bad k) = refl
 
-module _ (s : List ℕ) (n : ℕ) (before room : List ℕ) (at row : ℕ) (r : Storing s n before room at row) where
-  pub storing_more : (u vs : List ℕ) (k : ℕ) → u ≡ drop at s → row < n → n ≤ 256 → columns * n ≤ length before
-      → length vs ≡ columns → FillsRecord u k vs
-      → Storing s n before (put_mid (columns * row) (columns * row + columns - columns * row) room vs) (at + k) (row + 1)
-  storing_more u vs k e l f h c t =
-      record {
-        long =
-            ap length whole
-            ∙ length-append (take (columns * row) room ++ vs) (drop (columns * row + columns) room)
-            ∙ omega (arith, done, length-drop (columns * row + columns) room, r.long);
-        within = omega (arith, r.within, (t.any row).within, ap length e, length-drop at s);
-        few = omega arith;
-        kept =
-            ap (λ (j : ℕ). drop j (put_mid (columns * row) (columns * row + columns - columns * row) room vs)) next
-            ∙ ap (drop (columns * row + columns)) whole
-            ∙ drop_at (take (columns * row) room ++ vs) (drop (columns * row + columns) room) (columns * row + columns) done
-            ∙ sym (drop-drop columns (columns * row) room)
-            ∙ ap (drop columns) r.kept
-            ∙ drop-drop columns (columns * row) before
-            ∙ sym (ap (λ (j : ℕ). drop j before) next);
-        rest = λ numbers i. go numbers (r.rest numbers i);
-      }
-    where
-      next : columns * (row + 1) ≡ columns * row + columns
-      next = omega arith
+with-nothing : (x : Sheet) → with [] x ≡ x
+with-nothing (sheet n xs) = refl
+with-nothing (bad k) = refl
+
+with-sheet : (vs : List ℕ) (x : Sheet) (n : ℕ) (numbers : List ℕ) → with vs x ≡ sheet n numbers → (others : List ℕ) × (x ≡ sheet n others) × (vs ++ others ≡ numbers)
+with-sheet vs (sheet m ws) n numbers e = (ws, ap (λ (k : ℕ). sheet k ws) (let q : m ≡ n = cc in q), (let q : vs ++ ws ≡ numbers = cc in q))
+with-sheet vs (bad k) n numbers e = cc
+
+-- a tally is that of one sheet
+pub tally_good : (x : Sheet) (n : ℕ) → tally x ≡ Ok n → (numbers : List ℕ) × (x ≡ sheet n numbers)
+tally_good (sheet m numbers) n e = (numbers, ap (λ (k : ℕ). sheet k numbers) (let q : m ≡ n = cc in q))
+tally_good (bad k) n e = cc
+
+-- the rows before one are stored, and the others stand in the text w
+pub record Storing (s w start room : List ℕ) (row : ℕ) : Type 0 where
+  pub long : length room ≡ length start
+  kept : drop (columns * row) room ≡ drop (columns * row) start
+  rest : with (take (columns * row) room) (records (256 - row) row w) ≡ records 256 0 s
+
+pub storing_none : (s start : List ℕ) → Storing s s start start 0
+storing_none s start = record { long = refl; kept = refl; rest = with-nothing (records 256 0 s) }
+
+-- a record's numbers, whichever row's it is
+numbers-found : (row : ℕ) (w these behind : List ℕ) → record_of row w ≡ found these behind → numbers_of columns w ≡ found these behind
+numbers-found row w these behind e =
+    let f = record_of_lem row w these behind e in
+    ap (λ (y : Found ℕ). then y (λ _ u. next_numerals columns u)) f.1 ∙ f.2
+
+-- what is found is stored, and the text behind it is answered
+some-filled : (q : Option (Bor (List ℕ))) (vs these behind : List ℕ) → filled q vs ≡ found these behind → IsSome q
+some-filled None vs these behind f = cc
+some-filled (Some u) vs these behind f = refl
+
+these-filled : (q : Option (Bor (List ℕ))) (vs these behind : List ℕ) → filled q vs ≡ found these behind → (u : Bor (List ℕ)) → q ≡ Some u → (vs ≡ these) × (u.now ≡ behind)
+these-filled None vs these behind f u e = cc
+these-filled (Some v) vs these behind f u e =
+    let g : v ≡ u = cc in
+    ((let h : vs ≡ these = cc in h), ap (λ (x : Bor _). x.now) (sym g) ∙ (let h : v.now ≡ behind = cc in h))
+
+module _ (s w start room : List ℕ) (row n : ℕ) (r : Storing s w start room row) (is : IsSheet s n) where
+  sheet-left : (numbers : List ℕ) × (records (256 - row) row w ≡ sheet n numbers)
+  sheet-left =
+      tally_good (records (256 - row) row w) n
+      (sym (tally-with (take (columns * row) room) (records (256 - row) row w)) ∙ ap tally r.rest ∙ is)
+
+  module _ (l : row < n) (k : ℕ) (c : k ≡ columns) (q : Option (Bor (List ℕ))) (vs : List ℕ) (e : filled q vs ≡ numbers_of k w) where
+    one : (m : ℕ) × (256 - row ≡ suc m) × Split m row w n sheet-left.0
+    one = one_more (256 - row) row w n sheet-left.0 l sheet-left.1
+
+    held : filled q vs ≡ found one.2.these one.2.behind
+    held = e ∙ ap (λ (j : ℕ). numbers_of j w) c ∙ numbers-found row w one.2.these one.2.behind one.2.here
+
+    pub stored-some : IsSome q
+    stored-some = some-filled q vs one.2.these one.2.behind held
+
+    next : columns * (row + 1) ≡ columns * row + columns
+    next = omega arith
+
+    module _ (u : Bor (List ℕ)) (i : q ≡ Some u) (h : columns * n ≤ length start) where
+      stored : (vs ≡ one.2.these) × (u.now ≡ one.2.behind)
+      stored = these-filled q vs one.2.these one.2.behind held u i
 
       done : length (take (columns * row) room ++ vs) ≡ columns * row + columns
-      done = length-append (take (columns * row) room) vs ∙ omega (arith, length-take-le (columns * row) room (omega (arith, r.long)))
+      done =
+          length-append (take (columns * row) room) vs
+          ∙ omega (arith, length-take-le (columns * row) room (omega (arith, r.long)), ap length stored.0, record_length row w one.2.these one.2.behind one.2.here)
 
       whole : put_mid (columns * row) (columns * row + columns - columns * row) room vs ≡ (take (columns * row) room ++ vs) ++ drop (columns * row + columns) room
       whole =
@@ -178,43 +150,48 @@ module _ (s : List ℕ) (n : ℕ) (before room : List ℕ) (at row : ℕ) (r : S
           ∙ ap (λ (l : List ℕ). take (columns * row) room ++ (vs ++ l)) (drop-drop columns (columns * row) room)
           ∙ sym (append_assoc (take (columns * row) room) vs (drop (columns * row + columns) room))
 
-      step : (numbers : List ℕ) (q : Left s room at row n numbers)
-          → (m : ℕ) × (256 - row ≡ suc m) × Split m row (drop at s) n q.others
-          → Left s (put_mid (columns * row) (columns * row + columns - columns * row) room vs) (at + k) (row + 1) n numbers
-      step numbers q (m, a, x) =
-          let i = (t.any row).holds x.these x.behind (ap (record_of row) e ∙ x.here) in
-          let b : 256 - (row + 1) ≡ m = omega arith in
+      pub storing_more : Storing s u.now start (put_mid (columns * row) (columns * row + columns - columns * row) room vs) (row + 1)
+      storing_more =
           record {
-            others = x.others;
-            front =
-                ap (λ (j : ℕ). take j (put_mid (columns * row) (columns * row + columns - columns * row) room vs) ++ x.others) next
-                ∙ ap (λ (l : List ℕ). take (columns * row + columns) l ++ x.others) whole
-                ∙ ap (λ (l : List ℕ). l ++ x.others) (take_at (take (columns * row) room ++ vs) (drop (columns * row + columns) room) (columns * row + columns) done)
-                ∙ append_assoc (take (columns * row) room) vs x.others
-                ∙ ap (λ (l : List ℕ). take (columns * row) room ++ (l ++ x.others)) i.0
-                ∙ ap (λ (l : List ℕ). take (columns * row) room ++ l) (sym x.all)
-                ∙ q.front;
-            there =
-                ap (λ (j : ℕ). records j (row + 1) (drop (at + k) s)) b
-                ∙ ap (λ (j : ℕ). records m j (drop (at + k) s)) (add-one row)
-                ∙ ap (records m (suc row)) (sym (drop-drop k at s) ∙ ap (drop k) (sym e) ∙ i.1)
-                ∙ x.there;
+            long =
+                ap length whole
+                ∙ length-append (take (columns * row) room ++ vs) (drop (columns * row + columns) room)
+                ∙ omega (arith, done, length-drop (columns * row + columns) room, r.long);
+            kept =
+                ap (λ (j : ℕ). drop j (put_mid (columns * row) (columns * row + columns - columns * row) room vs)) next
+                ∙ ap (drop (columns * row + columns)) whole
+                ∙ drop_at (take (columns * row) room ++ vs) (drop (columns * row + columns) room) (columns * row + columns) done
+                ∙ sym (drop-drop columns (columns * row) room)
+                ∙ ap (drop columns) r.kept
+                ∙ drop-drop columns (columns * row) start
+                ∙ sym (ap (λ (j : ℕ). drop j start) next);
+            rest =
+                ap (λ (l : List ℕ). with l (records (256 - (row + 1)) (row + 1) u.now))
+                (ap (λ (j : ℕ). take j (put_mid (columns * row) (columns * row + columns - columns * row) room vs)) next
+                ∙ ap (take (columns * row + columns)) whole
+                ∙ take_at (take (columns * row) room ++ vs) (drop (columns * row + columns) room) (columns * row + columns) done)
+                ∙ sym (with-with (take (columns * row) room) vs (records (256 - (row + 1)) (row + 1) u.now))
+                ∙ ap (with (take (columns * row) room)) (others ∙ sym sheet-left.1)
+                ∙ r.rest;
           }
+        where
+          others : with vs (records (256 - (row + 1)) (row + 1) u.now) ≡ sheet n sheet-left.0
+          others =
+              let b : 256 - (row + 1) ≡ one.0 = (let a = one.1 in omega arith) in
+              ap (λ (j : ℕ). with vs (records j (row + 1) u.now)) b
+              ∙ ap (λ (j : ℕ). with vs (records one.0 j u.now)) (add-one row)
+              ∙ ap (λ (l : List ℕ). with vs (records one.0 (suc row) l)) stored.1
+              ∙ ap (with vs) one.2.there
+              ∙ ap (λ (l : List ℕ). sheet n (l ++ one.2.others)) stored.0
+              ∙ ap (sheet n) (sym one.2.all)
 
-      go : (numbers : List ℕ) → Left s room at row n numbers
-          → Left s (put_mid (columns * row) (columns * row + columns - columns * row) room vs) (at + k) (row + 1) n numbers
-      go numbers q = step numbers q (one_more (256 - row) row (drop at s) n q.others l q.there)
-
-  pub storing_end : n ≤ row → FillsRows s n before room
-  storing_end h = record { all = λ numbers e. go numbers (r.rest numbers e) }
+  pub storing_end : row ≡ n → FillsRows s n start room
+  storing_end same = record { all = λ numbers e. go numbers (with-sheet (take (columns * row) room) (records (256 - row) row w) n numbers (r.rest ∙ e)) }
     where
-      same : row ≡ n
-      same = omega (arith, r.few)
-
-      go : (numbers : List ℕ) → Left s room at row n numbers → room ≡ numbers ++ drop (columns * n) before
-      go numbers q =
-          let z : q.others ≡ [] = no_more_lem (256 - row) n (drop at s) q.others (ap (λ (k : ℕ). records (256 - row) k (drop at s)) (sym same) ∙ q.there) in
+      go : (numbers : List ℕ) → (others : List ℕ) × (records (256 - row) row w ≡ sheet n others) × (take (columns * row) room ++ others ≡ numbers) → room ≡ numbers ++ drop (columns * n) start
+      go numbers (others, i, j) =
+          let z : others ≡ [] = no_more_lem (256 - row) n w others (ap (λ (k : ℕ). records (256 - row) k w) (sym same) ∙ i) in
           sym (take-append-drop (columns * row) room)
-          ∙ ap (λ (l : List ℕ). l ++ drop (columns * row) room) (sym (append-nil (take (columns * row) room)) ∙ ap (λ (l : List ℕ). take (columns * row) room ++ l) (sym z) ∙ q.front)
+          ∙ ap (λ (l : List ℕ). l ++ drop (columns * row) room) (sym (append-nil (take (columns * row) room)) ∙ ap (λ (l : List ℕ). take (columns * row) room ++ l) (sym z) ∙ j)
           ∙ ap (λ (l : List ℕ). numbers ++ l) r.kept
-          ∙ ap (λ (k : ℕ). numbers ++ drop (columns * k) before) same
+          ∙ ap (λ (k : ℕ). numbers ++ drop (columns * k) start) same

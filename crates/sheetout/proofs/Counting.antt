@@ -6,7 +6,7 @@ use mathlib.Core.Path.{◌≡◌, refl, ap, ◌∙◌, sym}
 use native.Mathlib.Numerals.{add-one}
 use native.Mathlib.Omega.{arith}
 use lib.ListN.{length, take, drop, get_or, length-append}
-use lib.Seq.{take-suc, take_all}
+use lib.Seq.{take-suc}
 use Rattle.trace.specs.Rows.{columns}
 use Rattle.report.specs.Report.{first}
 use Rattle.report.specs.Room.{Lays}
@@ -63,11 +63,6 @@ sized_more {numbers} {size} {k} n r h b e =
           (ap length (next_of number_text numbers k h) ∙ length-append (flat_map number_text (take k numbers)) (number_text x) ∙ omega (arith, r.same, number_size x, e));
       small = omega (arith, r.small, decimal-few x b, decimal-length x, e);
     }
-
-pub sized_all : {numbers : List ℕ} {size k : ℕ} → Sized numbers size k → length numbers ≤ k
-    → (size ≡ length (flat_map number_text numbers)) × (size ≤ 21 * length numbers)
-sized_all {numbers} {size} {k} r h =
-    (r.same ∙ ap (λ (l : List ℕ). length (flat_map number_text l)) (take_all k numbers h), omega (arith, r.small, r.within))
 
 pub record_size_is : (row : ℕ) (numbers : List ℕ) → length (record_text row numbers) ≡ size_of row + length (flat_map number_text numbers) + 2
 unfolding record_text

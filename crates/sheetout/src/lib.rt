@@ -10,7 +10,7 @@ ghost use Rattle.report.specs.Room.{Writes, Lays};
 ghost use Rattle.sheet.specs.Writing.{writing};
 ghost use Rattle.sheetout.specs.Pieces.{header_text, number_text, record_text, row_text};
 
-use line::Wrote;
+use line::Refusal;
 use report::lay;
 use sheet::NAMES;
 use trace::COLUMNS;
@@ -21,10 +21,8 @@ fn numbers_size(numbers: &[u64]) -> usize
     ensures { (result ≡ length (flat_map number_text numbers.now)) × (result ≤ 21 * columns) }
 {
     let mut size = 0;
-    let mut k = 0;
-    while k < numbers.len() {
-        size += 1 + digits::decimal::size(numbers[k]);
-        k += 1;
+    for x in numbers {
+        size += 1 + digits::decimal::size(*x);
     }
     size
 }
@@ -44,10 +42,8 @@ fn records_size(rows: &[u64], n: usize) -> usize
     ensures { (result ≡ length (flat_map (row_text rows.now) (first n))) × (result ≤ (22 + 21 * columns) * 256) }
 {
     let mut size = 0;
-    let mut row = 0;
-    while row < n {
+    for row in 0..n {
         size += record_size(row, &rows[COLUMNS * row..COLUMNS * row + COLUMNS]);
-        row += 1;
     }
     size
 }
@@ -77,10 +73,8 @@ fn put_numbers(out: &mut [u8], at: usize, numbers: &[u64]) -> usize
     ensures { Lays at (flat_map number_text numbers.now) out.old result out.new }
 {
     let mut end = at;
-    let mut k = 0;
-    while k < numbers.len() {
-        end = put_number(out, end, numbers[k]);
-        k += 1;
+    for x in numbers {
+        end = put_number(out, end, *x);
     }
     end
 }
@@ -102,31 +96,29 @@ fn put_records(out: &mut [u8], at: usize, rows: &[u64], n: usize) -> usize
     ensures { Lays at (flat_map (row_text rows.now) (first n)) out.old result out.new }
 {
     let mut end = at;
-    let mut row = 0;
-    while row < n {
+    for row in 0..n {
         end = put_record(out, end, row, &rows[COLUMNS * row..COLUMNS * row + COLUMNS]);
-        row += 1;
     }
     end
 }
 
 // Writes the rows as a sheet, or refuses: 1 for a count above 255, 4 for rows too short, then 16 for output too short.
-pub fn write_sheet(rows: &[u64], count: usize, out: &mut [u8]) -> Wrote
+pub fn write_sheet(rows: &[u64], count: usize, out: &mut [u8]) -> Result<usize, Refusal>
     ensures { Writes (writing rows.now count (length out.old)) result out.old
         out.new }
 {
     if 255 < count {
-        return Wrote::Refused(1, 0);
+        return Err(trace::refused(1));
     }
     let n = count + 1;
     if rows.len() < COLUMNS * n {
-        return Wrote::Refused(4, 0);
+        return Err(trace::refused(4));
     }
     let size = NAMES.len() + 2 + records_size(rows, n);
     if out.len() < size {
-        return Wrote::Refused(16, 0);
+        return Err(trace::refused(16));
     }
     let at = put_header(out, 0);
     put_records(out, at, rows, n);
-    Wrote::Chars(size)
+    Ok(size)
 }

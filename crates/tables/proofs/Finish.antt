@@ -5,7 +5,7 @@ use mathlib.Core.List.{List, []}
 use Prim.Native.Nat.{ℕ, ◌+◌, ◌-◌, ◌^◌, ◌≤◌, ◌<◌}
 use native.Mathlib.Omega.{arith}
 use lib.ListN.{length}
-use Rattle.line.specs.declared.Family.TheVariants.{Finishes}
+use Rattle.line.specs.Family.{Finishes}
 use Rattle.line.specs.At.{site_at, both_at}
 use Rattle.chain.specs.Plan.{CostLine}
 use Rattle.trace.specs.Column.{Column, slot}
@@ -80,6 +80,10 @@ pub record Passes (how : Weigh) (s : List ℕ) (row deep : ℕ) (f : Open) (t ro
   pub asks : ItemAsks Finishes how s 2 row deep f t rows n w
   pub site_is : site ≡ site_at s f.at
 
+-- from what the steps before it say
+pub passes : {how : Weigh} {s : List ℕ} {row deep : ℕ} {f : Open} {t rows : List ℕ} {n w site : ℕ} → ItemAsks Finishes how s 2 row deep f t rows n w → site ≡ site_at s f.at → Passes how s row deep f t rows n w site
+passes a s = record { asks = a; site_is = s }
+
 module _ {how : Weigh} {s : List ℕ} {row deep : ℕ} {f : Open} {t rows : List ℕ} {n w site : ℕ} (h : Passes how s row deep f t rows n w site) where
   abbrev l : Lent Finishes how s row deep f t rows n w
   l = h.asks.lent
@@ -141,6 +145,9 @@ module _ {how : Weigh} {s : List ℕ} {row deep : ℕ} {f : Open} {t rows : List
     pub rows_long : length rows₁ ≡ length rows
     pub leaves : ItemsLeave Finishes how s site (deep - 1) a.around t rows n w r.around t₁ rows₁
     pub reaches : ItemsReach how s site a t n w r
+
+  pub has_passed : {a r : Reach} {t₁ rows₁ : List ℕ} → a ≡ record { around = passed_n f; far = cycles start } → length rows₁ ≡ length rows → ItemsLeave Finishes how s site (deep - 1) a.around t rows n w r.around t₁ rows₁ → ItemsReach how s site a t n w r → Passed a r t₁ rows₁
+  has_passed a b l m = record { from_is = a; rows_long = b; leaves = l; reaches = m }
 
   module _ {a r : Reach} {t₁ rows₁ : List ℕ} (u : Passed a r t₁ rows₁) where
     abbrev end : Open
@@ -220,6 +227,10 @@ pub record Forks (how : Weigh) (s : List ℕ) (row deep : ℕ) (f : Open) (t row
   pub site_is : site ≡ site_at s f.at
   pub begins : o ≡ part_at n f.longest.0
 
+-- from what the steps before it say
+pub forks : {how : Weigh} {s : List ℕ} {row deep : ℕ} {f : Open} {t rows : List ℕ} {n w site o : ℕ} → ItemAsks Finishes how s 0x12 row deep f t rows n w → site ≡ site_at s f.at → o ≡ part_at n f.longest.0 → Forks how s row deep f t rows n w site o
+forks a s o = record { asks = a; site_is = s; begins = o }
+
 module _ {how : Weigh} {s : List ℕ} {row deep : ℕ} {f : Open} {t rows : List ℕ} {n w site o : ℕ} (h : Forks how s row deep f t rows n w site o) where
   abbrev forking : Lent Finishes how s row deep f t rows n w
   forking = h.asks.lent
@@ -254,6 +265,10 @@ module _ {how : Weigh} {s : List ℕ} {row deep : ℕ} {f : Open} {t rows : List
 pub record Nests (how : Weigh) (s : List ℕ) (row deep : ℕ) (f : Open) (t rows : List ℕ) (n w o : ℕ) : Type 0 where
   pub asks : ItemAsks Finishes how s 0x13 row deep f t rows n w
   pub begins : o ≡ since_at n f.longest.0
+
+-- from what the steps before it say
+pub nests : {how : Weigh} {s : List ℕ} {row deep : ℕ} {f : Open} {t rows : List ℕ} {n w o : ℕ} → ItemAsks Finishes how s 0x13 row deep f t rows n w → o ≡ since_at n f.longest.0 → Nests how s row deep f t rows n w o
+nests a o = record { asks = a; begins = o }
 
 module _ {how : Weigh} {s : List ℕ} {row deep : ℕ} {f : Open} {t rows : List ℕ} {n w o : ℕ} (h : Nests how s row deep f t rows n w o) where
   abbrev nesting : Lent Finishes how s row deep f t rows n w

@@ -1,39 +1,13 @@
--- Rows that stand side by side, read and stored at once: one row, and four; and rows that are taken so.
+-- Rows that stand side by side, read and stored at once, and rows that are taken so.
 use mathlib.Core.Path.{◌≡◌, refl, ap, ◌∙◌, sym}
 use mathlib.Core.List.{List}
-use Prim.Native.Nat.{ℕ, zero, suc, ◌+◌, ◌-◌, ◌^◌, ◌≤◌, ◌<◌}
-use native.Mathlib.Decide.{dec_lt}
+use Prim.Native.Nat.{ℕ, zero, suc, ◌+◌, ◌*◌, ◌/◌, ◌%◌, ◌-◌, ◌≤◌, ◌<◌}
 use native.Mathlib.Omega.{arith}
-use lib.ListN.{length, get_or, set, length-set}
+use lib.ListN.{length, get_or, set, replicate, length-set}
+use Rattle.std.proofs.lemmas.List.{get_or-replicate}
 use lib.Seq.{get_or-set_same, get_or-set_other}
 use Rattle.tables.specs.declared.Pair.{Pair}
-use Rattle.tables.specs.declared.Four.{Four}
-use Rattle.tables.specs.Walks.{Out, Apart, PairFits, FourFits, SumsFit, Taken, no_pair, pair_at, pair_sum, paired, no_four, four_at, four_sum, laid}
-
--- the numbers x are stored from number i on, m of them
-pub record Laid (m i : ℕ) (x : ℕ → ℕ) (t t' : List ℕ) : Type 0 where
-  pub here : (k : ℕ) → k < m → get_or t' (i + k) 0 ≡ x k
-  pub off : (j : ℕ) → Out i m j → get_or t' j 0 ≡ get_or t j 0
-
--- some numbers and then more behind them
-laid-two : {m p i : ℕ} {x y : ℕ → ℕ} {t t₁ t₂ : List ℕ} (z : ℕ → ℕ) → ((k : ℕ) → k < m → z k ≡ x k) → ((k : ℕ) → k < p → z (m + k) ≡ y k) → Laid m i x t t₁ → Laid p (i + m) y t₁ t₂ → Laid (m + p) i z t t₂
-laid-two {m} {p} {i} {x} {y} {t} {t₁} {t₂} z first second a b =
-    record {
-      here = λ k l. go k l (dec_lt k m);
-      off = λ j o. b.off j (λ u v. o (omega arith) (omega arith)) ∙ a.off j (λ u v. o (omega arith) (omega arith));
-    }
-  where
-    go : (k : ℕ) → k < m + p → Dec (k < m) → get_or t₂ (i + k) 0 ≡ z k
-    go k l (yes d) = b.off (i + k) (λ u v. omega arith) ∙ a.here k d ∙ sym (first k d)
-    go k l (no d) =
-        let e : i + k ≡ i + m + (k - m) = omega arith in
-        let f : m + (k - m) ≡ k = omega arith in
-        ap (λ (j : ℕ). get_or t₂ j 0) e ∙ b.here (k - m) (omega arith) ∙ sym (second (k - m) (omega arith)) ∙ ap z f
-
--- the numbers of a row
-abbrev pub of_pair : Pair → ℕ → ℕ
-of_pair x zero = x.cycles.0
-of_pair x (suc k) = x.instructions.0
+use Rattle.tables.specs.Walks.{Out, Apart, Taken, no_pair, pair_at, pair_sum, paired, of_pair, numbers, Laid, RowsAt, RowSums}
 
 -- what holds at both places of a row
 pub by_two : (P : ℕ → Type 0) → P 0 → P 1 → (k : ℕ) → k < 2 → P k
@@ -58,47 +32,24 @@ pair_laid t i x room =
 pair_is : (t : List ℕ) (i k : ℕ) → k < 2 → of_pair (pair_at t i) k ≡ get_or t (i + k) 0
 pair_is t i = by_two (λ k. of_pair (pair_at t i) k ≡ get_or t (i + k) 0) (let e : i ≡ i + 0 = omega arith in ap (λ (j : ℕ). get_or t j 0) e) refl
 
--- the numbers of four rows
-abbrev of_four : Four → ℕ → ℕ
-of_four x zero = x.a.cycles.0
-of_four x (suc zero) = x.a.instructions.0
-of_four x (suc (suc zero)) = x.b.cycles.0
-of_four x (suc (suc (suc zero))) = x.b.instructions.0
-of_four x (suc (suc (suc (suc zero)))) = x.c.cycles.0
-of_four x (suc (suc (suc (suc (suc zero))))) = x.c.instructions.0
-of_four x (suc (suc (suc (suc (suc (suc zero)))))) = x.d.cycles.0
-of_four x (suc (suc (suc (suc (suc (suc (suc k))))))) = x.d.instructions.0
+-- the rows read from number i on are the numbers there
+numbers_are : (t : List ℕ) (i n : ℕ) (x : List Pair) → RowsAt t i n x → (k : ℕ) → k < 2 * n → numbers x k ≡ get_or t (i + k) 0
+numbers_are t i n x r k h =
+    let e : i + 2 * (k / 2) + k % 2 ≡ i + k = omega arith in
+    ap (λ (p : Pair). of_pair p (k % 2)) (r (k / 2) (omega arith)) ∙ pair_is t (i + 2 * (k / 2)) (k % 2) (omega arith) ∙ ap (λ (j : ℕ). get_or t j 0) e
 
--- what holds at both places of each
-by_eight : (P : ℕ → Type 0) → P 0 → P 1 → P 2 → P 3 → P 4 → P 5 → P 6 → P 7 → (k : ℕ) → k < 8 → P k
-by_eight P a b c d e f g h zero l = a
-by_eight P a b c d e f g h (suc zero) l = b
-by_eight P a b c d e f g h (suc (suc zero)) l = c
-by_eight P a b c d e f g h (suc (suc (suc zero))) l = d
-by_eight P a b c d e f g h (suc (suc (suc (suc zero)))) l = e
-by_eight P a b c d e f g h (suc (suc (suc (suc (suc zero))))) l = f
-by_eight P a b c d e f g h (suc (suc (suc (suc (suc (suc zero)))))) l = g
-by_eight P a b c d e f g h (suc (suc (suc (suc (suc (suc (suc zero))))))) l = h
-by_eight P a b c d e f g h (suc (suc (suc (suc (suc (suc (suc (suc k)))))))) l = absurd (omega arith)
+-- those of rows that were added are sums
+sums_are : (n : ℕ) (x y z : List Pair) → RowSums n x y z → (k : ℕ) → k < 2 * n → numbers z k ≡ numbers x k + numbers y k
+sums_are n x y z r k h =
+    ap (λ (p : Pair). of_pair p (k % 2)) (r (k / 2) (omega arith))
+    ∙ by_two (λ j. of_pair (pair_sum (get_or x (k / 2) no_pair) (get_or y (k / 2) no_pair)) j ≡ of_pair (get_or x (k / 2) no_pair) j + of_pair (get_or y (k / 2) no_pair) j) refl refl (k % 2) (omega arith)
 
-four_laid : (t : List ℕ) (i : ℕ) (x : Four) → i + 8 ≤ length t → Laid 8 i (of_four x) t (laid t i x)
-four_laid t i x room =
-    let t₁ = paired t i x.a in
-    let t₂ = paired t₁ (i + 2) x.b in
-    let t₃ = paired t₂ (i + 4) x.c in
-    let two = laid-two {x = of_pair x.a} {y = of_pair x.b} (of_four x) (by_two (λ k. of_four x k ≡ of_pair x.a k) refl refl) (by_two (λ k. of_four x (2 + k) ≡ of_pair x.b k) refl refl) (pair_laid t i x.a (omega arith)) (pair_laid t₁ (i + 2) x.b (simp length-set (omega arith))) in
-    let three = laid-two {x = of_four x} {y = of_pair x.c} (of_four x) (λ k l. refl) (by_two (λ k. of_four x (4 + k) ≡ of_pair x.c k) refl refl) two (pair_laid t₂ (i + 4) x.c (simp length-set (omega arith))) in
-    laid-two {x = of_four x} {y = of_pair x.d} (of_four x) (λ k l. refl) (by_two (λ k. of_four x (6 + k) ≡ of_pair x.d k) refl refl) three (pair_laid t₃ (i + 6) x.d (simp length-set (omega arith)))
-
--- four rows are stored one behind the other
-pub laid_so : (t : List ℕ) (i : ℕ) (x : Four) (t₁ : List ℕ) → t₁ ≡ paired t i x.a → (t₂ : List ℕ) → t₂ ≡ paired t₁ (i + 2) x.b → (t₃ : List ℕ) → t₃ ≡ paired t₂ (i + 4) x.c → (t₄ : List ℕ) → t₄ ≡ paired t₃ (i + 6) x.d → t₄ ≡ laid t i x
-laid_so t i x t₁ e₁ t₂ e₂ t₃ e₃ t₄ e₄ = rw (e₄, e₃, e₂, e₁)
-
-four_is : (t : List ℕ) (i k : ℕ) → k < 8 → of_four (four_at t i) k ≡ get_or t (i + k) 0
-four_is t i = by_eight (λ k. of_four (four_at t i) k ≡ get_or t (i + k) 0) (at (omega arith)) refl refl (at (omega arith)) refl (at (omega arith)) refl (at (omega arith))
+-- rows of no chain are zeros
+nones_stored : (n : ℕ) {i : ℕ} (z : Pair) {t t' : List ℕ} → z ≡ no_pair → Laid (2 * n) i (numbers (replicate n z)) t t' → Laid (2 * n) i (λ k. 0) t t'
+nones_stored n z e l = record { here = λ k h. l.here k h ∙ zeros k h; off = l.off }
   where
-    at : {j k : ℕ} → j ≡ k → get_or t j 0 ≡ get_or t k 0
-    at e = ap (λ (j : ℕ). get_or t j 0) e
+    zeros : (k : ℕ) → k < 2 * n → numbers (replicate n z) k ≡ 0
+    zeros k h = rw (get_or-replicate n (k / 2) z no_pair (omega arith), e) (by_two (λ j. of_pair no_pair j ≡ 0) refl refl (k % 2) (omega arith))
 
 -- m numbers from number from on of four blocks
 module _ (m b e g from : ℕ) (t : List ℕ) (a : Apart (from + m) b e g t) where
@@ -144,58 +95,12 @@ module _ (m b e g from : ℕ) (t : List ℕ) (a : Apart (from + m) b e g t) wher
             ∙ l₁.off j (λ p q. (o j p q q).not_p refl);
       }
 
-  -- a sum of them fits
-  fit : SumsFit (from + m) b t → (k : ℕ) → k < m → get_or t (from + k) 0 + get_or t (b + from + k) 0 < 2 ^ 64
-  fit f k h = let e : b + from + k ≡ b + (from + k) = omega arith in omega (arith, f (from + k) (omega arith), ap (λ (j : ℕ). get_or t j 0) e)
-
--- one row is taken so, and the sums fit
-module _ (b e g from : ℕ) (t : List ℕ) (a : Apart (from + 2) b e g t) where
-  none-stored : {i : ℕ} {t t' : List ℕ} → Laid 2 i (of_pair no_pair) t t' → Laid 2 i (λ k. 0) t t'
-  none-stored l = record { here = λ k h. l.here k h ∙ by_two (λ k. of_pair no_pair k ≡ 0) refl refl k h; off = l.off }
-
-  pub row-taken : (q : Pair) → q ≡ pair_at t (b + from) → (r : Pair) → r ≡ pair_at t (g + from) → (p : Pair) → p ≡ pair_at t from → (v : Pair) → v ≡ pair_sum p q → (v₁ : List ℕ) → v₁ ≡ paired t from v
-      → (z₂ : Pair) → z₂ ≡ no_pair → (v₂ : List ℕ) → v₂ ≡ paired v₁ (b + from) z₂ → (v₃ : List ℕ) → v₃ ≡ paired v₂ (e + from) r → (z₄ : Pair) → z₄ ≡ no_pair → (v₄ : List ℕ) → v₄ ≡ paired v₃ (g + from) z₄
-      → Taken b e g (from + 2) from (from + 2) t v₄
-  row-taken q eq r er p ep v ev v₁ e₁ z₂ f₂ v₂ e₂ v₃ e₃ z₄ f₄ v₄ e₄ =
-      let s = pair_sum (pair_at t from) (pair_at t (b + from)) in
-      let u₁ = paired t from s in
-      let u₂ = paired u₁ (b + from) no_pair in
-      let u₃ = paired u₂ (e + from) (pair_at t (g + from)) in
-      rw (e₄, e₃, e₂, e₁, f₂, f₄, ev, ep, eq, er)
-      (rows_taken 2 b e g from t a (of_pair s) (of_pair (pair_at t (g + from))) (by_two (λ k. of_pair s k ≡ get_or t (from + k) 0 + get_or t (b + from + k) 0) (omega (arith, pair_is t from 0 (omega arith), pair_is t (b + from) 0 (omega arith))) refl) (pair_is t (g + from))
-      (pair_laid t from s (omega (arith, a.at_b, a.b_g, a.room)))
-      (none-stored (pair_laid u₁ (b + from) no_pair (simp length-set (omega (arith, a.b_g, a.room)))))
-      (pair_laid u₂ (e + from) (pair_at t (g + from)) (simp length-set (omega (arith, a.e_g, a.room))))
-      (none-stored (pair_laid u₃ (g + from) no_pair (simp length-set (omega (arith, a.room))))))
-
-  pub row-fit : SumsFit (from + 2) b t → (p : Pair) → p ≡ pair_at t from → (q : Pair) → q ≡ pair_at t (b + from) → PairFits p q
-  row-fit f p ep q eq = rw (ep, eq) (omega (arith, fit 2 b e g from t a f 0 (omega arith), pair_is t from 0 (omega arith), pair_is t (b + from) 0 (omega arith)), fit 2 b e g from t a f 1 (omega arith))
-
--- four rows are
-module _ (b e g from : ℕ) (t : List ℕ) (a : Apart (from + 8) b e g t) where
-  nones_stored : {i : ℕ} {t t' : List ℕ} → Laid 8 i (of_four no_four) t t' → Laid 8 i (λ k. 0) t t'
-  nones_stored l = record { here = λ k h. l.here k h ∙ by_eight (λ k. of_four no_four k ≡ 0) refl refl refl refl refl refl refl refl k h; off = l.off }
-
-  sums_are : (x y : Four) (k : ℕ) → k < 8 → of_four (four_sum x y) k ≡ of_four x k + of_four y k
-  sums_are x y = by_eight (λ k. of_four (four_sum x y) k ≡ of_four x k + of_four y k) refl refl refl refl refl refl refl refl
-
-  pub four_taken : (q : Four) → q ≡ four_at t (b + from) → (r : Four) → r ≡ four_at t (g + from) → (p : Four) → p ≡ four_at t from → (v : Four) → v ≡ four_sum p q → (v₁ : List ℕ) → v₁ ≡ laid t from v
-      → (z₂ : Four) → z₂ ≡ no_four → (v₂ : List ℕ) → v₂ ≡ laid v₁ (b + from) z₂ → (v₃ : List ℕ) → v₃ ≡ laid v₂ (e + from) r → (z₄ : Four) → z₄ ≡ no_four → (v₄ : List ℕ) → v₄ ≡ laid v₃ (g + from) z₄
-      → Taken b e g (from + 8) from (from + 8) t v₄
-  four_taken q eq r er p ep v ev v₁ e₁ z₂ f₂ v₂ e₂ v₃ e₃ z₄ f₄ v₄ e₄ =
-      let s = four_sum (four_at t from) (four_at t (b + from)) in
-      let u₁ = laid t from s in
-      let u₂ = laid u₁ (b + from) no_four in
-      let u₃ = laid u₂ (e + from) (four_at t (g + from)) in
-      rw (e₄, e₃, e₂, e₁, f₂, f₄, ev, ep, eq, er)
-      (rows_taken 8 b e g from t a (of_four s) (of_four (four_at t (g + from))) (λ k h. omega (arith, sums_are (four_at t from) (four_at t (b + from)) k h, four_is t from k h, four_is t (b + from) k h)) (four_is t (g + from))
-      (four_laid t from s (omega (arith, a.at_b, a.b_g, a.room)))
-      (nones_stored (four_laid u₁ (b + from) no_four (simp length-set (omega (arith, a.b_g, a.room)))))
-      (four_laid u₂ (e + from) (four_at t (g + from)) (simp length-set (omega (arith, a.e_g, a.room))))
-      (nones_stored (four_laid u₃ (g + from) no_four (simp length-set (omega (arith, a.room))))))
-
-  pub four_fit : SumsFit (from + 8) b t → (p : Four) → p ≡ four_at t from → (q : Four) → q ≡ four_at t (b + from) → FourFits p q
-  four_fit f p ep q eq = rw (ep, eq) ((sum 0 (omega arith), sum 1 (omega arith)), (sum 2 (omega arith), sum 3 (omega arith)), (sum 4 (omega arith), sum 5 (omega arith)), (sum 6 (omega arith), sum 7 (omega arith)))
-    where
-      sum : (k : ℕ) → k < 8 → of_four (four_at t from) k + of_four (four_at t (b + from)) k < 2 ^ 64
-      sum k h = omega (arith, fit 8 b e g from t a f k h, four_is t from k h, four_is t (b + from) k h)
+-- n rows are read and stored so
+pub took : (n b e g from : ℕ) (t : List ℕ) → Apart (from + 2 * n) b e g t → (p x y s : List Pair) (z : Pair) → RowsAt t from n p → RowsAt t (b + from) n x → RowsAt t (g + from) n y → RowSums n p x s → z ≡ no_pair
+    → {u₁ u₂ u₃ u₄ : List ℕ} → Laid (2 * n) from (numbers s) t u₁ → Laid (2 * n) (b + from) (numbers (replicate n z)) u₁ u₂ → Laid (2 * n) (e + from) (numbers y) u₂ u₃ → Laid (2 * n) (g + from) (numbers (replicate n z)) u₃ u₄
+    → Taken b e g (from + 2 * n) from (from + 2 * n) t u₄
+took n b e g from t a p x y s z rp rx ry rs none l₁ l₂ l₃ l₄ =
+    rows_taken (2 * n) b e g from t a (numbers s) (numbers y)
+    (λ k h. omega (arith, sums_are n p x s rs k h, numbers_are t from n p rp k h, numbers_are t (b + from) n x rx k h))
+    (numbers_are t (g + from) n y ry)
+    l₁ (nones_stored n z none l₂) l₃ (nones_stored n z none l₄)

@@ -10,8 +10,7 @@ use lib.Dec.{eqb}
 use borrow.Author.Tests.{eqb-true, eqb-false}
 use borrow.Rule.Slice.PartMut.{put_mid}
 use Rattle.line.specs.At.{site_at, value_at}
-use Rattle.line.specs.declared.Family.{Family}
-use Rattle.line.specs.declared.Family.TheVariants.{Base}
+use Rattle.line.specs.Family.{Family, Base}
 use Rattle.trace.specs.Column.{Column, slot}
 use Rattle.chain.specs.Plan.{CostLine, weight}
 use Rattle.chain.proofs.Lists.{weight-append}
@@ -97,6 +96,10 @@ pub record Costs (y : Family) (how : Weigh) (s : List ℕ) (kind row deep : ℕ)
   pub weight_is : v ≡ how f.at row (value_at s f.at)
   pub instructions_are : j ≡ instructions_at s f.at
   pub cost : kind ≡ 6
+
+-- from what the steps before it say
+pub costs : {y : Family} {how : Weigh} {s : List ℕ} {kind row deep : ℕ} {f : Open} {t rows : List ℕ} {n w v j : ℕ} → ItemAsks y how s kind row deep f t rows n w → v ≡ how f.at row (value_at s f.at) → j ≡ instructions_at s f.at → kind ≡ 6 → Costs y how s kind row deep f t rows n w v j
+costs a v j k = record { asks = a; weight_is = v; instructions_are = j; cost = k }
 
 module _ {y : Family} {how : Weigh} {s : List ℕ} {kind row deep : ℕ} {f : Open} {t rows : List ℕ} {n w v j : ℕ} (h : Costs y how s kind row deep f t rows n w v j) where
   begins : (b : Body) → Reads y how s f.at row b → (r : Body) × (b ≡ leaf (spend v) r)
@@ -220,6 +223,9 @@ module _ {y : Family} {how : Weigh} {s : List ℕ} {row deep : ℕ} {f : Open} {
     pub rows_long : length rows₁ ≡ length rows
     pub leaves : BodyLeaves y how s (f.at + 1) site part rows n w c z rows₁
 
+  pub came_back : {c : Open} {z rows₁ : List ℕ} → length z ≡ length part → length rows₁ ≡ length rows → BodyLeaves y how s (f.at + 1) site part rows n w c z rows₁ → Back c z rows₁
+  came_back a b l = record { part_long = a; rows_long = b; leaves = l }
+
   module _ {c : Open} {z rows₁ : List ℕ} (u : Back c z rows₁) where
     abbrev pub back : List ℕ
     back = put_mid o (length t - o) t z
@@ -318,6 +324,11 @@ pub record Calls (how : Weigh) (s : List ℕ) (kind row deep : ℕ) (f : Open) (
   pub no_note : kind ≡ 1 → ⊥
   pub no_carry : kind ≡ 7 → ⊥
   pub begins : o ≡ child_at kind n f.longest.0
+
+-- from what the steps before it say
+pub calls : {how : Weigh} {s : List ℕ} {kind row deep : ℕ} {f : Open} {t rows : List ℕ} {n w site o : ℕ} → ItemAsks Base how s kind row deep f t rows n w → site ≡ site_at s f.at → (kind ≡ 6 → ⊥) → (kind ≡ 4 → ⊥) → (kind ≡ 1 → ⊥) → (kind ≡ 7 → ⊥) → o ≡ child_at kind n f.longest.0
+    → Calls how s kind row deep f t rows n w site o
+calls a s k6 k4 k1 k7 o = record { asks = a; site_is = s; no_cost = k6; no_sync = k4; no_note = k1; no_carry = k7; begins = o }
 
 module _ {how : Weigh} {s : List ℕ} {kind row deep : ℕ} {f : Open} {t rows : List ℕ} {n w site o : ℕ} (h : Calls how s kind row deep f t rows n w site o) where
   abbrev l : Lent Base how s row deep f t rows n w

@@ -1,10 +1,12 @@
 -- What the loops over the numbers of tables do: nothing, numbers that are zero, and some numbers and then more.
 use mathlib.Core.Path.{◌≡◌, refl, ◌∙◌, sym}
 use mathlib.Core.List.{List}
-use Prim.Native.Nat.{ℕ, ◌+◌, ◌^◌, ◌≤◌, ◌<◌}
+use Prim.Native.Nat.{ℕ, ◌+◌, ◌-◌, ◌^◌, ◌≤◌, ◌<◌}
 use native.Mathlib.Decide.{dec_lt}
 use native.Mathlib.Omega.{arith}
-use lib.ListN.{length, get_or, set, length-set}
+use Rattle.std.proofs.lemmas.List.{places}
+use borrow.Rule.Slice.PartMut.{put_mid}
+use lib.ListN.{length, get_or, set, replicate, length-set}
 use lib.Seq.{get_or-set_same, get_or-set_other}
 use Rattle.tables.specs.Walks.{Apart, SumsFit, Off, Taken, Cleared}
 
@@ -155,12 +157,16 @@ module _ (a w : ℕ) (t : List ℕ) where
   pub cleared-zero : (from stop : ℕ) → ((i : ℕ) → from ≤ i → i < stop → i < w → get_or t (a + i) 0 ≡ 0) → Cleared a w from stop t t
   cleared-zero from stop z = record { gone = z; rest = λ j h. refl }
 
-  pub cleared-one : (i : ℕ) → i < w → a + w ≤ length t → Cleared a w i (i + 1) t (set t (a + i) 0)
-  cleared-one i h room =
+  pub cleared-fill : (from stop k : ℕ) (z : List ℕ) → a + stop ≤ length t → from ≤ stop → stop ≤ w → k ≡ stop - from → z ≡ replicate k 0 → Cleared a w from stop t (put_mid (a + from) k t z)
+  cleared-fill from stop k z room l m e f =
       record {
-        gone = λ k x y l. let z : k ≡ i = omega arith in rw z (get_or-set_same t (a + i) 0 0 (omega arith));
-        rest = λ j o. get_or-set_other t (a + i) j 0 0 (o i (omega arith) (omega arith) h);
+        gone = λ i x y w. rw f (grind (arith, places));
+        rest = λ j o. rw f (kept j (λ x y. o (j - a) (omega arith) (omega arith) (omega arith) (omega arith)) (dec_lt j (a + from)));
       }
+    where
+      kept : (j : ℕ) → (a + from ≤ j → j < a + stop → ⊥) → Dec (j < a + from) → get_or (put_mid (a + from) k t (replicate k 0)) j 0 ≡ get_or t j 0
+      kept j o (yes d) = grind (arith, places)
+      kept j o (no d) = let p : a + stop ≤ j = omega arith in grind (arith, places)
 
   pub cleared-then : (from mid stop : ℕ) → from ≤ mid → mid ≤ stop → (t₁ t₂ : List ℕ) → Cleared a w from mid t t₁ → Cleared a w mid stop t₁ t₂ → Cleared a w from stop t t₂
   cleared-then from mid stop fm ms t₁ t₂ x y =

@@ -21,10 +21,10 @@ use Rattle.walk.specs.Reader.{alone}
 use Rattle.walk.specs.Numbers.{spent_n, later_heavier, joined_n, child_longer, spawned_n, load, iload}
 use Rattle.walk.proofs.Numbers.{spent-numbers, later-chosen, joined_numbers, child-chosen, spawned-numbers}
 use Rattle.tables.specs.declared.Pair.{Pair}
-use Rattle.tables.specs.Walks.{side, number, Table, Out, PairFits, pair_at, pair_sum, added, TakesIn, TookIn, Cleared}
+use Rattle.tables.specs.Walks.{side, number, Table, Out, PairFits, pair_at, pair_sum, added, TakesIn, TookIn, Cleared, of_pair, Laid}
 use Rattle.tables.specs.Blocks.{Shows, since_at, Holds, behind, Asks, Spent, Joined, Spawned}
 use Rattle.tables.proofs.Number.{side-of, side_le, side-even, side_odd, by_number, number_le, number-choose, row-spent, word_spent}
-use Rattle.tables.proofs.Fours.{Laid, of_pair, pair_laid}
+use Rattle.tables.proofs.Fours.{pair_laid}
 use Rattle.tables.proofs.Held.{since-first, since-later, behind-joined, behind-spawned, none_longest, some_longest, light, holds-two}
 
 -- a cost of v cycles and j instructions in row s is put into the block at a: its numbers, and its bit in the word

@@ -3,15 +3,14 @@ use mathlib.Core.Path.{◌≡◌, refl, ap, ◌∙◌, sym, subst}
 use mathlib.Core.List.{List, [], ◌∷◌, ◌++◌}
 use Prim.Native.Nat.{ℕ, ◌+◌, ◌*◌, ◌-◌, ◌≤◌, ◌<◌}
 use native.Mathlib.Nat.{mul_comm, mul_assoc, mul-le-mul_left}
-use native.Mathlib.Decide.{dec_lt, ℕ_discrete}
+use native.Mathlib.Decide.{dec_lt}
 use native.Mathlib.Omega.{arith}
-use lib.ListN.{length, get_or, set, drop, replicate, length-set, length-replicate, get_or-eq_default}
-use lib.Seq.{ext_get_or, get_or-set_same, get_or-set_other}
-use Rattle.line.specs.declared.Family.{Family}
-use Rattle.line.specs.declared.Family.TheVariants.{Base}
+use lib.ListN.{length, get_or, drop, replicate, length-replicate, get_or-eq_default}
+use lib.Seq.{ext_get_or}
+use Rattle.std.specs.Prelude.{Ok}
+use Rattle.line.specs.Family.{Family}
 use Rattle.line.specs.declared.Frame.{Frame}
-use Rattle.trace.specs.declared.Answer.{Answer}
-use Rattle.trace.specs.declared.Answer.TheVariants.{Accepted, Refused}
+use Rattle.trace.specs.Answer.{Answer, profiled}
 use Rattle.trace.specs.Rows.{columns}
 use Rattle.trace.specs.Column.{Column, slot}
 use Rattle.trace.specs.Refusals.{verdict_of}
@@ -24,12 +23,10 @@ use Rattle.trace.proofs.Recurrence.{paid}
 use Rattle.chain.specs.Plan.{All, Worth}
 use Rattle.trace.proofs.Slots.{slot_apart, is-column}
 use Rattle.trace.proofs.Scan.{accepted-same}
-use Rattle.admit.specs.declared.Verdict.TheVariants as Verdict
-use Rattle.admit.specs.Answer.{admission_of, admission}
-use Rattle.admit.proofs.Admitted.{refused-only, accepted-only}
+use Rattle.admit.specs.declared.Accepted.{Accepted}
+use Rattle.admit.specs.Answer.{admission_of}
+use Rattle.admit.proofs.Admitted.{accepted-only}
 use Rattle.weigh.specs.Weighed.{Weigh, Tabled, reweighed}
-use Rattle.forecast.specs.declared.Listed.{Listed}
-use Rattle.forecast.specs.OfList.{ForecastOf}
 use Rattle.walk.specs.declared.Open.{Open}
 use Rattle.walk.specs.declared.Credit.{Credit}
 use Rattle.walk.specs.Gain.{credit_of, ReturnFits, Returned}
@@ -37,8 +34,8 @@ use Rattle.walk.specs.Reader.{alone, BodyDone}
 use Rattle.walk.specs.Profiled.{Profiled}
 use Rattle.walk.specs.Weight.{by_asking}
 use Rattle.walk.proofs.Weight.{weight-plain}
-use Rattle.walk.proofs.Profiled.{kept-refused, text-refused, plain_promise}
-use Rattle.walk.proofs.Zeros.{zeros-at}
+use Rattle.walk.proofs.Profiled.{plain_promise}
+use Rattle.walk.proofs.Zeros.{zeros-at, cleared-front, cleared-back}
 use Rattle.walk.proofs.Accepted as root
 use Rattle.tables.specs.Blocks.{Shows}
 use Rattle.tables.specs.Reader.{BodyAsks, BodyLeaves}
@@ -140,11 +137,11 @@ module _ {y : Family} {s : List ℕ} {D M : ℕ} {scratch rows : List ℕ} {coun
       -- the root itself, and its table
       module _ {rows₃ : List ℕ} (counts : Returned before 0 c.work.0 c.prefix.0 rows₂ rows₃) {t₃ rows₄ : List ℕ} (settled : Settled (count + 1) t₂ rows₃ t₃ rows₄) (l₃ : length t₃ ≡ length scratch) (l₄ : length rows₄ ≡ length rows) where
         -- its rows are moved out, the word behind them cleared
-        abbrev moved : Moved (count + 1) t₂ rows₃ settled.0 rows₄
-        moved = settled.1
+        abbrev moved : Moved (count + 1) t₂ rows₃ rows₄
+        moved = settled.0
 
         abbrev answer : Answer
-        answer = Accepted c.work.0 c.prefix.0 count lines
+        answer = profiled c.work.0 c.prefix.0 count lines
 
         -- the table of the root's chain
         worth : All Worth (chain_of 0 0 b)
@@ -172,15 +169,14 @@ module _ {y : Family} {s : List ℕ} {D M : ℕ} {scratch rows : List ℕ} {coun
             go (no q) = get_or-eq_default rows₄ 0 {n = i} (omega arith) ∙ sym (get_or-eq_default rows 0 {n = i} (omega arith))
 
         scratch-zero : t₃ ≡ replicate (length scratch) 0
-        scratch-zero = ext_get_or 0 t₃ (replicate (length scratch) 0) (l₃ ∙ sym (length-replicate {A = ℕ} (length scratch) 0)) (λ i l. ap (λ (x : List ℕ). get_or x i 0) settled.2 ∙ go i (dec_lt i (2 * (count + 1))) (ℕ_discrete i (2 * (count + 1))) ∙ sym (zeros-at (length scratch) i))
+        scratch-zero = ext_get_or 0 t₃ (replicate (length scratch) 0) (l₃ ∙ sym (length-replicate {A = ℕ} (length scratch) 0)) (λ i l. ap (λ (x : List ℕ). get_or x i 0) settled.1 ∙ go i (dec_lt i (2 * (count + 1) + 1)) ∙ sym (zeros-at (length scratch) i))
           where
-            elsewhere : (i : ℕ) → (i ≡ 2 * (count + 1) → ⊥) → get_or (set settled.0 (2 * (count + 1)) 0) i 0 ≡ get_or settled.0 i 0
-            elsewhere i q = get_or-set_other settled.0 (2 * (count + 1)) i 0 0 q
+            room : 2 * (count + 1) + 1 ≤ length t₂
+            room = omega (arith, table-room, u.scratch_same)
 
-            go : (i : ℕ) → Dec (i < 2 * (count + 1)) → Dec (i ≡ 2 * (count + 1)) → get_or (set settled.0 (2 * (count + 1)) 0) i 0 ≡ 0
-            go i (yes q) d = elsewhere i (λ e. omega arith) ∙ moved.gone i q
-            go i (no q) (yes e) = rw e (get_or-set_same settled.0 (2 * (count + 1)) 0 0 (omega (arith, table-room, l₃, ap length settled.2, length-set settled.0 (2 * (count + 1)) 0)))
-            go i (no q) (no d) = elsewhere i d ∙ moved.rest i (omega arith) ∙ own-only (2 * (count + 1) + 1) (2 * (count + 1)) refl t₂ (chain_of 0 0 b) left.1 i (omega arith)
+            go : (i : ℕ) → Dec (i < 2 * (count + 1) + 1) → get_or (replicate (2 * (count + 1) + 1) 0 ++ drop (2 * (count + 1) + 1) t₂) i 0 ≡ 0
+            go i (yes q) = cleared-front t₂ (2 * (count + 1) + 1) room i q
+            go i (no q) = cleared-back t₂ (2 * (count + 1) + 1) room i (omega arith) ∙ own-only (2 * (count + 1) + 1) (2 * (count + 1)) refl t₂ (chain_of 0 0 b) left.1 i (omega arith)
 
         by-tree : ProfileBy tables count b (lent scratch rows) answer (lent t₃ rows₄)
         by-tree =
@@ -188,9 +184,9 @@ module _ {y : Family} {s : List ℕ} {D M : ℕ} {scratch rows : List ℕ} {coun
             let span_is = root.span_is y tables s D M (lent scratch rows) a.t a.is count a.count_is how tabled before took c rows₂ u.rows_same left.0 in
             record {
               answer =
-                  ap (λ (x : ℕ). Accepted x c.prefix.0 count lines) work_is
-                  ∙ ap (λ (x : ℕ). Accepted (work_of b) x count lines) span_is
-                  ∙ ap (λ (x : ℕ). Accepted (work_of b) (span_of b) count x) (sym a.lines_is ∙ root.lines_are y tables s D M (lent scratch rows) a.t a.is count a.count_is how tabled);
+                  ap (λ (x : ℕ). profiled x c.prefix.0 count lines) work_is
+                  ∙ ap (λ (x : ℕ). profiled (work_of b) x count lines) span_is
+                  ∙ ap (λ (x : ℕ). profiled (work_of b) (span_of b) count x) (sym a.lines_is ∙ root.lines_are y tables s D M (lent scratch rows) a.t a.is count a.count_is how tabled);
               rows = record { same_length = l₄; cells = cells; rest = rest };
               scratch = scratch-zero;
               marked = refl;
@@ -207,16 +203,8 @@ module _ (y : Family) (s : List ℕ) (D M : ℕ) (scratch rows : List ℕ) where
   abbrev verdict_is : Judgement
   verdict_is = verdict_of y s D M (enough tables s D M (lent scratch rows))
 
-  pub admitted : (count lines : ℕ) → Verdict.Accepted count lines ≡ admission_of y tables s D M (length scratch) (length rows) 0 → Admitted y s D M scratch rows count lines
-  admitted count lines e = let h = accepted-only verdict_is count lines e in record { t = h.0; is = h.1; count_is = h.2; lines_is = h.3 }
-
-  pub refuses : (number line : ℕ) → Verdict.Refused number line ≡ admission_of y tables s D M (length scratch) (length rows) 0 → PromiseOf y tables s D M (lent scratch rows) (Refused number line) (lent scratch rows)
-  refuses number line e = kept-refused y tables verdict_is (lent scratch rows) number line (refused-only verdict_is number line e)
-
--- whatever is asked of one of document 01's
-pub unasked : (s : List ℕ) (D M : ℕ) (scratch rows : List ℕ) (l : Listed) (number line : ℕ) → Verdict.Refused number line ≡ admission tables s D M (length scratch) (length rows) 0
-    → ForecastOf tables l s D M (lent scratch rows) (Refused number line) (lent scratch rows)
-unasked s D M scratch rows l number line e = text-refused tables s D M (lent scratch rows) l number line (refused-only (verdict_is Base s D M scratch rows) number line e)
+  pub admitted : (x : Accepted) → Ok x ≡ admission_of y tables s D M (length scratch) (length rows) 0 → Admitted y s D M scratch rows x.sites x.lines
+  admitted x e = let h = accepted-only verdict_is x e in record { t = h.0; is = h.1; count_is = h.2; lines_is = h.3 }
 
 -- with no factor it is the plain profile
 pub plain : {y : Family} {s : List ℕ} {D M : ℕ} {scratch rows : List ℕ} {count lines : ℕ} → Admitted y s D M scratch rows count lines → (r : Answer) (t' rows' : List ℕ)

@@ -2,7 +2,7 @@
 -- those of document 01's traces leave: how far an async reaches that begins in the call that is read.
 use Rattle.std.specs.Prelude.{ℕ, ◌≡◌, List, []}
 use Rattle.chain.specs.Plan.{CostLine}
-use Rattle.line.specs.declared.Family.TheVariants.{Finishes}
+use Rattle.line.specs.Family.{Finishes}
 use Rattle.trace.specs.Tree.{Body}
 use Rattle.trace.specs.Fold.{Chains}
 use Rattle.weigh.specs.Weighed.{Weigh}

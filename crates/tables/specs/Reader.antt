@@ -2,7 +2,7 @@
 -- leave. t is what their invocation was lent of the scratch, and how is what a cost line weighs.
 use Rattle.std.specs.Prelude.{ℕ, ◌+◌, ◌*◌, ◌%◌, ◌^◌, ◌≤◌, ◌<◌, ◌≡◌, List, [], ◌++◌, length}
 use Rattle.chain.specs.Plan.{CostLine, weight}
-use Rattle.line.specs.declared.Family.{Family}
+use Rattle.line.specs.Family.{Family}
 use Rattle.trace.specs.Tree.{Body, work_of, instructions_of}
 use Rattle.trace.specs.Fold.{its_instructions, Chains, nothing, chain_of, run, on_all}
 use Rattle.weigh.specs.Weighed.{Weigh}

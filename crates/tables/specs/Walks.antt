@@ -1,12 +1,11 @@
 -- For proofs and engines, not for the reader of document 01: a chain's table in a block of the scratch, with the word that
 -- says which rows are in use, and what the walks over the rows ask for and leave.
-use Rattle.std.specs.Prelude.{ℕ, ◌+◌, ◌/◌, ◌%◌, ◌^◌, ◌≤◌, ◌<◌, ◌≡◌, cond, List, [], ◌∷◌, ◌++◌, eqb, length, get_or, set}
+use Rattle.std.specs.Prelude.{ℕ, zero, suc, ◌+◌, ◌*◌, ◌/◌, ◌%◌, ◌^◌, ◌≤◌, ◌<◌, ◌≡◌, cond, List, [], ◌∷◌, ◌++◌, eqb, length, get_or, set}
 use Rattle.std.specs.Int.Bits.{bit_or}
 use Rattle.chain.specs.Plan.{CostLine, weight}
 use Rattle.trace.specs.Fold.{its_instructions, on_all, on_row}
 use Rattle.walk.specs.Measure.{cycles, instructions}
 use Rattle.tables.specs.declared.Pair.{Pair}
-use Rattle.tables.specs.declared.Four.{Four}
 
 -- the rows in use by a chain, by fours: bit b is set where a cost stands in one of the rows 4b to 4b + 3
 abbrev pub used : List CostLine → ℕ
@@ -97,21 +96,28 @@ pair_sum x y = record { cycles = cycles (x.cycles.0 + y.cycles.0); instructions 
 abbrev pub added : List ℕ → ℕ → Pair → List ℕ
 added t i x = paired t i (pair_sum (pair_at t i) x)
 
--- the same of four rows
-abbrev pub four_at : List ℕ → ℕ → Four
-four_at t i = record { a = pair_at t i; b = pair_at t (i + 2); c = pair_at t (i + 4); d = pair_at t (i + 6) }
+-- the numbers of a row, and of rows that stand side by side
+abbrev pub of_pair : Pair → ℕ → ℕ
+of_pair x zero = x.cycles.0
+of_pair x (suc k) = x.instructions.0
 
-abbrev pub laid : List ℕ → ℕ → Four → List ℕ
-laid t i x = paired (paired (paired (paired t i x.a) (i + 2) x.b) (i + 4) x.c) (i + 6) x.d
+abbrev pub numbers : List Pair → ℕ → ℕ
+numbers x k = of_pair (get_or x (k / 2) no_pair) (k % 2)
 
-abbrev pub no_four : Four
-no_four = record { a = no_pair; b = no_pair; c = no_pair; d = no_pair }
+-- m numbers x are stored from number i on
+pub record Laid (m i : ℕ) (x : ℕ → ℕ) (t t' : List ℕ) : Type 0 where
+  pub here : (k : ℕ) → k < m → get_or t' (i + k) 0 ≡ x k
+  pub off : (j : ℕ) → Out i m j → get_or t' j 0 ≡ get_or t j 0
 
-abbrev pub FourFits : Four → Four → Type 0
-FourFits x y = PairFits x.a y.a × PairFits x.b y.b × PairFits x.c y.c × PairFits x.d y.d
+-- n rows: those from number i on, rows that can be added to others, and that were
+abbrev pub RowsAt : List ℕ → ℕ → ℕ → List Pair → Type 0
+RowsAt t i n x = (k : ℕ) → k < n → get_or x k no_pair ≡ pair_at t (i + 2 * k)
 
-abbrev pub four_sum : Four → Four → Four
-four_sum x y = record { a = pair_sum x.a y.a; b = pair_sum x.b y.b; c = pair_sum x.c y.c; d = pair_sum x.d y.d }
+abbrev pub RowsFit : ℕ → List Pair → List Pair → Type 0
+RowsFit n x y = (k : ℕ) → k < n → PairFits (get_or x k no_pair) (get_or y k no_pair)
+
+abbrev pub RowSums : ℕ → List Pair → List Pair → List Pair → Type 0
+RowSums n x y z = (k : ℕ) → k < n → get_or z k no_pair ≡ pair_sum (get_or x k no_pair) (get_or y k no_pair)
 
 -- the fours in use in the tables at b, e and g
 abbrev pub in_use : ℕ → ℕ → ℕ → ℕ → List ℕ → ℕ

@@ -15,19 +15,23 @@
 
 #![tactic(auto)]
 
-ghost use Rattle.std.specs.Prelude.{◌≡◌, [], ◌+◌, ◌*◌, ◌/◌, ◌%◌, ◌^◌, ◌≤◌, ◌<◌, length, get_or, set};
+ghost use Rattle.std.specs.Prelude.{◌≡◌, ℕ, List, ⊤, refl, [], ◌+◌, ◌*◌, ◌/◌, ◌%◌, ◌^◌, ◌≤◌, ◌<◌, length, get_or, set};
 ghost use Rattle.std.specs.Int.Bits.{bit_or};
-ghost use Rattle.line.specs.declared.Family.TheVariants.{Base, Finishes};
+ghost use Rattle.line.specs.Family.{Base, Finishes};
 ghost use Rattle.trace.specs.Rows.{columns};
-ghost use Rattle.trace.specs.Promise.{tables, Promise, PromiseOf};
-ghost use Rattle.forecast.specs.OfList.{ForecastOf};
+ghost use Rattle.trace.specs.Promise.{tables, PromiseOf};
+ghost use Rattle.forecast.specs.Promise.{Forecast};
 ghost use Rattle.walk.specs.Weight.{by_asking, Factors};
 ghost use Rattle.walk.specs.Profiled.{Profiled};
 ghost use Rattle.tables.specs.Blocks.{since_at, part_at, child_at, Asks, Spent, Joined, Spawned};
-ghost use Rattle.tables.specs.Walks.{IsTable, Idles, Apart, PairFits, FourFits, SumsFit, Taken, no_pair, pair_at, pair_sum, paired, added, no_four, four_at, four_sum, laid, in_use, worded, TakesIn, TookIn, Cleared};
+ghost use Rattle.tables.specs.Walks.{IsTable, Idles, Apart, PairFits, SumsFit, Taken, no_pair, pair_at, pair_sum, paired, added, numbers, Laid, RowsAt, RowsFit, RowSums, in_use, worded, TakesIn, TookIn, Cleared};
 ghost use Rattle.tables.specs.Root.{lent, Admitted, Settled};
 ghost use Rattle.tables.specs.Reader.{Lent, ItemAsks, ItemLeaves, ItemsLeave, BodyAsks, BodyLeaves};
 ghost use Rattle.tables.specs.Reach.{OfARow, OfEachRow, ItemReaches, ItemsReach};
+
+use line::Refusal;
+use trace::Profile;
+use walk::Measure;
 
 // A row of a table: what of the chain stands in the row, by its measures. In the scratch these are two numbers side by
 // side.
@@ -80,93 +84,55 @@ fn no_pair() -> Pair
     }
 }
 
-// Four rows that stand side by side.
-#[derive(Clone, Copy)]
-struct Four {
-    a: Pair,
-    b: Pair,
-    c: Pair,
-    d: Pair,
+// The rows that stand side by side from number i on.
+fn rows_at<const N: usize>(t: &[u64], i: usize) -> [Pair; N]
+    requires { i + 2 * N ≤ length t.now }
+    ensures { RowsAt t.now i N result }
+{
+    let mut rows = [no_pair(); N];
+    for k in 0..N {
+        rows[k] = pair_at(t, i + 2 * k);
+    }
+    rows
 }
 
-// The four rows from number i on.
-fn four_at(t: &[u64], i: usize) -> Four
-    requires { i + 8 ≤ length t.now }
-    ensures { result ≡ four_at t.now i }
+// Each of some rows with one of as many others.
+fn sums<const N: usize>(x: &[Pair; N], y: &[Pair; N]) -> [Pair; N]
+    requires { RowsFit N x.now y.now }
+    ensures { RowSums N x.now y.now result }
 {
-    Four {
-        a: pair_at(t, i),
-        b: pair_at(t, i + 2),
-        c: pair_at(t, i + 4),
-        d: pair_at(t, i + 6),
+    let mut rows = [no_pair(); N];
+    for k in 0..N {
+        rows[k] = sum(x[k], y[k]);
+    }
+    rows
+}
+
+// The numbers from number i on are now those of these rows.
+fn put_rows<const N: usize>(t: &mut [u64], i: usize, x: &[Pair; N])
+    requires { i + 2 * N ≤ length t.old }
+    ensures { Laid (2 * N) i (numbers x.now) t.old t.new }
+{
+    for (k, pair) in x.iter().enumerate() {
+        put_pair(t, i + 2 * k, *pair);
     }
 }
 
-// Each of four rows with one of four others.
-fn sums(x: Four, y: Four) -> Four
-    requires { FourFits x y }
-    ensures { result ≡ four_sum x y }
+// So many rows from a number on: those of the block at b are added to the prefix's and cleared, and those of the block at
+// g are moved to the block at e. All are read before the first is written, so that several go at a time.
+fn take<const N: usize>(t: &mut [u64], b: usize, e: usize, g: usize, from: usize)
+    requires apart { Apart (from + 2 * N) b e g t.old }
+    requires sums_fit { SumsFit (from + 2 * N) b t.old }
+    ensures { Taken b e g (from + 2 * N) from (from + 2 * N) t.old t.new }
 {
-    Four {
-        a: sum(x.a, y.a),
-        b: sum(x.b, y.b),
-        c: sum(x.c, y.c),
-        d: sum(x.d, y.d),
-    }
-}
-
-// The numbers from number i on are now those of these four rows.
-fn put_four(t: &mut [u64], i: usize, x: Four)
-    requires { i + 8 ≤ length t.old }
-    ensures { t.new ≡ laid t.old i x }
-{
-    put_pair(t, i, x.a);
-    put_pair(t, i + 2, x.b);
-    put_pair(t, i + 4, x.c);
-    put_pair(t, i + 6, x.d);
-}
-
-// Four rows of no chain.
-fn no_four() -> Four
-    ensures { result ≡ no_four }
-{
-    Four {
-        a: no_pair(),
-        b: no_pair(),
-        c: no_pair(),
-        d: no_pair(),
-    }
-}
-
-// Four rows from a number on: those of the block at b are added to the prefix's and cleared, and those of the block at g
-// are moved to the block at e. All are read before the first is written, so that several go at a time.
-fn take_four(t: &mut [u64], b: usize, e: usize, g: usize, from: usize)
-    requires apart { Apart (from + 8) b e g t.old }
-    requires sums_fit { SumsFit (from + 8) b t.old }
-    ensures { Taken b e g (from + 8) from (from + 8) t.old t.new }
-{
-    let x = four_at(t, b + from);
-    let y = four_at(t, g + from);
-    let all = sums(four_at(t, from), x);
-    put_four(t, from, all);
-    put_four(t, b + from, no_four());
-    put_four(t, e + from, y);
-    put_four(t, g + from, no_four());
-}
-
-// One row from a number on, in the same way.
-fn take_row(t: &mut [u64], b: usize, e: usize, g: usize, from: usize)
-    requires apart { Apart (from + 2) b e g t.old }
-    requires sums_fit { SumsFit (from + 2) b t.old }
-    ensures { Taken b e g (from + 2) from (from + 2) t.old t.new }
-{
-    let x = pair_at(t, b + from);
-    let y = pair_at(t, g + from);
-    let all = sum(pair_at(t, from), x);
-    put_pair(t, from, all);
-    put_pair(t, b + from, no_pair());
-    put_pair(t, e + from, y);
-    put_pair(t, g + from, no_pair());
+    let x: [Pair; N] = rows_at(t, b + from);
+    let y: [Pair; N] = rows_at(t, g + from);
+    let none = [no_pair(); N];
+    let all = sums(&rows_at(t, from), &x);
+    put_rows(t, from, &all);
+    put_rows(t, b + from, &none);
+    put_rows(t, e + from, &y);
+    put_rows(t, g + from, &none);
 }
 
 // Numbers from to stop - 1: those of the block at b are added to the prefix's and cleared, and those of the block at g are
@@ -177,10 +143,8 @@ fn take_rows(t: &mut [u64], b: usize, e: usize, g: usize, from: usize, stop: usi
     requires both_even { (from % 2 ≡ 0) × (stop % 2 ≡ 0) }
     ensures { Taken b e g stop from stop t.old t.new }
 {
-    let mut i = from;
-    while i < stop {
-        take_row(t, b, e, g, i);
-        i += 2;
+    for i in (from..stop).step_by(2) {
+        take::<1>(t, b, e, g, i);
     }
 }
 
@@ -192,13 +156,14 @@ fn take_next(t: &mut [u64], b: usize, e: usize, g: usize, w: usize, from: usize)
     ensures { Taken b e g w from (from + 8) t.old t.new }
 {
     if from + 8 <= w {
-        take_four(t, b, e, g, from);
+        take::<4>(t, b, e, g, from);
         return;
     }
     take_rows(t, b, e, g, from, w);
 }
 
 // Takes all w numbers, in one walk over the fours that are in the word: the others are zero in the three blocks.
+#[tactic(auto, using(crate::proofs::Bits::within))]
 fn take_fours(t: &mut [u64], b: usize, e: usize, g: usize, w: usize, word: u64)
     requires apart { Apart w b e g t.old × (w % 2 ≡ 0) }
     requires sums_fit { SumsFit w b t.old }
@@ -241,31 +206,22 @@ fn take_in(t: &mut [u64], b: usize, e: usize, g: usize, w: usize)
     take_fours(t, b, e, g, w, word);
 }
 
-// Clears numbers from to stop - 1 of the block at a.
-fn clear_rows(t: &mut [u64], a: usize, from: usize, stop: usize)
-    requires { a + stop ≤ length t.old }
-    ensures { Cleared a stop from stop t.old t.new }
-{
-    let mut i = from;
-    while i < stop {
-        t[a + i] = 0;
-        i += 1;
-    }
-}
-
 // Clears four rows from a number on, as far as there are w numbers.
 fn clear_next(t: &mut [u64], a: usize, w: usize, from: usize)
     requires { (a + w ≤ length t.old) × (from + 8 < 2 ^ 64) }
     ensures { Cleared a w from (from + 8) t.old t.new }
 {
     if from + 8 <= w {
-        clear_rows(t, a, from, from + 8);
+        t[a + from..a + from + 8].fill(0);
         return;
     }
-    clear_rows(t, a, from, w);
+    if from < w {
+        t[a + from..a + w].fill(0);
+    }
 }
 
 // Clears all w numbers of the block at a, in one walk over the fours that are in the word: the others are zero.
+#[tactic(auto, using(crate::proofs::Bits::within))]
 fn clear_fours(t: &mut [u64], a: usize, w: usize, word: u64)
     requires { (a + w ≤ length t.old) × Idles word w a t.old }
     ensures { Cleared a w 0 w t.old t.new }
@@ -431,10 +387,10 @@ fn read_items(
         rows.old (w + 1) w result t.new rows.new }
 {
     let mut g = f;
-    let mut kind = line::kind_at(trace, f.at);
+    let mut kind = line::kind_at::<line::Base>(trace, f.at);
     while kind != 5 {
         g = item(trace, kind, g, row, deep, t, rows, w, asking);
-        kind = line::kind_at(trace, g.at);
+        kind = line::kind_at::<line::Base>(trace, g.at);
     }
     g
 }
@@ -478,30 +434,27 @@ fn item(
 {
     let at = f.at;
     let n = w + 1;
-    if kind == 6 {
-        let v = walk::weight_at(trace, at, row, asking);
-        let i = walk::instructions_at(trace, at);
-        walk::spend(rows, row, v, i);
-        return spend(t, n, w, f, row, v, i);
+    match kind {
+        6 => {
+            let v = walk::weight_at(trace, at, row, asking);
+            let i = walk::instructions_at(trace, at);
+            walk::spend(rows, row, v, i);
+            spend(t, n, w, f, row, v, i)
+        }
+        4 => join(t, n, w, f),
+        1 | 7 => f.passed(),
+        _ => {
+            let site = line::site_at(trace, at) as usize;
+            let o = child_part(kind, n, f);
+            let before = walk::credit_of(rows, site);
+            let c = body(trace, at + 1, site, deep - 1, &mut t[o..], rows, w, asking);
+            walk::returned(rows, site, c.work, c.prefix, before);
+            if kind == 2 {
+                return f.called(c);
+            }
+            spawned(t, n, w, f, c)
+        }
     }
-    if kind == 4 {
-        return join(t, n, w, f);
-    }
-    if kind == 7 {
-        return f.passed();
-    }
-    if kind == 1 {
-        return f.passed();
-    }
-    let site = line::site_at(trace, at) as usize;
-    let o = child_part(kind, n, f);
-    let before = walk::credit_of(rows, site);
-    let c = body(trace, at + 1, site, deep - 1, &mut t[o..], rows, w, asking);
-    walk::returned(rows, site, c.work, c.prefix, before);
-    if kind == 2 {
-        return f.called(c);
-    }
-    spawned(t, n, w, f, c)
 }
 
 // Inside a call, an async or a finish: the numbers of the finish or async around, in whose chains a call's items go on,
@@ -513,7 +466,8 @@ struct Reach {
 }
 
 // The finish family: reads the items of a call, an async or a finish, directly in an invocation of a row, up to its
-// return, and leaves a join to its caller. At most deep more open inside one another.
+// return, and leaves a join to its caller. At most deep more open inside one another. These readers are no twins of those
+// above: a call's items go on in the chains around it.
 #[cycle(finish_readers)]
 fn finish_items(
     trace: &[u8],
@@ -530,10 +484,10 @@ fn finish_items(
     ensures items_reach { ItemsReach (by_asking []) trace.now row f t.old (w + 1) w result }
 {
     let mut g = f;
-    let mut next = line::finish_kind_at(trace, f.around.at);
+    let mut next = line::kind_at::<line::Finishes>(trace, f.around.at);
     while next != 5 {
         g = finish_item(trace, next, g, row, deep, t, rows, w);
-        next = line::finish_kind_at(trace, g.around.at);
+        next = line::kind_at::<line::Finishes>(trace, g.around.at);
     }
     g
 }
@@ -580,39 +534,27 @@ fn finish_item(
     ensures item_reaches { ItemReaches (by_asking []) trace.now row f t.old (w + 1) w result }
 {
     let around = f.around;
-    let far = f.far;
-    let at = around.at;
-    if next == 6 {
-        let v = walk::weight_at(trace, at, row, &[]);
-        let i = walk::instructions_at(trace, at);
-        walk::spend(rows, row, v, i);
-        let spent = spend(t, w + 1, w, around, row, v, i);
-        return Reach { around: spent, far };
-    }
-    if next == 7 {
-        let passed = around.passed();
-        return Reach {
-            around: passed,
-            far,
-        };
-    }
-    if next == 1 {
-        let passed = around.passed();
-        return Reach {
-            around: passed,
-            far,
-        };
-    }
-    if next == 2 {
-        return finish_call(trace, f, deep, t, rows, w);
-    }
-    if next == 0x12 {
-        return finish_async(trace, f, deep, t, rows, w);
-    }
-    let within = finish_finish(trace, around, row, deep, t, rows, w);
-    Reach {
-        around: within,
-        far,
+    match next {
+        6 => {
+            let v = walk::weight_at(trace, around.at, row, &[]);
+            let i = walk::instructions_at(trace, around.at);
+            walk::spend(rows, row, v, i);
+            let spent = spend(t, w + 1, w, around, row, v, i);
+            Reach { around: spent, ..f }
+        }
+        1 | 7 => Reach {
+            around: around.passed(),
+            ..f
+        },
+        2 => finish_call(trace, f, deep, t, rows, w),
+        0x12 => finish_async(trace, f, deep, t, rows, w),
+        _ => {
+            let within = finish_finish(trace, around, row, deep, t, rows, w);
+            Reach {
+                around: within,
+                ..f
+            }
+        }
     }
 }
 
@@ -635,7 +577,6 @@ fn finish_call(
         result) }
 {
     let around = f.around;
-    let far = f.far;
     let site = line::site_at(trace, around.at) as usize;
     let credit = walk::credit_of(rows, site);
     let begins = around.series();
@@ -645,19 +586,17 @@ fn finish_call(
     };
     let r = finish_items(trace, callee, site, deep - 1, t, rows, w);
     let left = r.around;
-    let work = left.work;
-    let reached = r.far;
-    let most = reached.larger(left.series());
+    let most = r.far.max(left.series());
     walk::returned(
         rows,
         site,
-        work.minus(around.work),
+        left.work.minus(around.work),
         most.minus(begins),
         credit,
     );
     Reach {
         around: left.passed(),
-        far: far.larger(reached),
+        far: f.far.max(r.far),
     }
 }
 
@@ -680,19 +619,16 @@ fn finish_async(
         result) }
 {
     let around = f.around;
-    let far = f.far;
-    let at = around.at;
-    let site = line::site_at(trace, at) as usize;
+    let site = line::site_at(trace, around.at) as usize;
     let o = part(w + 1, around);
     let credit = walk::credit_of(rows, site);
-    let c = finish_body(trace, at + 1, site, deep - 1, &mut t[o..], rows, w);
+    let c = finish_body(trace, around.at + 1, site, deep - 1, &mut t[o..], rows, w);
     walk::returned(rows, site, c.work, c.prefix, credit);
-    let begins = around.series();
-    let reached = begins.plus(c.prefix);
+    let reached = around.series().plus(c.prefix);
     let behind = spawned(t, w + 1, w, around, c);
     Reach {
         around: behind,
-        far: far.larger(reached),
+        far: f.far.max(reached),
     }
 }
 
@@ -722,20 +658,81 @@ fn settle(t: &mut [u64], rows: &mut [u64], m: usize)
     requires { (2 * m < length t.old) × (columns * m ≤ length rows.old) }
     ensures { Settled m t.old rows.old t.new rows.new }
 {
-    let mut i = 0;
-    while i < m {
+    for i in 0..m {
         let x = pair_at(t, 2 * i);
         rows[trace::COLUMNS * i + trace::ON_SPAN] = x.cycles.0;
         rows[trace::COLUMNS * i + trace::ION_SPAN] = x.instructions.0;
-        put_pair(t, 2 * i, no_pair());
-        i += 1;
     }
-    t[2 * m] = 0;
+    t[..2 * m + 1].fill(0);
+}
+
+// A family's traces as the engine reads them.
+pub trait Reader: line::Family {
+    // What may be asked of such a trace.
+    ghost may_ask: { List ℕ → Type 0 };
+
+    // Reads the body of a row from its first line up to and with its return, each cost weighed by what is asked.
+    fn body(
+        trace: &[u8],
+        from: usize,
+        row: usize,
+        deep: usize,
+        t: &mut [u64],
+        rows: &mut [u64],
+        w: usize,
+        asking: &[u64],
+    ) -> walk::Open
+        requires asked { may_ask asking.now }
+        requires body { BodyAsks Self.family (by_asking asking.now) trace.now from row deep t.old rows.old (w + 1) w }
+        ensures { BodyLeaves Self.family (by_asking asking.now) trace.now from row t.old
+            rows.old (w + 1) w result t.new rows.new };
+
+    // Nothing has to be asked.
+    ghost no_asking: { may_ask [] };
+}
+
+impl Reader for line::Base {
+    ghost may_ask = { λ _. ⊤ };
+
+    fn body(
+        trace: &[u8],
+        from: usize,
+        row: usize,
+        deep: usize,
+        t: &mut [u64],
+        rows: &mut [u64],
+        w: usize,
+        asking: &[u64],
+    ) -> walk::Open {
+        body(trace, from, row, deep, t, rows, w, asking)
+    }
+
+    ghost no_asking = { tt };
+}
+
+impl Reader for line::Finishes {
+    // A forecast is of document 01's traces alone.
+    ghost may_ask = { λ asking. asking ≡ [] };
+
+    fn body(
+        trace: &[u8],
+        from: usize,
+        row: usize,
+        deep: usize,
+        t: &mut [u64],
+        rows: &mut [u64],
+        w: usize,
+        _asking: &[u64],
+    ) -> walk::Open {
+        finish_body(trace, from, row, deep, t, rows, w)
+    }
+
+    ghost no_asking = { refl };
 }
 
 // An accepted trace of count sites and lines lines, each cost weighed by its row's factor: the room is cleared, the root
 // is read, and its table is moved out.
-fn accepted(
+fn accepted<F: Reader>(
     text: &[u8],
     depth: usize,
     sites: usize,
@@ -744,16 +741,17 @@ fn accepted(
     scratch: &mut [u64],
     rows: &mut [u64],
     asking: &[u64],
-) -> trace::Answer
-    requires admitted { Admitted Base text.now depth sites scratch.old rows.old count lines }
+) -> Result<Profile, Refusal>
+    requires admitted { Admitted F.family text.now depth sites scratch.old rows.old count lines }
     requires factors { Factors asking.now }
-    ensures { Profiled Base tables (by_asking asking.now) text.now depth sites
+    requires asked { F.may_ask asking.now }
+    ensures { Profiled F.family tables (by_asking asking.now) text.now depth sites
         (lent scratch.old rows.old) result (lent scratch.new rows.new) }
 {
     walk::zero(scratch, scratch.len());
     walk::zero(rows, trace::COLUMNS * (count + 1));
     let before = walk::credit_of(rows, 0);
-    let f = body(
+    let f = F::body(
         text,
         0,
         0,
@@ -765,100 +763,36 @@ fn accepted(
     );
     walk::returned(rows, 0, f.work, f.prefix, before);
     settle(scratch, rows, count + 1);
-    trace::Answer::Accepted(f.work.0, f.prefix.0, count, lines)
+    Ok(Profile {
+        work: f.work.0,
+        span: f.prefix.0,
+        sites: count,
+        lines,
+    })
 }
 
-// The table engine: any text, any limits and any room.
-pub fn profile(
+// The table engine: any text of a family's, any limits and any room.
+pub fn profile<F: Reader>(
     text: &[u8],
     depth: usize,
     sites: usize,
     scratch: &mut [u64],
     rows: &mut [u64],
-) -> trace::Answer
-    ensures { Promise tables text.now depth sites (lent scratch.old rows.old)
+) -> Result<Profile, Refusal>
+    ensures { PromiseOf F.family tables text.now depth sites (lent scratch.old rows.old)
         result (lent scratch.new rows.new) }
 {
-    match admit::for_tables(text, depth, sites, scratch.len(), rows.len()) {
-        admit::Verdict::Accepted(count, lines) => accepted(
-            text,
-            depth,
-            sites,
-            count,
-            lines,
-            scratch,
-            rows,
-            &[],
-        ),
-        admit::Verdict::Refused(number, line) => trace::Answer::Refused(number, line),
-    }
-}
-
-// An accepted trace of the finish family, of count sites and lines lines: the room is cleared, the root is read, and
-// its table is moved out.
-fn finish_accepted(
-    text: &[u8],
-    depth: usize,
-    sites: usize,
-    count: usize,
-    lines: usize,
-    scratch: &mut [u64],
-    rows: &mut [u64],
-) -> trace::Answer
-    requires { Admitted Finishes text.now depth sites scratch.old rows.old count lines }
-    ensures { Profiled Finishes tables (by_asking []) text.now depth sites
-        (lent scratch.old rows.old) result (lent scratch.new rows.new) }
-{
-    walk::zero(scratch, scratch.len());
-    walk::zero(rows, trace::COLUMNS * (count + 1));
-    let before = walk::credit_of(rows, 0);
-    let f = finish_body(text, 0, 0, depth - 1, scratch, rows, 2 * (count + 1));
-    walk::returned(rows, 0, f.work, f.prefix, before);
-    settle(scratch, rows, count + 1);
-    trace::Answer::Accepted(f.work.0, f.prefix.0, count, lines)
-}
-
-// The table engine for a trace of the finish family: any text, any limits and any room.
-pub fn finish_profile(
-    text: &[u8],
-    depth: usize,
-    sites: usize,
-    scratch: &mut [u64],
-    rows: &mut [u64],
-) -> trace::Answer
-    ensures { PromiseOf Finishes tables text.now depth sites
-        (lent scratch.old rows.old) result (lent scratch.new rows.new) }
-{
-    match admit::finish_for_tables(text, depth, sites, scratch.len(), rows.len()) {
-        admit::Verdict::Accepted(count, lines) => finish_accepted(
-            text, depth, sites, count, lines, scratch, rows,
-        ),
-        admit::Verdict::Refused(number, line) => trace::Answer::Refused(number, line),
-    }
-}
-
-// An accepted trace of count sites and lines lines, asked by a list of forecast entries: refusal 19 or 20 of the list,
-// else the trace with each cost weighed by its row's factor.
-fn asked(
-    text: &[u8],
-    depth: usize,
-    sites: usize,
-    count: usize,
-    lines: usize,
-    list: forecast::Listed,
-    scratch: &mut [u64],
-    rows: &mut [u64],
-) -> trace::Answer
-    requires { Admitted Base text.now depth sites scratch.old rows.old count lines }
-    ensures { ForecastOf tables list text.now depth sites
-        (lent scratch.old rows.old) result (lent scratch.new rows.new) }
-{
-    let number = forecast::check(list, count);
-    if number != 0 {
-        return trace::Answer::Refused(number, 0);
-    }
-    let factors = forecast::factors(list);
-    accepted(text, depth, sites, count, lines, scratch, rows, &factors)
+    let found = admit::for_tables::<F>(text, depth, sites, scratch.len(), rows.len())?;
+    accepted::<F>(
+        text,
+        depth,
+        sites,
+        found.sites,
+        found.lines,
+        scratch,
+        rows,
+        &[],
+    )
 }
 
 // The table engine's forecast: any text, any limits, any list of entries and any room.
@@ -866,18 +800,24 @@ pub fn forecast(
     text: &[u8],
     depth: usize,
     sites: usize,
-    list: forecast::Listed,
+    entries: &[forecast::Entry],
     scratch: &mut [u64],
     rows: &mut [u64],
-) -> trace::Answer
-    ensures { ForecastOf tables list text.now depth sites
+) -> Result<Profile, Refusal>
+    ensures { Forecast tables entries.now text.now depth sites
         (lent scratch.old rows.old) result (lent scratch.new rows.new) }
 {
-    let verdict = admit::for_tables(text, depth, sites, scratch.len(), rows.len());
-    match verdict {
-        admit::Verdict::Accepted(count, lines) => asked(
-            text, depth, sites, count, lines, list, scratch, rows,
-        ),
-        admit::Verdict::Refused(number, line) => trace::Answer::Refused(number, line),
-    }
+    let admitted = admit::for_tables::<line::Base>(text, depth, sites, scratch.len(), rows.len())?;
+    forecast::check(entries, admitted.sites)?;
+    let factors = forecast::factors(entries);
+    accepted::<line::Base>(
+        text,
+        depth,
+        sites,
+        admitted.sites,
+        admitted.lines,
+        scratch,
+        rows,
+        &factors,
+    )
 }

@@ -10,11 +10,10 @@ use lib.ListN.{length}
 use lib.Seq.{append_snoc}
 use lib.Dec.{ltb}
 use borrow.Author.Tests.{eq-eqb, le-ltb, le-leb}
-use Rattle.line.specs.declared.Family.{Family}
-use Rattle.line.specs.declared.Family.TheVariants.{Base, Finishes}
+use Rattle.line.specs.Family.{Family, Base, Finishes}
 use Rattle.line.specs.declared.Frame.{Frame}
 use Rattle.line.specs.declared.Frame.TheVariants.{Return}
-use Rattle.line.specs.declared.Read.{Read}
+use Rattle.line.specs.Read.{Read}
 use Rattle.trace.specs.Shape.{root, step, sites}
 use Rattle.trace.specs.Refusals.{most_lines, line_count, checks, open_now, empty, after_cost, stray, too_deep, fault, accepted, refused, judged, scan, reads_of, verdict_of}
 use Rattle.trace.specs.Tree.{Way, call, spawn, async, pass, finish, opening, site, carry, Leaf, spend, sync, note, line_of, LeafWithin, Body, done, leaf, child, LeafOf, WayOf, Of, lines_of, Within}

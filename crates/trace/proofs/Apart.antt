@@ -6,7 +6,7 @@ use mathlib.Core.List.{List, ◌∷◌, ◌++◌, append_assoc, Memᴰ}
 use Prim.Native.Nat.{ℕ, zero, suc, ◌+◌, ◌<◌}
 use native.Mathlib.Nat.{le_dest}
 use native.Mathlib.Omega.{arith}
-use Rattle.line.specs.declared.Family.TheVariants.{Base}
+use Rattle.line.specs.Family.{Base}
 use Rattle.line.specs.declared.Frame.{Frame}
 use Rattle.chain.specs.Plan.{CostLine, Plan, costs, Less, On, Apart}
 use Rattle.chain.proofs.Parts.{apart-on}

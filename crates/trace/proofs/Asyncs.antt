@@ -5,7 +5,7 @@ use mathlib.Core.List.Memᴰ
 use mathlib.Core.List.{List, ◌∷◌, ◌++◌, Memᴰ}
 use Prim.Native.Nat.{ℕ, suc, ◌+◌}
 use native.Mathlib.Omega.{arith}
-use Rattle.line.specs.declared.Family.TheVariants.{Finishes}
+use Rattle.line.specs.Family.{Finishes}
 use Rattle.line.specs.declared.Frame.{Frame}
 use Rattle.line.specs.declared.Frame.TheVariants.{Call}
 use Rattle.chain.specs.Plan.{CostLine, Plan, none, costs, Less, On, Apart}

@@ -6,13 +6,11 @@ use mathlib.Core.List.{List}
 use Prim.Native.Nat.{ℕ, zero, suc, ◌+◌}
 use native.Mathlib.Omega.{arith}
 use lib.Dec.{eqb}
-use Rattle.line.specs.declared.Family.{Family}
-use Rattle.line.specs.declared.Family.TheVariants.{Base, Finishes}
+use Rattle.line.specs.Family.{Family, Base, Finishes}
 use Rattle.line.specs.declared.Frame.{Frame}
 use Rattle.chain.specs.Plan.{weight}
 use Rattle.chain.specs.Over.{lines_in}
-use Rattle.trace.specs.declared.Answer.{Answer}
-use Rattle.trace.specs.declared.Answer.TheVariants.{Accepted}
+use Rattle.trace.specs.Answer.{Answer, profiled}
 use Rattle.trace.specs.Column.{Column}
 use Rattle.trace.specs.Promise.{Engine, Lent, Marked}
 use Rattle.trace.specs.Tree.{Way, call, spawn, async, pass, finish, invokes, opening, Note, site, carry, Leaf, spend, sync, note, line_of, leaf_work, Body, done, leaf, child, LeafOf, Of, lines_of, ahead, leaf_cycles, leaf_instructions, size, PartsOf, all_of, direct_of, work_of, local_of, ilocal_of, span_of, made_sum, row_sum, outer_sum, outer_row}
@@ -156,7 +154,7 @@ cell-blank b s Column.ion_span = ap (on_row its_instructions s) (chain-blank b)
 
 -- what comes back by a tree is what comes back by the tree without its places
 module _ (e : Engine) (m : ℕ) (b : Body) (c : Lent) (q : Answer) (y : Lent) where
-  answer-blank : Accepted (work_of (blank_body b)) (span_of (blank_body b)) m (size (blank_body b)) ≡ Accepted (work_of b) (span_of b) m (size b)
+  answer-blank : profiled (work_of (blank_body b)) (span_of (blank_body b)) m (size (blank_body b)) ≡ profiled (work_of b) (span_of b) m (size b)
   answer-blank = rw (work-blank b, span-blank b, size-blank b)
 
   marked-blank : Marked e (size (blank_body b)) (lines_in (chain_of 0 0 (blank_body b))) c.marks y.marks ≡ Marked e (size b) (lines_in (chain_of 0 0 b)) c.marks y.marks

@@ -8,8 +8,7 @@ use native.Mathlib.Omega.{arith}
 use native.Mathlib.Nat.{le_dest}
 use lib.ListN.{length, length-append}
 use lib.Dec.{T}
-use Rattle.line.specs.declared.Family.{Family}
-use Rattle.line.specs.declared.Family.TheVariants.{Base}
+use Rattle.line.specs.Family.{Family, Base}
 use Rattle.line.specs.declared.Frame.{Frame}
 use Rattle.line.specs.declared.Frame.TheVariants.{Sync, Cost}
 use Rattle.chain.specs.Plan.{CostLine, costs, On, Apart}

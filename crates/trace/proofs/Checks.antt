@@ -9,7 +9,7 @@ use native.Mathlib.Omega.{arith}
 use lib.ListN.{length}
 use lib.Dec.{eqb}
 use borrow.Author.Tests.{eqb-true, eqb-false}
-use Rattle.line.specs.declared.Family.{Family}
+use Rattle.line.specs.Family.{Family}
 use Rattle.trace.specs.Refusals.{out_of_range, broken, line_count, too_many, checks, refused, scan, reads_of, verdict_of}
 use Rattle.trace.specs.Promise.{Engine, tables, marks, Lent, enough}
 

@@ -3,7 +3,7 @@ use mathlib.Core.Path.{◌≡◌, sym, subst}
 use mathlib.Core.Bool.{true}
 use mathlib.Core.List.{List}
 use Prim.Native.Nat.{ℕ}
-use Rattle.line.specs.declared.Family.{Family}
+use Rattle.line.specs.Family.{Family}
 use Rattle.chain.specs.Over.{lines_in}
 use Rattle.trace.specs.Shape.{root}
 use Rattle.trace.specs.Series.{SpanOf, ChosenOf}

@@ -3,7 +3,7 @@ use mathlib.Core.Path.{◌≡◌, refl, sym, ap, subst}
 use mathlib.Core.Bool.{Bool, true}
 use mathlib.Core.List.{List, [], ◌∷◌, map}
 use Prim.Native.Nat.{ℕ, zero, suc}
-use Rattle.line.specs.declared.Family.TheVariants.{Finishes}
+use Rattle.line.specs.Family.{Finishes}
 use Rattle.chain.specs.Plan.{choose}
 use Rattle.chain.specs.Over.{lines_in}
 use Rattle.trace.specs.Shape.{root}

@@ -1,8 +1,7 @@
 -- The plan of an invocation's body fits the rule of its cost lines, in each family.
 use mathlib.Core.List.{List, ◌∷◌, ◌++◌}
 use Prim.Native.Nat.{ℕ}
-use Rattle.line.specs.declared.Family.{Family}
-use Rattle.line.specs.declared.Family.TheVariants.{Base, Finishes}
+use Rattle.line.specs.Family.{Family, Base, Finishes}
 use Rattle.line.specs.declared.Frame.{Frame}
 use Rattle.chain.proofs.Over.{Fits}
 use Rattle.trace.specs.Series.{rule_of}

@@ -8,7 +8,7 @@ use native.Mathlib.Omega.{arith}
 use native.Mathlib.Nat.{le_dest}
 use lib.ListN.{length, length-append}
 use lib.Dec.{T}
-use Rattle.line.specs.declared.Family.{Family}
+use Rattle.line.specs.Family.{Family}
 use Rattle.line.specs.declared.Frame.{Frame}
 use Rattle.line.specs.declared.Frame.TheVariants.{Return}
 use Rattle.trace.specs.Shape.{Is, closed, step, walk, open_at, has, first_is, Contains, Directly, Returns}

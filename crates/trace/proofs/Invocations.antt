@@ -8,7 +8,7 @@ use native.Mathlib.Omega.{arith}
 use lib.ListN.{length, length-append}
 use lib.Seq.{append_snoc}
 use lib.Dec.{eqb}
-use Rattle.line.specs.declared.Family.{Family}
+use Rattle.line.specs.Family.{Family}
 use Rattle.line.specs.declared.Frame.{Frame}
 use Rattle.line.specs.declared.Frame.TheVariants.{Return}
 use Rattle.trace.specs.Shape.{Is, root, step, walk, sites}

@@ -6,11 +6,10 @@ use mathlib.Core.Path.{◌≡◌, refl, ap, ap₂, ◌∙◌, sym, subst}
 use lib.Dec.{eqb}
 use Rattle.digits.specs.Digits.{small_form}
 use Rattle.digits.proofs.Laws.{small-length, form_again}
-use Rattle.line.specs.declared.Family.{Family}
-use Rattle.line.specs.declared.Read.{Read}
-use Rattle.line.specs.Read.{width}
+use Rattle.line.specs.Family.{Family}
+use Rattle.line.specs.Read.{width, Read}
 use Rattle.line.proofs.Small.{read_at_small_of}
-use Rattle.trace.specs.declared.Answer.{Answer}
+use Rattle.trace.specs.Answer.{Answer}
 use Rattle.trace.specs.Refusals.{line_count, checks, Verdict, refused, scan, reads_from_of, reads_of, verdict_of}
 use Rattle.trace.specs.Promise.{Engine, Lent, enough, PromiseOf}
 use Rattle.trace.proofs.Checks.{same-room}

@@ -47,3 +47,4 @@ pub mod Further
 pub mod Escaping
 pub mod Enclosed
 pub mod Written
+pub mod Answers

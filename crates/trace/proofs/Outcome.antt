@@ -9,17 +9,17 @@ use lib.ListN.{length, get_or, replicate, get_or-eq_default}
 use lib.Dec.{ltb, leb}
 use lib.Seq.{ext_get_or}
 use borrow.Author.Tests.{leb-true, lt-ltb, le-ltb}
-use Rattle.line.specs.declared.Family.{Family}
-use Rattle.line.specs.declared.Family.TheVariants.{Base}
+use Rattle.std.specs.Prelude.{Err}
+use Rattle.line.specs.Family.{Family, Base}
 use Rattle.line.specs.declared.Frame.{Frame}
+use Rattle.line.specs.Refusal.{refusal}
 use Rattle.chain.specs.Over.{lines_in}
-use Rattle.trace.specs.declared.Answer.{Answer}
-use Rattle.trace.specs.declared.Answer.TheVariants.{Accepted}
+use Rattle.trace.specs.Answer.{Answer, profiled}
 use Rattle.trace.specs.Shape.{has, sites}
 use Rattle.trace.specs.Rows.{columns, SpansOf}
 use Rattle.trace.specs.Column.{Column, slot}
 use Rattle.trace.specs.Refusals.{line_count, Verdict, accepted, refused, verdict_of, verdict}
-use Rattle.trace.specs.Promise.{Engine, tables, marks, Lent, scratch_room, marks_room, rows_room, enough, acceptance, refusal, RowOf, Marked, ProfileOf, KeptOf, Kept, PromiseOf, Promise}
+use Rattle.trace.specs.Promise.{Engine, tables, marks, Lent, scratch_room, marks_room, rows_room, enough, acceptance, RowOf, Marked, ProfileOf, KeptOf, Kept, PromiseOf, Promise}
 use Rattle.trace.specs.Tree.{Body, size, PartsOf, Parts, work_of, instructions_of, span_of}
 use Rattle.trace.specs.Fold.{chain_of}
 use Rattle.trace.specs.ByTree.{cell, RowsBy, ProfileBy}
@@ -49,10 +49,10 @@ module _ {f : Family} (D : ℕ) (t : List Frame) (p : PartsOf f D t) where
   pub length-is : length t ≡ size p.body
   length-is = ap length p.lines ∙ size_is p.body
 
-  answer-is : acceptance t (span_of p.body) ≡ Accepted (work_of p.body) (span_of p.body) (sites t) (size p.body)
+  answer-is : acceptance t (span_of p.body) ≡ profiled (work_of p.body) (span_of p.body) (sites t) (size p.body)
   answer-is =
-      ap (λ (w : ℕ). Accepted w (span_of p.body) (sites t) (length t)) (total-tree D t p)
-      ∙ ap (Accepted (work_of p.body) (span_of p.body) (sites t)) length-is
+      ap (λ (w : ℕ). profiled w (span_of p.body) (sites t) (length t)) (total-tree D t p)
+      ∙ ap (profiled (work_of p.body) (span_of p.body) (sites t)) length-is
 
   row_from : (l : List ℕ) (s : ℕ) → ((k : Column) → get_or l (slot s k) 0 ≡ cell p.body s k) → RowOf f t (lines_in (root_chain D t p)) l s
   row_from l s h =
@@ -231,7 +231,7 @@ module _ (m : ℕ) (b : Body) (before : Lent) (rows_fit : columns * (m + 1) ≤ 
   some_profile : (e : Engine) → (e ≡ marks → size b ≤ length before.marks) → (r : Answer) × (after : Lent) × ProfileBy e m b before r after
   some_profile e h =
       let w = marked_by e h in (
-        Accepted (work_of b) (span_of b) m (size b),
+        profiled (work_of b) (span_of b) m (size b),
         record { scratch = replicate (length before.scratch) 0; rows = new_rows; marks = w.0 },
         record { answer = refl; rows = rows-by; scratch = refl; marked = w.1 },
       )
@@ -261,11 +261,11 @@ kept-met-of f e (accepted t) before h =
       },
     )
 kept-met-of f e (refused n k) before h = (
-  refusal n k,
+  Err (refusal n k),
   before,
   record {
     when_accepted = λ u q. clash (cc);
-    when_refused = λ i j q. (let c : n ≡ i = cc in let d : k ≡ j = cc in (ap (λ (z : ℕ). refusal z k) c ∙ ap (refusal i) d, refl));
+    when_refused = λ i j q. (let c : n ≡ i = cc in let d : k ≡ j = cc in (ap (λ (z : ℕ). Err (refusal z k)) c ∙ ap (λ (z : ℕ). Err (refusal i z)) d, refl));
   },
 )
 

@@ -6,13 +6,15 @@ use mathlib.Core.Bool.{Bool}
 use mathlib.Core.List.{List}
 use Prim.Native.Nat.{ℕ, ◌+◌, ◌*◌, ◌/◌, ◌<◌}
 use lib.ListN.{length, get_or}
-use Rattle.line.specs.declared.Family.{Family}
+use Rattle.std.specs.Prelude.{Err}
+use Rattle.line.specs.Family.{Family}
 use Rattle.line.specs.declared.Frame.{Frame}
-use Rattle.trace.specs.declared.Answer.{Answer}
+use Rattle.line.specs.Refusal.{refusal}
+use Rattle.trace.specs.Answer.{Answer}
 use Rattle.trace.specs.Shape.{sites}
 use Rattle.trace.specs.Rows.{columns}
 use Rattle.trace.specs.Refusals.{Verdict, accepted, refused, verdict_of}
-use Rattle.trace.specs.Promise.{Engine, Lent, enough, refusal, PromiseOf}
+use Rattle.trace.specs.Promise.{Engine, Lent, enough, PromiseOf}
 use Rattle.trace.specs.Places.{OnlyPlaces, RefusedWith}
 use Rattle.trace.specs.Tree.{Body, PartsOf}
 use Rattle.trace.specs.ByTree.{ProfileBy}
@@ -108,4 +110,4 @@ places w e s z D M before r q x y h k d a b =
     go (refused n l) (refused m o) i j c =
         let f = h.when_refused n l i in
         let g = k.when_refused m o (lent (refused m o) j) in
-        (f.0 ∙ ap (λ (a : ℕ). refusal a l) c.0 ∙ ap (refusal m) c.1 ∙ sym g.0, f.1 ∙ sym g.1)
+        (f.0 ∙ ap (λ (a : ℕ). Err (refusal a l)) c.0 ∙ ap (λ (a : ℕ). Err (refusal m a)) c.1 ∙ sym g.0, f.1 ∙ sym g.1)

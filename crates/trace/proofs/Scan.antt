@@ -8,14 +8,12 @@ use native.Mathlib.Omega.{arith}
 use lib.ListN.{length}
 use lib.Dec.{eqb, leb}
 use borrow.Author.Tests.{eqb-true, leb-true, ltb-false, not-false}
-use Rattle.line.specs.declared.Family.{Family}
-use Rattle.line.specs.declared.Family.TheVariants.{Base, Finishes}
+use Rattle.std.specs.Prelude.{Ok, Err}
+use Rattle.line.specs.Family.{Family, Base, Finishes}
 use Rattle.line.specs.declared.Frame.{Frame}
 use Rattle.line.specs.declared.Frame.TheVariants.{Site, Call, Spawn, Sync, Return, Cost, Instructions, Async, Finish}
-use Rattle.line.specs.declared.Read.{Read}
-use Rattle.line.specs.declared.Read.TheVariants.{Line, Refused}
 use Rattle.line.specs.Table.{frame, only, value_only, table_of, fields_of}
-use Rattle.line.specs.Read.{fields, read_line_of, line_at, read_at_of, read_at}
+use Rattle.line.specs.Read.{fields, read_line_of, line_at, read_at_of, read_at, Read, says}
 use Rattle.line.proofs.Cases.{frames-of}
 use Rattle.line.proofs.RoundTrip.{table-fields-of}
 use Rattle.trace.specs.Shape.{Is, step, walk}
@@ -71,7 +69,7 @@ in_table Base Finish q = clash (cc)
 in_table Finishes Finish q = tt
 
 -- a line that reads as a frame has its own number, and the frame is in the table
-pub read_line_lem : (g : Family) (s : List ℕ) (n k : ℕ) (f : Frame) → read_line_of g s n ≡ Line k f → (k ≡ n) × InTable g f
+pub read_line_lem : (g : Family) (s : List ℕ) (n k : ℕ) (f : Frame) → read_line_of g s n ≡ says k f → (k ≡ n) × InTable g f
 read_line_lem g s n k f e =
     let (same, h, w, t) = frames-of g s n k f e in
     (same, in_table g f (ap (table_of g) (table-fields-of g (fields s) f t) ∙ t))
@@ -86,7 +84,7 @@ abbrev pub Reads : ℕ → List Read → List Frame → Type 0
 Reads n [] [] = Unit {0}
 Reads n [] (f ∷ u) = ⊥
 Reads n (r ∷ rs) [] = ⊥
-Reads n (r ∷ rs) (f ∷ u) = (r ≡ Line n f) × Reads (suc n) rs u
+Reads n (r ∷ rs) (f ∷ u) = (r ≡ says n f) × Reads (suc n) rs u
 
 pub reads-length : (n : ℕ) (rs : List Read) (u : List Frame) → Reads n rs u → length u ≡ length rs
 reads-length n [] [] r = refl
@@ -99,11 +97,11 @@ reads-from-length g s n zero = refl
 reads-from-length g s n (suc count) = ap suc (reads-from-length g s (suc n) count)
 
 -- each line by its number
-pub read_is : (g : Family) (s : List ℕ) (n count : ℕ) (u : List Frame) → Reads n (reads_from_of g s n count) u → (i : ℕ) (f : Frame) → Is u i f → read_at_of g s (n + i) ≡ Line (n + i) f
+pub read_is : (g : Family) (s : List ℕ) (n count : ℕ) (u : List Frame) → Reads n (reads_from_of g s n count) u → (i : ℕ) (f : Frame) → Is u i f → read_at_of g s (n + i) ≡ says (n + i) f
 read_is g s n zero [] r i f h = absurd h
 read_is g s n zero (e ∷ u) r i f h = absurd r
 read_is g s n (suc count) [] r i f h = absurd r
-read_is g s n (suc count) (e ∷ u) r zero f h = let z : n + 0 ≡ n = omega arith in rw (z, r.0) (ap (Line n) h)
+read_is g s n (suc count) (e ∷ u) r zero f h = let z : n + 0 ≡ n = omega arith in rw (z, r.0) (ap (says n) h)
 read_is g s n (suc count) (e ∷ u) r (suc i) f h = let z : n + suc i ≡ suc n + i = omega arith in rw z (read_is g s (suc n) count u r.1 i f h)
 
 -- the frames that a scan took
@@ -124,7 +122,7 @@ took g D M s before n (suc count) t e = go (λ f q. took g D M s (before ++ f �
     rs : List Read
     rs = reads_from_of g s (suc n) count
 
-    on : (k : ℕ) (f : Frame) (b : Bool) → (scan D M (before ++ f ∷ []) rs ≡ accepted t → Took g D M (before ++ f ∷ []) t (suc n) rs) → read_at_of g s n ≡ Line k f → eqb (fault D M before f) 0 ≡ b
+    on : (k : ℕ) (f : Frame) (b : Bool) → (scan D M (before ++ f ∷ []) rs ≡ accepted t → Took g D M (before ++ f ∷ []) t (suc n) rs) → read_at_of g s n ≡ says k f → eqb (fault D M before f) 0 ≡ b
         → cond b (scan D M (before ++ f ∷ []) rs) (refused (fault D M before f) k) ≡ accepted t → Took g D M before t n (read_at_of g s n ∷ rs)
     on k f true rec r h q =
         let w = rec q in
@@ -133,14 +131,14 @@ took g D M s before n (suc count) t e = go (λ f q. took g D M s (before ++ f �
           rest = f ∷ w.rest;
           whole = w.whole ∙ append_assoc before (f ∷ []) w.rest;
           clean = (eqb-true (fault D M before f) 0 h, x.1, w.clean);
-          reads = (r ∙ ap (λ (i : ℕ). Line i f) x.0, w.reads);
+          reads = (r ∙ ap (λ (i : ℕ). says i f) x.0, w.reads);
         }
     on k f false rec r h q = clash (cc)
 
     go : ((f : Frame) → scan D M (before ++ f ∷ []) rs ≡ accepted t → Took g D M (before ++ f ∷ []) t (suc n) rs) → (r : Read) → read_at_of g s n ≡ r
         → judged D M before r (λ f. scan D M (before ++ f ∷ []) rs) ≡ accepted t → Took g D M before t n (read_at_of g s n ∷ rs)
-    go rec (Refused m k) r q = clash (cc)
-    go rec (Line k f) r q = on k f (eqb (fault D M before f) 0) (rec f) r refl q
+    go rec (Err w) r q = clash (cc)
+    go rec (Ok x) r q = on x.number x.frame (eqb (fault D M before x.frame) 0) (rec x.frame) r refl q
 
 -- frames that pass, within the limits of checks 1 and 3
 pub record Fine (g : Family) (D M : ℕ) (t : List Frame) : Type 0 where
@@ -194,7 +192,7 @@ pub accepted-fine-of : (g : Family) (s : List ℕ) (D M : ℕ) (room : Bool) (t 
 accepted-fine-of g s D M room t e = (accepted-is-of g s D M room t e).1.fine
 
 -- LAW: each line of an accepted text reads as its frame
-pub accepted-reads-of : (g : Family) (s : List ℕ) (D M : ℕ) (room : Bool) (t : List Frame) → verdict_of g s D M room ≡ accepted t → (i : ℕ) (f : Frame) → Is t i f → read_at_of g s i ≡ Line i f
+pub accepted-reads-of : (g : Family) (s : List ℕ) (D M : ℕ) (room : Bool) (t : List Frame) → verdict_of g s D M room ≡ accepted t → (i : ℕ) (f : Frame) → Is t i f → read_at_of g s i ≡ says i f
 accepted-reads-of g s D M room t e i f h =
     let z : 0 + i ≡ i = omega arith in
     rw z at (read_is g s 0 (line_count s) t (accepted-is-of g s D M room t e).1.reads_as i f h)
@@ -209,7 +207,7 @@ accepted-is = accepted-is-of Base
 pub accepted-fine : (s : List ℕ) (D M : ℕ) (room : Bool) (t : List Frame) → verdict s D M room ≡ accepted t → Fine Base D M t
 accepted-fine = accepted-fine-of Base
 
-pub accepted-reads : (s : List ℕ) (D M : ℕ) (room : Bool) (t : List Frame) → verdict s D M room ≡ accepted t → (i : ℕ) (f : Frame) → Is t i f → read_at s i ≡ Line i f
+pub accepted-reads : (s : List ℕ) (D M : ℕ) (room : Bool) (t : List Frame) → verdict s D M room ≡ accepted t → (i : ℕ) (f : Frame) → Is t i f → read_at s i ≡ says i f
 accepted-reads = accepted-reads-of Base
 
 pub accepted-length : (s : List ℕ) (D M : ℕ) (room : Bool) (t : List Frame) → verdict s D M room ≡ accepted t → length t ≡ line_count s

@@ -5,7 +5,7 @@ use mathlib.Core.List.{List, [], ◌∷◌, map}
 use Prim.Native.Nat.{ℕ}
 use Rattle.chain.specs.Plan.{choose}
 use Rattle.chain.specs.Over.{lines_in}
-use Rattle.line.specs.declared.Family.TheVariants.{Base}
+use Rattle.line.specs.Family.{Base}
 use Rattle.trace.specs.Shape.{root}
 use Rattle.trace.specs.Series.{Span}
 use Rattle.trace.specs.Rows.{total, on_span}

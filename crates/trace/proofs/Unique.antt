@@ -3,8 +3,7 @@ use mathlib.Core.Path.{◌≡◌}
 use mathlib.Core.List.{List, [], ◌∷◌}
 use Prim.Native.Nat.{ℕ}
 use native.Mathlib.Omega.{arith}
-use Rattle.line.specs.declared.Family.{Family}
-use Rattle.line.specs.declared.Family.TheVariants.{Base}
+use Rattle.line.specs.Family.{Family, Base}
 use Rattle.line.specs.declared.Frame.{Frame}
 use Rattle.chain.proofs.Over as Over
 use Rattle.trace.specs.Shape.{root}

@@ -7,13 +7,12 @@ use Prim.Native.Nat.{ℕ, zero, suc, ◌+◌, ◌/◌, ◌≤◌, ◌<◌}
 use native.Mathlib.Omega.{arith}
 use lib.ListN.{length}
 use lib.Dec.{eqb, ltb}
+use Rattle.std.specs.Prelude.{Ok, Err}
 use Rattle.line.specs.declared.Place.{Place}
-use Rattle.line.specs.declared.Family.{Family}
+use Rattle.line.specs.Family.{Family}
 use Rattle.line.specs.declared.Frame.{Frame}
 use Rattle.line.specs.declared.Frame.TheVariants.{Site}
-use Rattle.line.specs.declared.Read.{Read}
-use Rattle.line.specs.declared.Read.TheVariants.{Line, Refused}
-use Rattle.line.specs.Read.{read_at_of}
+use Rattle.line.specs.Read.{read_at_of, Read, says}
 use Rattle.trace.specs.Shape.{if_site, if_makes, if_opens, if_instructions, root, step, walk, open_at, sites}
 use Rattle.trace.specs.Refusals.{line_count, checks, open_now, empty, after_root, is_cost, after_cost, stray, last_site, misplaced, above_m, place_again, declared, undeclared, too_deep, fault, Verdict, accepted, refused, judged, scan, reads_from_of, reads_of, verdict_of}
 use Rattle.trace.specs.Places.{Alike, OnlyPlaces}
@@ -187,20 +186,20 @@ NotTen v = (line : ℕ) → ¬ (v ≡ refused 10 line)
 
 -- two readings that are the same but for a site's place
 abbrev SameRead : Read → Read → Type 0
-SameRead (Line n f) (Line m g) = (n ≡ m) × (blank f ≡ blank g)
-SameRead (Line n f) (Refused k m) = ⊥
-SameRead (Refused k n) (Line m g) = ⊥
-SameRead (Refused k n) (Refused l m) = (k ≡ l) × (n ≡ m)
+SameRead (Ok x) (Ok y) = (x.number ≡ y.number) × (blank x.frame ≡ blank y.frame)
+SameRead (Ok x) (Err q) = ⊥
+SameRead (Err r) (Ok y) = ⊥
+SameRead (Err r) (Err q) = (r.number ≡ q.number) × (r.line ≡ q.line)
 
 same_self : (r : Read) → SameRead r r
-same_self (Line n f) = (refl, refl)
-same_self (Refused k n) = (refl, refl)
+same_self (Ok x) = (refl, refl)
+same_self (Err r) = (refl, refl)
 
 alike_same : (g : Family) (s z : List ℕ) (n : ℕ) → Alike g s z n → SameRead (read_at_of g s n) (read_at_of g z n)
 alike_same g s z n (inl e) = subst (SameRead (read_at_of g s n)) e (same_self (read_at_of g s n))
 alike_same g s z n (inr w) =
     subst (λ (r : Read). SameRead r (read_at_of g z n)) (sym w.reads_one)
-    (subst (SameRead (Line n (Site w.number w.place))) (sym w.reads_other) (refl, refl))
+    (subst (SameRead (says n (Site w.number w.place))) (sym w.reads_other) (refl, refl))
 
 -- what comes of line n with this fault, where v is the verdict without one
 abbrev faulted : ℕ → ℕ → Verdict → Verdict
@@ -221,13 +220,13 @@ judged-same : (D M : ℕ) (t u : List Frame) (on on' : Frame → Verdict) → Bu
     → ((f g : Frame) → blank f ≡ blank g → NotTen (on f) → NotTen (on' g) → SameVerdict (on f) (on' g))
     → (r q : Read) → SameRead r q → NotTen (judged D M t r on) → NotTen (judged D M u q on')
     → SameVerdict (judged D M t r on) (judged D M u q on')
-judged-same D M t u on on' d rec (Refused k n) (Refused l m) e h i = e
-judged-same D M t u on on' d rec (Refused k n) (Line m g) e h i = absurd e
-judged-same D M t u on on' d rec (Line n f) (Refused l m) e h i = absurd e
-judged-same D M t u on on' d rec (Line n f) (Line m g) e h i =
-    let c = fault_alike D M t u f g d e.1
-    (λ a. h n (ap (λ (j : ℕ). faulted n j (on f)) a)) (λ a. i m (ap (λ (j : ℕ). faulted m j (on' g)) a)) in
-    faulted-same n m (fault D M t f) (fault D M u g) (on f) (on' g) e.0 c (rec f g e.1) h i
+judged-same D M t u on on' d rec (Err r) (Err q) e h i = e
+judged-same D M t u on on' d rec (Err r) (Ok y) e h i = absurd e
+judged-same D M t u on on' d rec (Ok x) (Err q) e h i = absurd e
+judged-same D M t u on on' d rec (Ok x) (Ok y) e h i =
+    let c = fault_alike D M t u x.frame y.frame d e.1
+    (λ a. h x.number (ap (λ (j : ℕ). faulted x.number j (on x.frame)) a)) (λ a. i y.number (ap (λ (j : ℕ). faulted y.number j (on' y.frame)) a)) in
+    faulted-same x.number y.number (fault D M t x.frame) (fault D M u y.frame) (on x.frame) (on' y.frame) e.0 c (rec x.frame y.frame e.1) h i
 
 scan-same : (x : Family) (D M : ℕ) (s z : List ℕ) (t u : List Frame) (n count : ℕ) → ButPlaces t u
     → ((i : ℕ) → n ≤ i → i < n + count → Alike x s z i)

@@ -8,7 +8,7 @@ use native.Mathlib.Nat.{mul-div_right, mul-mod_right}
 use native.Mathlib.Omega.{arith}
 use lib.ListN.{length, take, length-append}
 use lib.Seq.{take_at, drop_at}
-use Rattle.line.specs.declared.Family.TheVariants.{Base}
+use Rattle.line.specs.Family.{Base}
 use Rattle.line.specs.declared.Frame.{Frame}
 use Rattle.line.specs.Read.{read_line, line_at}
 use Rattle.line.specs.Write.{writable, write_chars}

@@ -2,8 +2,7 @@
 -- m is the number of its sites, and b the body of its root.
 use Rattle.std.specs.Prelude.{ℕ, ◌+◌, ◌*◌, ◌≤◌, ◌≡◌, List, length, get_or, replicate}
 use Rattle.chain.specs.Over.{lines_in}
-use Rattle.trace.specs.declared.Answer.{Answer}
-use Rattle.trace.specs.declared.Answer.TheVariants.{Accepted}
+use Rattle.trace.specs.Answer.{Answer, profiled}
 use Rattle.trace.specs.Rows.{columns}
 use Rattle.trace.specs.Column.{Column, slot}
 use Rattle.trace.specs.Promise.{Engine, Lent, Marked}
@@ -26,7 +25,7 @@ pub record RowsBy (m : ℕ) (b : Body) (before after : List ℕ) : Type 0 where
   pub rest : (i : ℕ) → columns * (m + 1) ≤ i → get_or after i 0 ≡ get_or before i 0
 
 pub record ProfileBy (e : Engine) (m : ℕ) (b : Body) (before : Lent) (r : Answer) (after : Lent) : Type 0 where
-  pub answer : r ≡ Accepted (work_of b) (span_of b) m (size b)
+  pub answer : r ≡ profiled (work_of b) (span_of b) m (size b)
   pub rows : RowsBy m b before.rows after.rows
   pub scratch : after.scratch ≡ replicate (length before.scratch) 0
   pub marked : Marked e (size b) (lines_in (chain_of 0 0 b)) before.marks after.marks

@@ -1,6 +1,6 @@
 -- Twelve traces of asyncs and finishes as characters, and what was worked out by hand of each, by document 02's sentences.
 use Rattle.std.specs.Prelude.{ℕ, zero, suc, ◌≡◌, true, List, [], ◌∷◌, ◌++◌}
-use Rattle.line.specs.declared.Family.TheVariants.{Finishes}
+use Rattle.line.specs.Family.{Finishes}
 use Rattle.line.specs.declared.Frame.{Frame}
 use Rattle.trace.specs.Shape.{root}
 use Rattle.trace.specs.Series.{SpanOf, ChosenOf}

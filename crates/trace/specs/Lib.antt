@@ -5,6 +5,7 @@ pub mod Rows
 pub mod Column
 pub mod Refusals
 pub mod Small
+pub mod Answer
 pub mod Promise
 pub mod Places
 pub mod Tree

@@ -1,22 +1,21 @@
 -- "Places decide refusals 6 and 10 and nothing else": when two texts differ only in places; an answer's refusal by
 -- number.
-use Rattle.std.specs.Prelude.{ℕ, ◌<◌, ◌≡◌, ◌⊎◌, List, length}
-use Rattle.line.specs.declared.Family.{Family}
+use Rattle.std.specs.Prelude.{ℕ, ◌<◌, ◌≡◌, ◌⊎◌, List, length, Err}
+use Rattle.line.specs.Family.{Family}
 use Rattle.line.specs.declared.Place.{Place}
 use Rattle.line.specs.declared.Frame.TheVariants.{Site}
-use Rattle.line.specs.declared.Read.TheVariants.{Line}
-use Rattle.line.specs.Read.{read_at_of}
-use Rattle.trace.specs.declared.Answer.{Answer}
+use Rattle.line.specs.Read.{read_at_of, says}
+use Rattle.line.specs.Refusal.{refusal}
+use Rattle.trace.specs.Answer.{Answer}
 use Rattle.trace.specs.Refusals.{line_count}
-use Rattle.trace.specs.Promise.{refusal}
 
 -- "A site line carries its place": line n of both texts reads as a site line of one number, each with its place
 pub record SameSite (g : Family) (s z : List ℕ) (n : ℕ) : Type 0 where
   pub number : ℕ
   pub place : Place
   pub other : Place
-  pub reads_one : read_at_of g s n ≡ Line n (Site number place)
-  pub reads_other : read_at_of g z n ≡ Line n (Site number other)
+  pub reads_one : read_at_of g s n ≡ says n (Site number place)
+  pub reads_other : read_at_of g z n ≡ says n (Site number other)
 
 -- line n of both texts has the same reading, frame or refusal, or is a site line of the same number
 abbrev pub Alike : Family → List ℕ → List ℕ → ℕ → Type 0
@@ -29,4 +28,4 @@ pub record OnlyPlaces (g : Family) (s z : List ℕ) : Type 0 where
 
 -- "Refused: a number and a line": the answer is the refusal of this number, with some line
 abbrev pub RefusedWith : ℕ → Answer → Type 0
-RefusedWith number r = (line : ℕ) × (r ≡ refusal number line)
+RefusedWith number r = (line : ℕ) × (r ≡ Err (refusal number line))

@@ -1,10 +1,9 @@
 -- What each engine promises: the answer, and what each lent slice holds afterwards.
-use Rattle.std.specs.Prelude.{ℕ, ◌+◌, ◌*◌, ◌≤◌, ◌<◌, ◌≡◌, Bool, cond, ◌&&◌, List, leb, length, get_or, replicate}
-use Rattle.line.specs.declared.Family.{Family}
-use Rattle.line.specs.declared.Family.TheVariants.{Base}
+use Rattle.std.specs.Prelude.{ℕ, ◌+◌, ◌*◌, ◌≤◌, ◌<◌, ◌≡◌, Bool, cond, ◌&&◌, List, leb, length, get_or, replicate, Err}
+use Rattle.line.specs.Family.{Family, Base}
 use Rattle.line.specs.declared.Frame.{Frame}
-use Rattle.trace.specs.declared.Answer.{Answer}
-use Rattle.trace.specs.declared.Answer.TheVariants.{Accepted, Refused}
+use Rattle.line.specs.Refusal.{refusal}
+use Rattle.trace.specs.Answer.{Answer, profiled}
 use Rattle.trace.specs.Shape.{root, has, sites}
 use Rattle.trace.specs.Series.{SpanOf, ChosenOf}
 use Rattle.trace.specs.Rows.{columns, total, calls, work, SpansOf, local, on_span, ilocal, ion_span}
@@ -43,11 +42,7 @@ enough e s D M lent = roomy e s D M (length lent.scratch) (length lent.rows) (le
 
 -- "Accepted: total work, total span, number of sites, number of lines."
 abbrev pub acceptance : List Frame → ℕ → Answer
-acceptance t span = Accepted (total t) span (sites t) (length t)
-
--- "Refused: a number and a line."
-abbrev pub refusal : ℕ → ℕ → Answer
-refusal number line = Refused number line
+acceptance t span = profiled (total t) span (sites t) (length t)
 
 -- row s of the rows; c is the chosen chain
 pub record RowOf (g : Family) (t : List Frame) (c : List ℕ) (rows : List ℕ) (s : ℕ) : Type 0 where
@@ -93,7 +88,7 @@ pub record ProfileOf (g : Family) (e : Engine) (t : List Frame) (before : Lent) 
 -- included, is unchanged" where it refuses.
 pub record KeptOf (g : Family) (e : Engine) (v : Verdict) (before : Lent) (r : Answer) (after : Lent) : Type 0 where
   pub when_accepted : (t : List Frame) → v ≡ accepted t → ProfileOf g e t before r after
-  pub when_refused : (number line : ℕ) → v ≡ refused number line → (r ≡ refusal number line) × (after ≡ before)
+  pub when_refused : (number line : ℕ) → v ≡ refused number line → (r ≡ Err (refusal number line)) × (after ≡ before)
 
 -- the same of the text s with limits D and M
 abbrev pub PromiseOf : Family → Engine → List ℕ → ℕ → ℕ → Lent → Answer → Lent → Type 0

@@ -1,13 +1,10 @@
 -- The refusals, each under its number, and the verdict on a text. Those of a line are asked with the lines before it,
 -- which have none.
-use Rattle.std.specs.Prelude.{ℕ, zero, suc, ◌/◌, ◌%◌, Bool, true, false, not, cond, ◌&&◌, ◌||◌, List, [], ◌∷◌, ◌++◌, length, eqb, ltb, leb}
+use Rattle.std.specs.Prelude.{ℕ, zero, suc, ◌/◌, ◌%◌, Bool, true, false, not, cond, ◌&&◌, ◌||◌, List, [], ◌∷◌, ◌++◌, length, eqb, ltb, leb, Ok, Err}
 use Rattle.line.specs.declared.Place.{Place}
-use Rattle.line.specs.declared.Family.{Family}
-use Rattle.line.specs.declared.Family.TheVariants.{Base}
+use Rattle.line.specs.Family.{Family, Base}
 use Rattle.line.specs.declared.Frame.{Frame}
-use Rattle.line.specs.declared.Read.{Read}
-use Rattle.line.specs.declared.Read.TheVariants.{Line, Refused}
-use Rattle.line.specs.Read.{width, read_at_of}
+use Rattle.line.specs.Read.{width, read_at_of, Read}
 use Rattle.trace.specs.Shape.{if_site, if_makes, if_opens, if_cost, if_instructions, open_at}
 
 -- 1: "D or M outside its range": "a depth limit D, 1 to 64, counting the root, and a site limit M, 0 to 255"
@@ -123,8 +120,8 @@ pub data Verdict : Type 0 where
 -- 5: "a wrong character in the line" and 6: "unknown kind, unused field not zero, or a value outside the table" are
 -- how it reads.
 abbrev pub judged : ℕ → ℕ → List Frame → Read → (Frame → Verdict) → Verdict
-judged D M before (Refused n k) on = refused n k
-judged D M before (Line k f) on = cond (eqb (fault D M before f) 0) (on f) (refused (fault D M before f) k)
+judged D M before (Err r) on = refused r.number r.line
+judged D M before (Ok x) on = cond (eqb (fault D M before x.frame) 0) (on x.frame) (refused (fault D M before x.frame) x.number)
 
 -- "the first faulty line decides, and within it the smallest number. 14 comes last": "lines end before the root's return"
 abbrev pub scan : ℕ → ℕ → List Frame → List Read → Verdict

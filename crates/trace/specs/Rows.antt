@@ -1,7 +1,6 @@
 -- The rows: seven numbers a row, as sums over invocations and lines.
 use Rattle.std.specs.Prelude.{ℕ, zero, suc, ◌+◌, ◌≡◌, Bool, true, false, cond, ◌&&◌, ◌||◌, List, [], ◌∷◌, eqb, length}
-use Rattle.line.specs.declared.Family.{Family}
-use Rattle.line.specs.declared.Family.TheVariants.{Base}
+use Rattle.line.specs.Family.{Family, Base}
 use Rattle.line.specs.declared.Frame.{Frame}
 use Rattle.trace.specs.Shape.{if_makes, if_cost, if_instructions, root, step, open_at, has}
 use Rattle.trace.specs.Async.{owner_is}

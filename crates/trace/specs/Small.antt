@@ -1,8 +1,7 @@
 -- How large the numbers of an accepted trace become. 02, request e: "With 65,536 lines, values below 2^32 and depth 64,
 -- every column stays below 2^54."
 use Rattle.std.specs.Prelude.{ℕ, ◌^◌, ◌<◌, List}
-use Rattle.line.specs.declared.Family.{Family}
-use Rattle.line.specs.declared.Family.TheVariants.{Base}
+use Rattle.line.specs.Family.{Family, Base}
 use Rattle.line.specs.declared.Frame.{Frame}
 use Rattle.trace.specs.Shape.{root}
 use Rattle.trace.specs.Series.{SpanOf}

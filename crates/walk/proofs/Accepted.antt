@@ -8,13 +8,13 @@ use native.Mathlib.Omega.{arith}
 use lib.Dec.{leb}
 use lib.ListN.{length, get_or, drop, replicate}
 use borrow.Author.Tests.{leb-true}
-use Rattle.line.specs.declared.Family.{Family}
+use Rattle.line.specs.Family.{Family}
 use Rattle.line.specs.declared.Frame.{Frame}
 use Rattle.trace.specs.Shape.{sites}
 use Rattle.trace.specs.Rows.{columns}
 use Rattle.trace.specs.Column.{Column, slot}
 use Rattle.trace.specs.Refusals.{accepted, verdict_of}
-use Rattle.trace.specs.declared.Answer.{Answer}
+use Rattle.trace.specs.Answer.{Answer}
 use Rattle.trace.specs.Promise.{Engine, Lent, enough, scratch_room, rows_room, marks_room, ProfileOf}
 use Rattle.trace.specs.Tree.{Body, size, Within, work_of, span_of, PartsOf}
 use Rattle.trace.specs.Fold.{nothing}

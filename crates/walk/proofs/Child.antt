@@ -8,8 +8,7 @@ use native.Mathlib.Omega.{arith}
 use lib.Dec.{eqb}
 use lib.ListN.{length, get_or}
 use borrow.Author.Tests.{eqb-true, eqb-false}
-use Rattle.line.specs.declared.Family.{Family}
-use Rattle.line.specs.declared.Family.TheVariants.{Base, Finishes}
+use Rattle.line.specs.Family.{Family, Base, Finishes}
 use Rattle.line.specs.declared.Frame.TheVariants.{Cost}
 use Rattle.chain.specs.Plan.{weight}
 use Rattle.trace.specs.Rows.{columns}

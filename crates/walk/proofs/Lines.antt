@@ -7,12 +7,10 @@ use Prim.Native.Nat.{ℕ, ◌+◌, ◌%◌, ◌≤◌}
 use native.Mathlib.Omega.{arith}
 use lib.Dec.{eqb}
 use borrow.Author.Tests.{ne_eqb}
-use Rattle.line.specs.declared.Family.{Family}
-use Rattle.line.specs.declared.Family.TheVariants.{Base, Finishes}
+use Rattle.line.specs.Family.{Family, Base, Finishes}
 use Rattle.line.specs.declared.Frame.{Frame}
 use Rattle.line.specs.declared.Frame.TheVariants.{Sync, Return, Cost}
-use Rattle.line.specs.declared.Read.TheVariants.{Line}
-use Rattle.line.specs.Read.{read_at_of}
+use Rattle.line.specs.Read.{read_at_of, says}
 use Rattle.line.specs.At.{kind_at, both_at, value_at}
 use Rattle.line.proofs.Items.{item_of}
 use Rattle.trace.specs.Tree.{Way, call, spawn, async, pass, finish, opening, Note, site, carry, note_line, spend, sync, note, line_of, Body, done, leaf, child, WayOf, ahead}
@@ -158,7 +156,7 @@ module _ (w : Weigh) (s : List ℕ) (n row kind : ℕ) (says : Says Finishes kin
 
 -- what a line carries for a cost before it: the second digit of a kind is 7 in kind 07 alone
 module _ (y : Family) (w : Weigh) (s : List ℕ) (row : ℕ) where
-  carried-by : (n : ℕ) (f : Frame) → read_at_of y s n ≡ Line n f → cond (eqb (kind_at s n) 7) (value_at s n) 0 ≡ cond (eqb (kind_of f % 16) 7) (value_of f) 0
+  carried-by : (n : ℕ) (f : Frame) → read_at_of y s n ≡ says n f → cond (eqb (kind_at s n) 7) (value_at s n) 0 ≡ cond (eqb (kind_of f % 16) 7) (value_of f) 0
   carried-by n f h =
       let e = item_of y s n n f h in
       let second : kind_at s n ≡ both_at s n % 16 = omega arith in

@@ -8,7 +8,12 @@ use lib.Dec.{ltb}
 use Rattle.chain.specs.Plan.{CostLine, weight, choose}
 use Rattle.chain.proofs.Lists.{weight-append}
 use Rattle.trace.specs.Fold.{cost_at, Chains, spent, joined, called, spawned}
+use Rattle.std.specs.Ordering.{is_lt, nat_cmp}
+use Rattle.std.proofs.lemmas.Bool.Decides.{nat_tests}
+use Rattle.trace.specs.Tree.{larger}
+use Rattle.walk.specs.declared.Cycles.{Cycles}
 use Rattle.walk.specs.declared.Open.{Open}
+use Rattle.walk.specs.Measure.{cycles}
 use Rattle.walk.specs.Numbers.{numbers, spent_n, later_heavier, joined_n, called_n, child_longer, spawned_n}
 
 pub spent-numbers : (n w s v i : ℕ) (k : Chains) → spent_n v (numbers n w k) ≡ numbers (n + 1) (w + v) (spent (cost_at n s v i) k)
@@ -46,3 +51,15 @@ module _ (f : Open) (k : Chains) (e : f ≡ numbers f.at f.work.0 k) where
 
 pub called-numbers : (n w : ℕ) (k : Chains) (c : Open) (g : List CostLine) → weight g ≡ c.prefix.0 → called_n c (numbers n w k) ≡ numbers c.at (w + c.work.0) (called g k)
 called-numbers n w k c g e = rw (weight-append k.c g, e)
+
+-- of two numbers, the first where the other is less
+pub greater-larger : (x y : ℕ) → cond (is_lt (nat_cmp y x)) x y ≡ larger x y
+greater-larger x y = grind (arith, nat_tests)
+
+-- `max` of cycles is the larger
+pub larger-max : (a b : Cycles) → cond (is_lt (nat_cmp b.0 a.0)) a b ≡ cycles (larger a.0 b.0)
+larger-max a b = go (is_lt (nat_cmp b.0 a.0)) ∙ ap cycles (greater-larger a.0 b.0)
+  where
+    go : (t : Bool) → cond t a b ≡ cycles (cond t a.0 b.0)
+    go true = refl
+    go false = refl

@@ -4,7 +4,7 @@ use mathlib.Core.List.{List}
 use Prim.Native.Nat.{ℕ, ◌+◌, ◌<◌}
 use native.Mathlib.Omega.{arith}
 use lib.ListN.{length}
-use Rattle.line.specs.declared.Family.{Family}
+use Rattle.line.specs.Family.{Family}
 use Rattle.trace.specs.Tree.{Leaf, leaf_work, leaf_instructions, Body, done, leaf, ahead, size, work_of}
 use Rattle.trace.specs.Fold.{Chains, nothing, joined, leaf_chains, run}
 use Rattle.weigh.specs.Weighed.{Weigh}

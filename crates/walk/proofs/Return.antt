@@ -5,7 +5,7 @@ use mathlib.Core.List.{List}
 use Prim.Native.Nat.{ℕ, ◌+◌, ◌^◌, ◌≤◌, ◌<◌}
 use native.Mathlib.Omega.{arith}
 use lib.Dec.{eqb}
-use lib.ListN.{length, get_or, set, length-set}
+use lib.ListN.{length, get_or}
 use borrow.Author.Tests.{eqb-true}
 use Rattle.trace.specs.Column.{Column, slot}
 use Rattle.trace.specs.Tree.{Way, leaf_work, leaf_instructions, Body, done, leaf, child, invokes, work_of, span_of}
@@ -13,17 +13,8 @@ use Rattle.trace.proofs.Basics.{cond_le}
 use Rattle.trace.proofs.Recurrence.{span_le, weight-chain}
 use Rattle.walk.specs.declared.Open.{Open}
 use Rattle.walk.specs.declared.Credit.{Credit}
-use Rattle.walk.specs.Gain.{credit_of, credited, ReturnFits, one_call, returned, Returned, cost_gain, gain, made, child_gain, most_gain, Grown}
+use Rattle.walk.specs.Gain.{credit_of, ReturnFits, one_call, returned, Returned, cost_gain, gain, made, child_gain, most_gain, Grown}
 use Rattle.walk.specs.Reader.{BodyDone}
-use Rattle.walk.proofs.Rows.{written_at}
-
--- a call was counted, and columns 2 and 3 were written
-pub credited-at : (s work span : ℕ) (a b : List ℕ) → length b ≡ length a → Grown a (one_call s) b → (i : ℕ) → i < length a
-    → get_or (credited s work span b) i 0 ≡ returned s work span (get_or a i 0) i
-credited-at s work span a b len grown i l =
-    let c = set b (slot s Column.work) work in
-    written_at c (slot s Column.span) span i (omega (arith, length-set b (slot s Column.work) work))
-    ∙ ap (cond (eqb (slot s Column.span) i) span) (written_at b (slot s Column.work) work i (omega arith) ∙ ap (cond (eqb (slot s Column.work) i) work) (grown i l))
 
 -- no number comes to more than what bounds all three, and a call
 returned_le : (s work span x i y : ℕ) → work ≤ y → span ≤ y → x ≤ y → returned s work span x i ≤ 1 + y

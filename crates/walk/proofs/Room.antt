@@ -4,18 +4,17 @@ use mathlib.Core.List.{List}
 use Prim.Native.Nat.{ℕ, ◌+◌, ◌*◌, ◌≤◌}
 use native.Mathlib.Omega.{arith}
 use lib.ListN.{length, drop, length-drop, length-take}
-use Rattle.line.specs.declared.Family.{Family}
+use Rattle.line.specs.Family.{Family}
 use Rattle.line.specs.declared.Frame.{Frame}
 use Rattle.line.specs.declared.Frame.TheVariants.{Return}
-use Rattle.line.specs.declared.Read.TheVariants.{Line}
-use Rattle.line.specs.Read.{line_at, read_at_of}
+use Rattle.line.specs.Read.{line_at, read_at_of, says}
 use Rattle.line.proofs.Cases.{frames-of}
 use Rattle.trace.specs.Tree.{Body, done, leaf, child, size}
 use Rattle.weigh.specs.Weighed.{Weigh}
 use Rattle.walk.specs.Stands.{Whole}
 use Rattle.walk.specs.Reads.{Reads}
 
-pub line-whole : (y : Family) (s : List ℕ) (n : ℕ) (f : Frame) → read_at_of y s n ≡ Line n f → Whole s n
+pub line-whole : (y : Family) (s : List ℕ) (n : ℕ) (f : Frame) → read_at_of y s n ≡ says n f → Whole s n
 line-whole y s n f e = omega (arith, (frames-of y (line_at s n) n n f e).1, length-take 23 (drop (23 * n) s), length-drop (23 * n) s)
 
 -- all lines of a body

@@ -6,10 +6,9 @@ use mathlib.Core.List.{List, [], ◌∷◌}
 use Prim.Native.Nat.{ℕ, suc, ◌+◌, ◌*◌, ◌-◌, ◌^◌, ◌≤◌, ◌<◌}
 use native.Mathlib.Omega.{arith}
 use lib.ListN.{length, get_or}
-use Rattle.line.specs.declared.Family.{Family}
+use Rattle.line.specs.Family.{Family}
 use Rattle.line.specs.declared.Frame.{Frame}
-use Rattle.line.specs.declared.Read.TheVariants.{Line}
-use Rattle.line.specs.Read.{read_at_of}
+use Rattle.line.specs.Read.{read_at_of, says}
 use Rattle.trace.specs.Shape.{sites}
 use Rattle.trace.specs.Rows.{columns}
 use Rattle.trace.specs.Column.{Column, slot}
@@ -60,7 +59,7 @@ module _ (w : Weigh) (some : Weighty w) where
       pub root-reads : Reads y w s 0 0 root_body
       root-reads =
           let p = parts D M t fine in
-          let all = stands-all y s t 0 (λ i f h. let z : i ≡ 0 + i = omega arith in subst (λ (k : ℕ). read_at_of y s k ≡ Line k f) z (accepted-reads-of y s D M room t acc i f h)) in
+          let all = stands-all y s t 0 (λ i f h. let z : i ≡ 0 + i = omega arith in subst (λ (k : ℕ). read_at_of y s k ≡ says k f) z (accepted-reads-of y s D M room t acc i f h)) in
           stands-reads y w s p.body 0 0 p.of (subst (Stands y s 0) p.lines all)
 
       -- what a reader asks for at the root of a trace of m sites, where its row numbers are zero

@@ -2,16 +2,14 @@
 use mathlib.Core.Path.{◌≡◌, ap, ◌∙◌}
 use mathlib.Core.List.{List}
 use Prim.Native.Nat.{ℕ}
-use Rattle.line.specs.declared.Family.{Family}
-use Rattle.line.specs.declared.Family.TheVariants.{Base, Finishes}
+use Rattle.line.specs.Family.{Family, Base, Finishes}
 use Rattle.line.specs.declared.Frame.{Frame}
-use Rattle.line.specs.declared.Read.TheVariants.{Line}
-use Rattle.line.specs.Read.{read_at_of}
+use Rattle.line.specs.Read.{read_at_of, says}
 use Rattle.line.specs.At.{site_at, value_at}
 use Rattle.line.proofs.Items.{item_of, item}
 use Rattle.walk.specs.Stands.{Says, kind_by, kind_of, site_of, value_of}
 
-kind-by : (y : Family) (s : List ℕ) (n : ℕ) (f : Frame) → read_at_of y s n ≡ Line n f → kind_by y s n ≡ kind_of f
+kind-by : (y : Family) (s : List ℕ) (n : ℕ) (f : Frame) → read_at_of y s n ≡ says n f → kind_by y s n ≡ kind_of f
 kind-by Base s n f h = (item s n n f h).0
 kind-by Finishes s n f h = (item_of Finishes s n n f h).0
 

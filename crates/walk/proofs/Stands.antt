@@ -5,12 +5,10 @@ use Prim.Native.Nat.{ℕ, suc, ◌+◌}
 use native.Mathlib.Numerals.{add-one}
 use native.Mathlib.Omega.{arith}
 use lib.ListN.{length}
-use Rattle.line.specs.declared.Family.{Family}
-use Rattle.line.specs.declared.Family.TheVariants.{Base, Finishes}
+use Rattle.line.specs.Family.{Family, Base, Finishes}
 use Rattle.line.specs.declared.Frame.{Frame}
 use Rattle.line.specs.declared.Frame.TheVariants.{Sync}
-use Rattle.line.specs.declared.Read.TheVariants.{Line}
-use Rattle.line.specs.Read.{line_at, read_at_of}
+use Rattle.line.specs.Read.{line_at, read_at_of, says}
 use Rattle.trace.specs.Shape.{Is}
 use Rattle.trace.specs.Tree.{Leaf, spend, sync, note, line_of, Body, done, leaf, child, LeafOf, Of, lines_of, size}
 use Rattle.trace.proofs.Tree.{size_is}
@@ -21,11 +19,11 @@ use Rattle.walk.specs.Stands.{Stands}
 use Rattle.walk.specs.Reads.{LeafReads, Reads}
 
 -- lines that read as frames, one by one, stand in the text
-pub stands-all : (y : Family) (s : List ℕ) (u : List Frame) (n : ℕ) → ((i : ℕ) (f : Frame) → Is u i f → read_at_of y s (n + i) ≡ Line (n + i) f) → Stands y s n u
+pub stands-all : (y : Family) (s : List ℕ) (u : List Frame) (n : ℕ) → ((i : ℕ) (f : Frame) → Is u i f → read_at_of y s (n + i) ≡ says (n + i) f) → Stands y s n u
 stands-all y s [] n h = tt
 stands-all y s (f ∷ u) n h =
     let e : n + 0 ≡ n = omega arith in
-    (subst (λ (k : ℕ). read_at_of y s k ≡ Line k f) e (h 0 f refl), stands-all y s u (n + 1) (λ i g q. let z : n + suc i ≡ n + 1 + i = omega arith in subst (λ (k : ℕ). read_at_of y s k ≡ Line k g) z (h (suc i) g q)))
+    (subst (λ (k : ℕ). read_at_of y s k ≡ says k f) e (h 0 f refl), stands-all y s u (n + 1) (λ i g q. let z : n + suc i ≡ n + 1 + i = omega arith in subst (λ (k : ℕ). read_at_of y s k ≡ says k g) z (h (suc i) g q)))
 
 -- lines that stand one behind the other
 stands-left : (y : Family) (s : List ℕ) (u v : List Frame) (n : ℕ) → Stands y s n (u ++ v) → Stands y s n u
@@ -39,7 +37,7 @@ stands_right y s (f ∷ u) v n h =
     subst (λ (k : ℕ). Stands y s k v) e (stands_right y s u v (n + 1) h.1)
 
 module _ (y : Family) (w : Weigh) (s : List ℕ) where
-  leaf-reads : (l : Leaf) (n row : ℕ) → read_at_of y s n ≡ Line n (line_of l) → LeafReads y w s n row (weighed_leaf w n row l)
+  leaf-reads : (l : Leaf) (n row : ℕ) → read_at_of y s n ≡ says n (line_of l) → LeafReads y w s n row (weighed_leaf w n row l)
   leaf-reads (spend v) n row h = (v, h, refl)
   leaf-reads sync n row h = h
   leaf-reads (note x) n row h = h

@@ -1,10 +1,10 @@
 -- What a cost line weighs by what is asked. By the factors of the rows it stays in the table, and is as it stands where a
 -- row has none; by a heavier line it is that line's weight alone that grows. Its instructions by the next line.
-use mathlib.Core.Path.{◌≡◌, refl, sym, ap, ◌∙◌, subst}
+use mathlib.Core.Path.{◌≡◌, sym, ap, ◌∙◌, subst}
 use mathlib.Core.Logic.{inl, inr}
 use mathlib.Core.Bool.{Bool, cond}
-use mathlib.Core.List.{List, [], ◌∷◌}
-use Prim.Native.Nat.{ℕ, zero, suc, ◌+◌, ◌≤◌, ◌<◌}
+use mathlib.Core.List.{List, []}
+use Prim.Native.Nat.{ℕ, ◌+◌, ◌≤◌, ◌<◌}
 use native.Mathlib.Omega.{arith}
 use lib.ListN.{length, get_or, get_or-eq_default}
 use borrow.Author.Tests.{lt-ltb, le-ltb, eq-eqb, ne_eqb}
@@ -14,30 +14,17 @@ use Rattle.weigh.specs.Weighed.{Tabled}
 use Rattle.forecast.specs.declared.Entry.{Entry}
 use Rattle.forecast.specs.Rewritten.{divided}
 use Rattle.forecast.specs.Asked.{asked as may_ask}
-use Rattle.forecast.specs.Listed.{factor_table}
+use Rattle.forecast.specs.Factors.{factor_table}
 use Rattle.forecast.specs.ByRow.{row_factor, by_entries}
 use Rattle.forecast.proofs.Asked.{factor_range, asked_good}
 use Rattle.forecast.proofs.Table.{table_at, table-length}
-use Rattle.forecast.proofs.OfList.{undeclared-row}
+use Rattle.forecast.proofs.Asked.{undeclared-row}
 use Rattle.forecast.proofs.Divided.{divided-one, divided-least, divided-most}
-use Rattle.walk.specs.Weight.{by_factors, more, by_line, asked_line, asked, by_asking, Factors, instructions_at}
-
--- a number that is there is the same whatever stands for those that are not
-pub factor_there : (fs : List ℕ) (s : ℕ) → s < length fs → get_or fs s 0 ≡ get_or fs s 1
-factor_there [] s l = absurd (omega arith)
-factor_there (x ∷ fs) zero l = refl
-factor_there (x ∷ fs) (suc s) l = factor_there fs s (omega arith)
+use Rattle.walk.specs.Weight.{by_factors, by_line, asked_line, asked, by_asking, Factors, instructions_at}
 
 -- LAW: a row behind the last factor weighs as it stands
 pub weight-behind : (fs : List ℕ) (n s v : ℕ) → length fs ≤ s → by_factors fs n s v ≡ v
 weight-behind fs n s v l = ap (divided v) (get_or-eq_default fs 1 {n = s} l) ∙ divided-one v
-
--- the line that is asked heavier, and any other
-pub line-heavier : (q n s v : ℕ) → n ≡ q → by_line q n s v ≡ v + more
-line-heavier q n s v e = ap (λ (b : Bool). cond b (v + more) v) (eq-eqb n q e)
-
-pub line_other : (q n s v : ℕ) → (n ≡ q → ⊥) → by_line q n s v ≡ v
-line_other q n s v h = ap (λ (b : Bool). cond b (v + more) v) (ne_eqb n q h)
 
 module _ (asking : List ℕ) (n s v : ℕ) where
   -- what is asked of a row that is among the numbers, and of one behind them
@@ -104,6 +91,3 @@ module _ (m : ℕ) (few : m ≤ 255) (es : List Entry) (may : may_ask m es ≡ 0
 -- the next line is of kind 07, or is not
 pub next_carries : (s : List ℕ) (n k v : ℕ) → k ≡ kind_at s (n + 1) → k ≡ 7 → v ≡ value_at s (n + 1) → v ≡ instructions_at s n
 next_carries s n k v e h q = q ∙ ap (λ (b : Bool). cond b (value_at s (n + 1)) 0) (sym (eq-eqb _ _ (sym e ∙ h)))
-
-pub next_carries_none : (s : List ℕ) (n k : ℕ) → k ≡ kind_at s (n + 1) → (k ≡ 7 → ⊥) → 0 ≡ instructions_at s n
-next_carries_none s n k e h = ap (λ (b : Bool). cond b (value_at s (n + 1)) 0) (sym (ne_eqb _ _ (λ x. h (e ∙ x))))

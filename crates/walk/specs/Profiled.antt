@@ -1,9 +1,9 @@
 -- For proofs and engines, not for the reader of document 01: what an engine makes of an accepted text whose cost lines weigh
 -- otherwise.
 use Rattle.std.specs.Prelude.{ℕ, ◌≡◌, List, [], ◌∷◌}
-use Rattle.line.specs.declared.Family.{Family}
+use Rattle.line.specs.Family.{Family}
 use Rattle.line.specs.declared.Frame.{Frame}
-use Rattle.trace.specs.declared.Answer.{Answer}
+use Rattle.trace.specs.Answer.{Answer}
 use Rattle.trace.specs.Refusals.{verdict_of, accepted}
 use Rattle.trace.specs.Promise.{Engine, Lent, enough, ProfileOf}
 use Rattle.weigh.specs.Weighed.{Weigh, reweighed}

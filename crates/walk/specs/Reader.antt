@@ -2,7 +2,7 @@
 -- leaves, whichever engine it serves.
 use Rattle.std.specs.Prelude.{ℕ, ◌+◌, ◌*◌, ◌^◌, ◌≤◌, ◌<◌, ◌≡◌, List, [], length, get_or}
 use Rattle.chain.specs.Plan.{CostLine}
-use Rattle.line.specs.declared.Family.{Family}
+use Rattle.line.specs.Family.{Family}
 use Rattle.trace.specs.Rows.{columns}
 use Rattle.trace.specs.Tree.{Body, size, work_of}
 use Rattle.trace.specs.Fold.{Chains, run, chain_of}

@@ -3,7 +3,7 @@
 
 #![tactic(auto)]
 
-ghost use Rattle.std.specs.Prelude.{◌≡◌, ◌+◌, ◌*◌, ◌-◌, ◌^◌, ◌≤◌, ◌<◌, ◌++◌, length, get_or, set, drop, replicate};
+ghost use Rattle.std.specs.Prelude.{ℕ, ◌≡◌, ◌+◌, ◌*◌, ◌-◌, ◌^◌, ◌≤◌, ◌<◌, ◌++◌, length, get_or, set, drop, replicate};
 ghost use Rattle.trace.specs.Column.{Column, slot};
 ghost use Rattle.trace.specs.Tree.{larger};
 ghost use Rattle.trace.specs.Fold.{nothing};
@@ -14,36 +14,53 @@ ghost use Rattle.walk.specs.Numbers.{numbers, spent_n, passed_n, later_heavier, 
 
 use trace::{CALLS, COLUMNS, ILOCAL, LOCAL, SPAN, WORK};
 
-// Processor cycles: what a cost line weighs, and all that is summed of it. A number in a lent slice is plain; taken out of
-// it, its type says which measure it is, and one measure cannot be added to another.
-#[derive(Clone, Copy)]
-pub struct Cycles(pub u64);
+// A number of one measure. A number in a lent slice is plain; taken out of it, its type says which measure it is, and one
+// measure cannot be added to another.
+pub trait Measure: Copy {
+    ghost of: { ℕ → Self };
 
-impl Cycles {
+    ghost number: { Self → ℕ };
+
+    // So many of the measure.
+    fn of(n: u64) -> Self
+        ensures { result ≡ of n };
+
+    // How many they are.
+    fn number(self) -> u64
+        ensures { result ≡ number self };
+
     // With more of the same measure.
-    pub fn plus(self, more: Cycles) -> Cycles
-        requires { self.0 + more.0 < 2 ^ 64 }
-        ensures { result ≡ cycles (self.0 + more.0) }
+    final fn plus(self, more: Self) -> Self
+        requires { number self + number more < 2 ^ 64 }
+        ensures { result ≡ of (number self + number more) }
     {
-        Cycles(self.0 + more.0)
+        Self::of(self.number() + more.number())
     }
 
     // Without a part of it.
-    pub fn minus(self, part: Cycles) -> Cycles
-        requires { part.0 ≤ self.0 }
-        ensures { result ≡ cycles (self.0 - part.0) }
+    final fn minus(self, part: Self) -> Self
+        requires { number part ≤ number self }
+        ensures { result ≡ of (number self - number part) }
     {
-        Cycles(self.0 - part.0)
+        Self::of(self.number() - part.number())
+    }
+}
+
+// Processor cycles: what a cost line weighs, and all that is summed of it.
+#[derive(Clone, Copy, PartialEq, Eq, PartialOrd, Ord)]
+pub struct Cycles(pub u64);
+
+impl Measure for Cycles {
+    ghost of = { cycles };
+
+    ghost number = { λ c. c.0 };
+
+    fn of(n: u64) -> Cycles {
+        Cycles(n)
     }
 
-    // The larger of the two.
-    pub fn larger(self, other: Cycles) -> Cycles
-        ensures { result ≡ cycles (larger self.0 other.0) }
-    {
-        if self.0 < other.0 {
-            return other;
-        }
-        self
+    fn number(self) -> u64 {
+        self.0
     }
 }
 
@@ -51,13 +68,17 @@ impl Cycles {
 #[derive(Clone, Copy)]
 pub struct Instructions(pub u64);
 
-impl Instructions {
-    // With more of the same measure.
-    pub fn plus(self, more: Instructions) -> Instructions
-        requires { self.0 + more.0 < 2 ^ 64 }
-        ensures { result ≡ instructions (self.0 + more.0) }
-    {
-        Instructions(self.0 + more.0)
+impl Measure for Instructions {
+    ghost of = { instructions };
+
+    ghost number = { λ i. i.0 };
+
+    fn of(n: u64) -> Instructions {
+        Instructions(n)
+    }
+
+    fn number(self) -> u64 {
+        self.0
     }
 }
 
@@ -91,8 +112,7 @@ impl Open {
         requires { self.prefix.0 + self.since.0 < 2 ^ 64 }
         ensures { result ≡ cycles (self.prefix.0 + self.since.0) }
     {
-        let prefix = self.prefix;
-        prefix.plus(self.since)
+        self.prefix.plus(self.since)
     }
 
     // After a cost line.
@@ -100,16 +120,11 @@ impl Open {
         requires { (self.at + 1 < 2 ^ 64) × ((self.work.0 + v.0 < 2 ^ 64) × (self.since.0 + v.0 < 2 ^ 64)) }
         ensures { result ≡ spent_n v.0 self }
     {
-        let work = self.work;
-        let prefix = self.prefix;
-        let longest = self.longest;
-        let since = self.since;
         Open {
             at: self.at + 1,
-            work: work.plus(v),
-            prefix,
-            longest,
-            since: since.plus(v),
+            work: self.work.plus(v),
+            since: self.since.plus(v),
+            ..self
         }
     }
 
@@ -118,16 +133,9 @@ impl Open {
         requires { self.at + 1 < 2 ^ 64 }
         ensures { result ≡ passed_n self }
     {
-        let work = self.work;
-        let prefix = self.prefix;
-        let longest = self.longest;
-        let since = self.since;
         Open {
             at: self.at + 1,
-            work,
-            prefix,
-            longest,
-            since,
+            ..self
         }
     }
 
@@ -135,7 +143,7 @@ impl Open {
     pub fn later_heavier(self) -> bool
         ensures { result ≡ later_heavier self }
     {
-        self.since.0 > self.longest.0
+        self.since > self.longest
     }
 
     // After a sync or the return, a join: the answer says whether the continuation is heavier.
@@ -143,23 +151,13 @@ impl Open {
         requires { (self.at + 1 < 2 ^ 64) × (self.prefix.0 + (self.longest.0 + self.since.0) < 2 ^ 64) }
         ensures { result ≡ joined_n later self }
     {
-        let work = self.work;
-        let prefix = self.prefix;
-        if later {
-            return Open {
-                at: self.at + 1,
-                work,
-                prefix: prefix.plus(self.since),
-                longest: Cycles(0),
-                since: Cycles(0),
-            };
-        }
+        let heavier = if later { self.since } else { self.longest };
         Open {
             at: self.at + 1,
-            work,
-            prefix: prefix.plus(self.longest),
+            prefix: self.prefix.plus(heavier),
             longest: Cycles(0),
             since: Cycles(0),
+            ..self
         }
     }
 
@@ -168,16 +166,11 @@ impl Open {
         requires { (self.work.0 + child.work.0 < 2 ^ 64) × (self.since.0 + child.prefix.0 < 2 ^ 64) }
         ensures { result ≡ called_n child self }
     {
-        let work = self.work;
-        let prefix = self.prefix;
-        let longest = self.longest;
-        let since = self.since;
         Open {
             at: child.at,
-            work: work.plus(child.work),
-            prefix,
-            longest,
-            since: since.plus(child.prefix),
+            work: self.work.plus(child.work),
+            since: self.since.plus(child.prefix),
+            ..self
         }
     }
 
@@ -186,9 +179,7 @@ impl Open {
         requires { self.since.0 + child.prefix.0 < 2 ^ 64 }
         ensures { result ≡ child_longer child self }
     {
-        let since = self.since;
-        let both = since.plus(child.prefix);
-        both.0 > self.longest.0
+        self.since.plus(child.prefix) > self.longest
     }
 
     // After a spawned child: the answer says whether it is longer.
@@ -196,28 +187,20 @@ impl Open {
         requires { (self.work.0 + child.work.0 < 2 ^ 64) × (self.prefix.0 + self.since.0 < 2 ^ 64) }
         ensures { result ≡ spawned_n longer child self }
     {
-        let work = self.work;
-        let prefix = self.prefix;
-        let longest = self.longest;
-        let since = self.since;
-        let span = child.prefix;
-        let all = work.plus(child.work);
+        let behind = Open {
+            at: child.at,
+            work: self.work.plus(child.work),
+            ..self
+        };
         if longer {
             return Open {
-                at: child.at,
-                work: all,
-                prefix: prefix.plus(since),
-                longest: span,
+                prefix: self.series(),
+                longest: child.prefix,
                 since: Cycles(0),
+                ..behind
             };
         }
-        Open {
-            at: child.at,
-            work: all,
-            prefix,
-            longest,
-            since,
-        }
+        behind
     }
 }
 
@@ -267,26 +250,18 @@ pub fn instructions_at(trace: &[u8], at: usize) -> Instructions
     requires { at + 1 < 2 ^ 64 }
     ensures { result.0 ≡ instructions_at trace.now at }
 {
-    if line::kind_at(trace, at + 1) == 7 {
+    if line::kind_at::<line::Base>(trace, at + 1) == 7 {
         return Instructions(line::value_at(trace, at + 1) as u64);
     }
     Instructions(0)
 }
 
-// Adds cycles to a number.
-pub fn add(a: &mut [u64], i: usize, v: Cycles)
-    requires { (i < length a.old) × (get_or a.old i 0 + v.0 < 2 ^ 64) }
-    ensures { a.new ≡ set a.old i (get_or a.old i 0 + v.0) }
+// Adds to a number of a measure.
+pub fn add<M: Measure>(a: &mut [u64], i: usize, v: M)
+    requires { (i < length a.old) × (get_or a.old i 0 + M.number v < 2 ^ 64) }
+    ensures { a.new ≡ set a.old i (get_or a.old i 0 + M.number v) }
 {
-    a[i] = Cycles(a[i]).plus(v).0;
-}
-
-// Adds instructions to a number.
-pub fn add_instructions(a: &mut [u64], i: usize, v: Instructions)
-    requires { (i < length a.old) × (get_or a.old i 0 + v.0 < 2 ^ 64) }
-    ensures { a.new ≡ set a.old i (get_or a.old i 0 + v.0) }
-{
-    a[i] = Instructions(a[i]).plus(v).0;
+    a[i] += v.number();
 }
 
 // Column 1 of row s: an invocation was made from it.
@@ -295,7 +270,7 @@ fn count(rows: &mut [u64], s: usize)
     ensures { Grown rows.old (one_call s) rows.new }
 {
     let i = COLUMNS * s + CALLS;
-    rows[i] = rows[i] + 1;
+    rows[i] += 1;
 }
 
 // Columns 2 and 3 of a row.
@@ -344,7 +319,7 @@ pub fn spend(rows: &mut [u64], s: usize, v: Cycles, i: Instructions)
     ensures { Grown rows.old (cost_gain s v.0 i.0) rows.new }
 {
     add(rows, COLUMNS * s + LOCAL, v);
-    add_instructions(rows, COLUMNS * s + ILOCAL, i);
+    add(rows, COLUMNS * s + ILOCAL, i);
 }
 
 // Clears the first n numbers.
@@ -352,9 +327,5 @@ pub fn zero(a: &mut [u64], n: usize)
     requires { n ≤ length a.old }
     ensures { a.new ≡ replicate n 0 ++ drop n a.old }
 {
-    let mut i = 0;
-    while i < n {
-        a[i] = 0;
-        i += 1;
-    }
+    a[..n].fill(0);
 }

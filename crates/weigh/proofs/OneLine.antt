@@ -8,7 +8,7 @@ use native.Mathlib.Omega.{arith}
 use lib.Dec.{eqb}
 use lib.ListN.{length}
 use borrow.Author.Tests.{eq-eqb, ne_eqb}
-use Rattle.line.specs.declared.Family.{Family}
+use Rattle.line.specs.Family.{Family}
 use Rattle.line.specs.declared.Frame.{Frame}
 use Rattle.line.specs.declared.Frame.TheVariants.{Cost}
 use Rattle.trace.specs.Shape.{Is, root, step, walk, open_at, has, sites}

@@ -4,7 +4,7 @@ use mathlib.Core.Bool.{true}
 use mathlib.Core.List.{List, [], ◌∷◌, map}
 use Prim.Native.Nat.{ℕ}
 use lib.ListN.{get_or}
-use Rattle.line.specs.declared.Family.TheVariants.{Base}
+use Rattle.line.specs.Family.{Base}
 use Rattle.line.specs.declared.Frame.{Frame}
 use Rattle.chain.specs.Plan.{choose}
 use Rattle.trace.specs.Refusals.{accepted, verdict}

@@ -1,6 +1,6 @@
 -- The second pass: what each item asks for and comes to, and what the loop over a body's items keeps, with no code in sight.
 use mathlib.Core.Path.{◌≡◌, refl, ap, ◌∙◌, sym, subst}
-use mathlib.Core.Logic.{◌⊎◌}
+use mathlib.Core.Logic.{◌⊎◌, inl, inr}
 use mathlib.Core.Bool.{Bool, true, false, cond}
 use mathlib.Core.List.{List}
 use Prim.Native.Nat.{ℕ, suc, ◌+◌, ◌-◌, ◌^◌, ◌≤◌, ◌<◌}
@@ -8,7 +8,7 @@ use native.Mathlib.Numerals.{add-one}
 use native.Mathlib.Omega.{arith}
 use lib.Dec.{ltb}
 use lib.ListN.{length}
-use Rattle.line.specs.declared.Family.TheVariants.{Base}
+use Rattle.line.specs.Family.{Base}
 use Rattle.line.specs.At.{kind_at, site_at, value_at}
 use Rattle.trace.specs.Tree.{Way, call, spawn, async, pass, finish, Leaf, spend, sync, note, leaf_work, Body, done, leaf, child, size, work_of}
 use Rattle.weigh.specs.Weighed.{plainly}
@@ -138,6 +138,11 @@ pub record Calls (s m : List ℕ) (kind deep : ℕ) (f : Reached) : Type 0 where
   pub no_sync : kind ≡ 4 → ⊥
   pub no_instructions : kind ≡ 7 → ⊥
   pub no_note : kind ≡ 1 → ⊥
+
+-- it is, by its kind
+pub calls : {s m : List ℕ} {kind deep : ℕ} {f : Reached} → ItemAsks s m kind deep f → ((kind ≡ 6) ⊎ ((kind ≡ 4) ⊎ ((kind ≡ 1) ⊎ (kind ≡ 7))) → ⊥) → Calls s m kind deep f
+calls asks other =
+    record { asks = asks; no_cost = λ e. other (inl e); no_sync = λ e. other (inr (inl e)); no_note = λ e. other (inr (inr (inl e))); no_instructions = λ e. other (inr (inr (inr e))) }
 
 module _ {s m : List ℕ} {kind deep : ℕ} {f : Reached} (h : Calls s m kind deep f) where
   abbrev l : Asks s m deep f

@@ -7,7 +7,8 @@ use native.Mathlib.Omega.{arith}
 use lib.Dec.{eqb, leb}
 use lib.ListN.{length, get_or, replicate}
 use borrow.Author.Tests.{leb-true, lt-ltb, le-ltb}
-use Rattle.line.specs.declared.Family.TheVariants.{Base}
+use Rattle.std.specs.Prelude.{Result, Ok, Err}
+use Rattle.line.specs.Family.{Base}
 use Rattle.line.specs.declared.Frame.{Frame}
 use Rattle.line.specs.declared.Frame.TheVariants.{Site, Call, Spawn, Sync, Return, Cost, Instructions, Async, Finish}
 use Rattle.line.specs.At.{kind_at}
@@ -33,13 +34,13 @@ use Rattle.walk.proofs.Says.{kind-says}
 use Rattle.walk.proofs.Root.{weighed-nested, root-reads}
 use Rattle.marks.specs.Shown.{Wiped}
 use Rattle.marks.specs.Heavier.{HeavierAsks, HeavierDone, HeavierLeaves}
-use Rattle.admit.specs.declared.Verdict.TheVariants as Verdict
+use Rattle.line.specs.declared.Refusal.{Refusal}
+use Rattle.line.specs.Refusal.{refusal}
+use Rattle.admit.specs.declared.Accepted.{Accepted}
 use Rattle.admit.specs.Answer.{answer_of as admission}
 use Rattle.admit.proofs.Admitted.{refused-only, accepted-only}
 use Rattle.why.specs.declared.Why.{Why}
 use Rattle.why.specs.declared.Why.TheVariants.{NotCost}
-use Rattle.why.specs.declared.Answer.{Answer}
-use Rattle.why.specs.declared.Answer.TheVariants.{Given, Refused}
 use Rattle.why.specs.declared.Returned.{Returned}
 use Rattle.why.specs.Seek.{answer_of}
 use Rattle.why.specs.Second.{marked_in, BodyAsks, BodyLeaves}
@@ -171,26 +172,23 @@ module _ {s : List ℕ} {D : ℕ} {scratch m : List ℕ} {lines : ℕ} (h : Admi
   asked-past : (t : List Frame) → length t ≤ q → asking q (accepted t) ≡ refused 23 q
   asked-past t l = ap (λ (b : Bool). cond b (accepted t) (refused 23 q)) (le-ltb q (length t) l)
 
-  pub marks_in : lines ≤ length m
-  marks_in = omega (arith, h.lines_are, h.admitted.marks_room_fits)
-
-  pub ends-past : lines ≤ q → Ends s D q scratch m (Refused 23 q) scratch m
+  pub ends-past : lines ≤ q → Ends s D q scratch m (Err (refusal 23 q)) scratch m
   ends-past l M t is =
       let e = asked-past t (omega (arith, accepted-length s D M true t is, h.lines_are)) in
       record { when_accepted = λ u x. clash (let z = sym e ∙ x in cc); when_refused = λ n k x. (let z = sym e ∙ x in (cc), refl, refl) }
 
   module _ (there : q < lines) where
-    pub ends_there : (w : Why) (scratch' m' : List ℕ) → scratch' ≡ replicate (length scratch) 0 → LineLeaves s D q m w m' → Ends s D q scratch m (Given w) scratch' m'
+    pub ends_there : (w : Why) (scratch' m' : List ℕ) → scratch' ≡ replicate (length scratch) 0 → LineLeaves s D q m w m' → Ends s D q scratch m (Ok w) scratch' m'
     ends_there w scratch' m' z leaves M t is =
         let e = asked-there t (omega (arith, accepted-length s D M true t is, h.lines_are)) in
         record {
           when_accepted = λ u x.
-              subst (λ (y : List Frame). Answers y q scratch m (Given w) scratch' m') (accepted-same t u (sym e ∙ x)) (record { answer = w; given = refl; told = leaves M t is; zero = z });
+              subst (λ (y : List Frame). Answers y q scratch m (Ok w) scratch' m') (accepted-same t u (sym e ∙ x)) (record { answer = w; given = refl; told = leaves M t is; zero = z });
           when_refused = λ n k x. clash (let y = sym e ∙ x in cc);
         }
 
     -- a line that is no cost
-    pub ends-other : (kind_at s q ≡ 6 → ⊥) → (scratch' m' : List ℕ) → scratch' ≡ replicate (length scratch) 0 → length m' ≡ length m → Wiped 0 lines m m' → Ends s D q scratch m (Given NotCost) scratch' m'
+    pub ends-other : (kind_at s q ≡ 6 → ⊥) → (scratch' m' : List ℕ) → scratch' ≡ replicate (length scratch) 0 → length m' ≡ length m → Wiped 0 lines m m' → Ends s D q scratch m (Ok NotCost) scratch' m'
     ends-other k6 scratch' m' z same wiped =
         ends_there NotCost scratch' m' z (λ M t is.
         let n : length t ≡ lines = omega (arith, accepted-length s D M true t is, h.lines_are) in
@@ -201,17 +199,13 @@ module _ {s : List ℕ} {D : ℕ} {scratch m : List ℕ} {lines : ℕ} (h : Admi
           marked = record { same_length = same; marks_are = λ k l. wiped.gone k (omega arith) (omega (arith, n)); rest = λ k l. wiped.rest k (λ x y. omega (arith, n)) };
         })
 
-    -- a cost line
-    pub line-asks : kind_at s q ≡ 6 → LineAsks s D q scratch m
-    line-asks k6 = record { admitted = h.admitted; there = omega (arith, h.lines_are); cost = k6 }
-
 -- ── the answer of acceptance ──
 
 module _ (s : List ℕ) (D M : ℕ) (scratch m : List ℕ) (room : Bool) (room-is : room ≡ roomy (length s) D (length scratch) (length m)) where
   -- the trace is accepted
-  module _ (count lines : ℕ) (e : Verdict.Accepted count lines ≡ admission (verdict s D M room)) where
-    only : (t : List Frame) × (verdict s D M room ≡ accepted t) × (sites t ≡ count) × (length t ≡ lines)
-    only = accepted-only (verdict s D M room) count lines e
+  module _ (w : Accepted) (e : Ok w ≡ admission (verdict s D M room)) where
+    only : (t : List Frame) × (verdict s D M room ≡ accepted t) × (sites t ≡ w.sites) × (length t ≡ w.lines)
+    only = accepted-only (verdict s D M room) w e
 
     enough : room ≡ true
     enough = (accepted-is s D M room only.0 only.1).0
@@ -224,7 +218,7 @@ module _ (s : List ℕ) (D M : ℕ) (scratch m : List ℕ) (room : Bool) (room-i
     is_accepted : verdict s D M true ≡ accepted only.0
     is_accepted = subst (λ (b : Bool). verdict s D M b ≡ accepted only.0) enough only.1
 
-    pub admitted-is : Admitted s D scratch m lines
+    pub admitted-is : Admitted s D scratch m w.lines
     admitted-is =
         record {
           admitted = record { M = M; frames = only.0; is = is_accepted; scratch_room_fits = long.0; marks_room_fits = long.1 };
@@ -232,13 +226,13 @@ module _ (s : List ℕ) (D M : ℕ) (scratch m : List ℕ) (room : Bool) (room-i
         }
 
     -- LAW: what becomes of it is what is promised
-    pub asked-accepted : (q : ℕ) (r : Answer) (scratch' m' : List ℕ) → Ends s D q scratch m r scratch' m' → Asked s D M q scratch m r scratch' m'
+    pub asked-accepted : (q : ℕ) (r : Result Why Refusal) (scratch' m' : List ℕ) → Ends s D q scratch m r scratch' m' → Asked s D M q scratch m r scratch' m'
     asked-accepted q r scratch' m' ends =
         subst (λ (v : Verdict). Keeps q (asking q v) scratch m r scratch' m') (sym (ap (verdict s D M) (sym room-is) ∙ only.1)) (ends M only.0 is_accepted)
 
   -- LAW: and so is a refusal
-  pub asked-refused : (q number line : ℕ) → Verdict.Refused number line ≡ admission (verdict s D M room) → Asked s D M q scratch m (Refused number line) scratch m
-  asked-refused q number line e =
-      let v = ap (verdict s D M) (sym room-is) ∙ refused-only (verdict s D M room) number line e in
-      let k : asking q (verdict s D M (roomy (length s) D (length scratch) (length m))) ≡ refused number line = ap (asking q) v in
+  pub asked-refused : (q : ℕ) (f : Refusal) → Err f ≡ admission (verdict s D M room) → Asked s D M q scratch m (Err f) scratch m
+  asked-refused q f e =
+      let v = ap (verdict s D M) (sym room-is) ∙ refused-only (verdict s D M room) f e in
+      let k : asking q (verdict s D M (roomy (length s) D (length scratch) (length m))) ≡ refused f.number f.line = ap (asking q) v in
       record { when_accepted = λ u x. clash (let z = sym k ∙ x in cc); when_refused = λ n j x. (let z = sym k ∙ x in (cc), refl, refl) }

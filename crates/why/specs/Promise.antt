@@ -1,14 +1,14 @@
 -- What asking why promises: the answer, and what the scratch and the marks hold afterwards.
-use Rattle.std.specs.Prelude.{ℕ, ◌*◌, ◌/◌, ◌<◌, ◌≡◌, Bool, true, cond, ◌&&◌, List, ltb, leb, length, replicate}
+use Rattle.std.specs.Prelude.{ℕ, ◌*◌, ◌/◌, ◌<◌, ◌≡◌, Bool, true, cond, ◌&&◌, List, ltb, leb, length, replicate, Result, Ok, Err}
 use Rattle.line.specs.declared.Frame.{Frame}
+use Rattle.line.specs.declared.Refusal.{Refusal}
+use Rattle.line.specs.Refusal.{refusal}
 use Rattle.line.specs.Read.{width}
 use Rattle.line.specs.At.{kind_at}
 use Rattle.trace.specs.Refusals.{line_count, Verdict, accepted, refused, verdict}
 use Rattle.trace.specs.Promise.{Marks}
 use Rattle.marks.specs.Heavier.{HeavierAsks}
 use Rattle.why.specs.declared.Why.{Why}
-use Rattle.why.specs.declared.Answer.{Answer}
-use Rattle.why.specs.declared.Answer.TheVariants.{Given, Refused}
 use Rattle.why.specs.Why.{True, Shown}
 
 -- "The room is the marks engine's, without rows": "8·D" scratch numbers "and one byte of marks a line", for a text of so many
@@ -29,20 +29,20 @@ pub record Told (t : List Frame) (q : ℕ) (marks : List ℕ) (answer : Why) (ma
   pub marked : Marks (length t) lines marks marks'
 
 -- what comes back of line q of an accepted trace
-pub record Answers (t : List Frame) (q : ℕ) (scratch marks : List ℕ) (r : Answer) (scratch' marks' : List ℕ) : Type 0 where
+pub record Answers (t : List Frame) (q : ℕ) (scratch marks : List ℕ) (r : Result Why Refusal) (scratch' marks' : List ℕ) : Type 0 where
   pub answer : Why
-  pub given : r ≡ Given answer
+  pub given : r ≡ Ok answer
   pub told : Told t q marks answer marks'
   -- "The whole scratch is zero."
   pub zero : scratch' ≡ replicate (length scratch) 0
 
 -- what keeps to a verdict: "Every lent slice, scratch included, is unchanged" where it refuses
-pub record Keeps (q : ℕ) (v : Verdict) (scratch marks : List ℕ) (r : Answer) (scratch' marks' : List ℕ) : Type 0 where
+pub record Keeps (q : ℕ) (v : Verdict) (scratch marks : List ℕ) (r : Result Why Refusal) (scratch' marks' : List ℕ) : Type 0 where
   pub when_accepted : (t : List Frame) → v ≡ accepted t → Answers t q scratch marks r scratch' marks'
-  pub when_refused : (number line : ℕ) → v ≡ refused number line → (r ≡ Refused number line) × (scratch' ≡ scratch) × (marks' ≡ marks)
+  pub when_refused : (number line : ℕ) → v ≡ refused number line → (r ≡ Err (refusal number line)) × (scratch' ≡ scratch) × (marks' ≡ marks)
 
 -- the text s with limits D and M, asked at line q
-abbrev pub Asked : (s : List ℕ) (D M q : ℕ) (scratch marks : List ℕ) (r : Answer) (scratch' marks' : List ℕ) → Type 0
+abbrev pub Asked : (s : List ℕ) (D M q : ℕ) (scratch marks : List ℕ) (r : Result Why Refusal) (scratch' marks' : List ℕ) → Type 0
 Asked s D M q scratch marks r scratch' marks' = Keeps q (asking q (verdict s D M (roomy (length s) D (length scratch) (length marks)))) scratch marks r scratch' marks'
 
 -- ── for proofs and engines, not for the reader of document 02 ──
@@ -62,5 +62,5 @@ pub record Admitted (s : List ℕ) (D : ℕ) (scratch marks : List ℕ) (lines :
   pub admitted : HeavierAsks s D scratch marks
   pub lines_are : lines ≡ line_count s
 
-abbrev pub Ends : (s : List ℕ) (D q : ℕ) (scratch marks : List ℕ) (r : Answer) (scratch' marks' : List ℕ) → Type 0
+abbrev pub Ends : (s : List ℕ) (D q : ℕ) (scratch marks : List ℕ) (r : Result Why Refusal) (scratch' marks' : List ℕ) → Type 0
 Ends s D q scratch marks r scratch' marks' = (M : ℕ) (t : List Frame) → verdict s D M true ≡ accepted t → Keeps q (asking q (accepted t)) scratch marks r scratch' marks'

@@ -1,7 +1,7 @@
 -- For proofs and engines, not for the reader of document 02: what the readers of the second pass ask for and leave. s is the
 -- text, m the marks.
 use Rattle.std.specs.Prelude.{ℕ, ◌+◌, ◌^◌, ◌≤◌, ◌<◌, ◌≡◌, Bool, List, eqb, length, get_or}
-use Rattle.line.specs.declared.Family.TheVariants.{Base}
+use Rattle.line.specs.Family.{Base}
 use Rattle.line.specs.At.{kind_at, value_at}
 use Rattle.trace.specs.Refusals.{most_lines}
 use Rattle.trace.specs.Tree.{Body, done, leaf, child, size, work_of}

@@ -6,11 +6,12 @@
 
 ghost use Rattle.std.specs.Prelude.{◌≡◌, ◌+◌, ◌^◌, ◌≤◌, ◌<◌, length, replicate};
 ghost use Rattle.marks.specs.Shown.{Wiped};
-ghost use Rattle.why.specs.Seek.{smaller, unseen, in_series, heavier_of, start, joined_seen, called_seen, spawned_seen, if_unmarked, answer_of};
+ghost use Rattle.why.specs.Seek.{unseen, in_series, heavier_of, start, joined_seen, called_seen, spawned_seen, if_unmarked, answer_of};
 ghost use Rattle.why.specs.Second.{marked_in, line_seen, ItemAsks, ItemLeaves, Asks, ItemsLeave, BodyAsks, BodyLeaves};
 ghost use Rattle.why.specs.Promise.{roomy, Asked, LineAsks, LineLeaves, Admitted, Ends};
 
-use walk::Cycles;
+use line::Refusal;
+use walk::{Cycles, Measure};
 
 // "answer one of four: not a cost line; on the chosen chain; slack n ...; or tied, with the smallest line ..."
 #[derive(Clone, Copy)]
@@ -21,25 +22,8 @@ pub enum Why {
     Tied(usize),
 }
 
-// What is answered: why, or a refusal's number and line.
-#[derive(Clone, Copy)]
-pub enum Answer {
-    Given(Why),
-    Refused(u8, usize),
-}
-
 // No line has this number: past every line.
 const PAST: usize = 65536;
-
-// The smaller of two lines.
-fn smaller(a: usize, b: usize) -> usize
-    ensures { result ≡ smaller a b }
-{
-    if b < a {
-        return b;
-    }
-    a
-}
 
 // What is seen of a chain: its weight, and the smallest of its lines that is not marked, past every line where there is none.
 #[derive(Clone, Copy)]
@@ -64,10 +48,9 @@ impl Seen {
         requires { self.weighs.0 + more.weighs.0 < 2 ^ 64 }
         ensures { result ≡ in_series self more }
     {
-        let weighs = self.weighs;
         Seen {
-            weighs: weighs.plus(more.weighs),
-            first: smaller(self.first, more.first),
+            weighs: self.weighs.plus(more.weighs),
+            first: self.first.min(more.first),
         }
     }
 
@@ -75,7 +58,7 @@ impl Seen {
     fn or_heavier(self, other: Seen) -> Seen
         ensures { result ≡ heavier_of self other }
     {
-        if self.weighs.0 < other.weighs.0 {
+        if self.weighs < other.weighs {
             return other;
         }
         self
@@ -108,10 +91,8 @@ impl Sought {
         requires { self.p.weighs.0 + (self.l.weighs.0 + self.c.weighs.0) < 2 ^ 64 }
         ensures { result ≡ joined_seen self }
     {
-        let p = self.p;
-        let l = self.l;
         Sought {
-            p: p.then(l.or_heavier(self.c)),
+            p: self.p.then(self.l.or_heavier(self.c)),
             l: Seen::none(),
             c: Seen::none(),
         }
@@ -122,10 +103,10 @@ impl Sought {
         requires { self.c.weighs.0 + g.weighs.0 < 2 ^ 64 }
         ensures { result ≡ called_seen g self }
     {
-        let p = self.p;
-        let l = self.l;
-        let c = self.c;
-        Sought { p, l, c: c.then(g) }
+        Sought {
+            c: self.c.then(g),
+            ..self
+        }
     }
 
     // After a spawned child, of which g is seen: it is the longest from now on where it is longer.
@@ -133,12 +114,9 @@ impl Sought {
         requires { (self.c.weighs.0 + g.weighs.0 < 2 ^ 64) × (self.p.weighs.0 + self.c.weighs.0 < 2 ^ 64) }
         ensures { result ≡ spawned_seen g self }
     {
-        let p = self.p;
-        let c = self.c;
-        let both = c.weighs.plus(g.weighs);
-        if self.l.weighs.0 < both.0 {
+        if self.l.weighs < self.c.weighs.plus(g.weighs) {
             return Sought {
-                p: p.then(c),
+                p: self.p.then(self.c),
                 l: g,
                 c: Seen::none(),
             };
@@ -191,10 +169,10 @@ fn read_items(text: &[u8], f: Reached, deep: usize, marks: &[u8]) -> Reached
     ensures { ItemsLeave text.now marks.now deep f result }
 {
     let mut g = f;
-    let mut kind = line::kind_at(text, f.at);
+    let mut kind = line::kind_at::<line::Base>(text, f.at);
     while kind != 5 {
         g = item(text, kind, g, deep, marks);
-        kind = line::kind_at(text, g.at);
+        kind = line::kind_at::<line::Base>(text, g.at);
     }
     g
 }
@@ -210,10 +188,10 @@ fn body(text: &[u8], from: usize, deep: usize, marks: &[u8]) -> Returned
         sought: Sought::start(),
     };
     let f = read_items(text, begun, deep, marks);
-    let k = f.sought;
-    let end = k.joined();
-    let seen = end.p;
-    Returned { at: f.at + 1, seen }
+    Returned {
+        at: f.at + 1,
+        seen: f.sought.joined().p,
+    }
 }
 
 // Reads one item, whose first line is of this kind, with the whole body of a call or a spawn.
@@ -222,42 +200,29 @@ fn item(text: &[u8], kind: u8, f: Reached, deep: usize, marks: &[u8]) -> Reached
     requires { ItemAsks text.now marks.now kind deep f }
     ensures { ItemLeaves text.now marks.now f result }
 {
-    let at = f.at;
-    let k = f.sought;
-    if kind == 6 {
-        return Reached {
-            at: at + 1,
-            sought: k.called(cost(text, at, marks)),
-        };
-    }
-    if kind == 4 {
-        return Reached {
-            at: at + 1,
-            sought: k.joined(),
-        };
-    }
-    if kind == 7 {
-        return Reached {
-            at: at + 1,
-            sought: k,
-        };
-    }
-    if kind == 1 {
-        return Reached {
-            at: at + 1,
-            sought: k,
-        };
-    }
-    let c = body(text, at + 1, deep - 1, marks);
-    if kind == 2 {
-        return Reached {
-            at: c.at,
-            sought: k.called(c.seen),
-        };
-    }
-    Reached {
-        at: c.at,
-        sought: k.spawned(c.seen),
+    match kind {
+        6 => Reached {
+            at: f.at + 1,
+            sought: f.sought.called(cost(text, f.at, marks)),
+        },
+        4 => Reached {
+            at: f.at + 1,
+            sought: f.sought.joined(),
+        },
+        1 | 7 => Reached { at: f.at + 1, ..f },
+        _ => {
+            let c = body(text, f.at + 1, deep - 1, marks);
+            if kind == 2 {
+                return Reached {
+                    at: c.at,
+                    sought: f.sought.called(c.seen),
+                };
+            }
+            Reached {
+                at: c.at,
+                sought: f.sought.spawned(c.seen),
+            }
+        }
     }
 }
 
@@ -282,8 +247,7 @@ fn at_cost(text: &[u8], depth: usize, line: usize, scratch: &mut [u64], marks: &
     ensures scratch_after { scratch.new ≡ replicate (length scratch.old) 0 }
 {
     let through = marks::with_heavier(text, depth, line, scratch, marks);
-    let root = body(text, 0, depth - 1, marks);
-    let chosen = root.seen;
+    let chosen = body(text, 0, depth - 1, marks).seen;
     decide(through.0 - walk::MORE, chosen.weighs.0, chosen.first)
 }
 
@@ -293,7 +257,7 @@ fn at_other(lines: usize, scratch: &mut [u64], marks: &mut [u8])
     ensures wiped { Wiped 0 lines marks.old marks.new }
     ensures scratch_after { scratch.new ≡ replicate (length scratch.old) 0 }
 {
-    walk::zero(scratch, scratch.len());
+    scratch.fill(0);
     marks::wipe_lines(marks, 0, lines);
 }
 
@@ -305,29 +269,26 @@ fn accepted(
     lines: usize,
     scratch: &mut [u64],
     marks: &mut [u8],
-) -> Answer
+) -> Result<Why, Refusal>
     requires { Admitted text.now depth scratch.old marks.old lines }
     ensures { Ends text.now depth line scratch.old marks.old result
         scratch.new marks.new }
 {
     if lines <= line {
-        return Answer::Refused(23, line);
+        return Err(Refusal { number: 23, line });
     }
-    if line::kind_at(text, line) != 6 {
+    if line::kind_at::<line::Base>(text, line) != 6 {
         at_other(lines, scratch, marks);
-        return Answer::Given(Why::NotCost);
+        return Ok(Why::NotCost);
     }
-    Answer::Given(at_cost(text, depth, line, scratch, marks))
+    Ok(at_cost(text, depth, line, scratch, marks))
 }
 
 // Whether scratch and marks are as long as a text of so many characters needs them.
 fn room(bytes: usize, depth: usize, scratch: usize, marks: usize) -> bool
     ensures { result ≡ roomy bytes depth scratch marks }
 {
-    if scratch / 8 < depth {
-        return false;
-    }
-    bytes / line::LINE <= marks
+    depth <= scratch / 8 && bytes / line::LINE <= marks
 }
 
 // Why line `line` is not on the span: any text, any limits, any line number and any room.
@@ -338,13 +299,11 @@ pub fn ask(
     line: usize,
     scratch: &mut [u64],
     marks: &mut [u8],
-) -> Answer
+) -> Result<Why, Refusal>
     ensures { Asked text.now depth sites line scratch.old marks.old result
         scratch.new marks.new }
 {
     let enough = room(text.len(), depth, scratch.len(), marks.len());
-    match admit::with_room(text, depth, sites, enough) {
-        admit::Verdict::Accepted(_, lines) => accepted(text, depth, line, lines, scratch, marks),
-        admit::Verdict::Refused(number, line) => Answer::Refused(number, line),
-    }
+    let found = admit::with_room(text, depth, sites, enough)?;
+    accepted(text, depth, line, found.lines, scratch, marks)
 }

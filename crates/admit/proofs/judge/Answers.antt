@@ -1,21 +1,13 @@
 -- `admit::judge` meets its contract: a line is judged by what a glance sees, or by how it reads.
-use mathlib.Core.Path.{sym, ap, subst, ◌∙◌}
-use Rattle.line.specs.declared.Read.{Read}
-use Rattle.line.specs.Read.{read_at}
-use Rattle.line.specs.Seeing.{glanced}
-use Rattle.admit.specs.Step.{Judged}
+use mathlib.Core.Path.{sym, ◌∙◌}
+use Rattle.line.specs.Read.{read_at_of}
 use Rattle.admit.proofs.Judged.{judged-seen}
 use Rattle.admit.proofs.judge.Goals as goal
 
 pub judge_whole-requires : goal.judge_whole-requires
-judge_whole-requires c = (c.requires, ap glanced c.read_at.ensures ∙ sym c.glance.ensures ∙ c.in-Other.is)
+judge_whole-requires g c = (c.requires, sym c.glance.ensures ∙ c.in-None.is)
 
-pub returns-in-Seen : goal.returns-in-Seen
-returns-in-Seen c =
+pub returns-in-Some : goal.returns-in-Some
+returns-in-Some g c =
     let a = c.args in
-    judged-seen a.depth a.sites a.trace.now a.keys.now a.t c.in-Seen.frame c.stray-against.result c.updated.result c.updated.ensures (read_at a.trace.now a.t.lines) a.tags.now c.requires.tagged (sym c.glance.ensures ∙ c.in-Seen.is) c.stray-against.ensures
-
-pub returns-in-Other : goal.returns-in-Other
-returns-in-Other c =
-    let a = c.args in
-    subst (λ (r : Read). Judged a.depth a.sites a.trace.now a.keys.now a.t r c.judge_whole.result c.judge_whole.new.keys c.judge_whole.new.tags) c.read_at.ensures (c.judge_whole.ensures a.trace.now)
+    judged-seen a.depth a.sites a.trace.now a.places.now.keys a.t c.in-Some.frame c.stray-against.result c.updated.result c.updated.ensures (read_at_of g.F.Family.family a.trace.now a.t.lines) (sym c.glance.ensures ∙ c.in-Some.is) c.stray-against.ensures

@@ -1,14 +1,6 @@
-use mathlib.Core.Path.{sym, subst}
 use native.Mathlib.Omega.{arith}
-use Rattle.compact.specs.declared.step.State.{State}
-use Rattle.compact.proofs.Passes.{given_is, Counting, counting_start, counting_ready, counting_on, counting_end}
+use Rattle.compact.proofs.Passes.{given_is, counting_ready, counting_on, counting_end}
 use Rattle.compact.proofs.count.Goals as goal
-
-pub loop-n-init : goal.loop-n-init
-loop-n-init c = λ q. subst (λ (a : State). Counting q a 0 0) (sym c.new-s.ensures) (counting_start q)
-
-pub item-requires : goal.item-requires
-item-requires c = omega (arith, c.loop-n-test.true)
 
 pub step-g-requires : goal.step-g-requires
 step-g-requires c = let q = c.requires in counting_ready q (c.loop-n.invariant q) c.loop-n-test.true

@@ -1,5 +1,4 @@
 use mathlib.Core.Path.{refl, sym, ◌∙◌, subst}
-use native.Mathlib.Omega.{arith}
 use Rattle.compact.specs.declared.step.State.{State}
 use Rattle.compact.proofs.Passes.{given_is, Writing, writing_start, writing-ready, writing-asks, writing-on, writing-end}
 use Rattle.compact.proofs.write.Goals as goal
@@ -8,9 +7,6 @@ pub loop-n-init : goal.loop-n-init
 loop-n-init c =
     let out = c.args.out.now in
     (refl, λ q. subst (λ (a : State). Writing q.trace out a out 0 0) (sym c.new-s.ensures) (writing_start q.trace out))
-
-pub item-requires : goal.item-requires
-item-requires c = omega (arith, c.loop-n-test.true)
 
 pub step-g-requires : goal.step-g-requires
 step-g-requires c = let q = c.requires in writing-ready q.trace (c.loop-n.invariant.1 q) c.loop-n-test.true

@@ -9,9 +9,9 @@ overflow_add-count c = omega (arith, few c.requires)
 pub returns-then-bad-count : goal.returns-then-bad-count
 returns-then-bad-count c =
     let a = c.args in
-    λ q. bad_17 q a.project.now a.stock.now c.first_bad-bad.result c.first_bad-bad.ensures a.out.now c.if-bad-count.true a.scratch.now
+    λ q. bad_17 q a.lists.project.now a.lists.stock.now c.first_bad-bad.result c.first_bad-bad.ensures a.out.now c.if-bad-count.true a.scratch.now
 
 pub returns : goal.returns
 returns c =
     let a = c.args in
-    λ q. good_names q a.project.now a.stock.now c.first_bad-bad.result c.first_bad-bad.ensures a.out.now c.if-bad-count.false a.scratch.now c.named.ensures
+    λ q. good_names q a.lists.project.now a.lists.stock.now c.first_bad-bad.result c.first_bad-bad.ensures a.out.now c.if-bad-count.false a.scratch.now c.named.ensures

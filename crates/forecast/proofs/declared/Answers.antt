@@ -1,20 +1,12 @@
-use mathlib.Core.Path.{refl, sym, ◌∙◌, ap}
-use Rattle.std.proofs.Common.{rules}
-use Rattle.forecast.specs.Asked.{all_declared}
-use Rattle.forecast.proofs.Loops.{past, declared-on, declared-off}
+-- `forecast::declared` meets its contract. Assumes nothing.
+use Rattle.std.proofs.Common.{◌∙◌, leb, rules, tests}
+use Rattle.std.proofs.lemmas.Iterator.{YieldsList-from_slice}
+use Rattle.std.proofs.lemmas.Iterator.Search.{all_from_yields_List}
+use Rattle.forecast.proofs.Tests.{declared-asked}
 use Rattle.forecast.proofs.declared.Goals as goal
-
-pub loop-i-init : goal.loop-i-init
-loop-i-init c = (search rules, refl)
-
-pub returns-then-sites-entries : goal.returns-then-sites-entries
-returns-then-sites-entries c =
-    sym (declared-off c.args.entries c.args.count (search (rules, c.well_formed.0)) c.args.sites c.loop-i.i (search rules) c.if-sites-entries.true) ∙ c.loop-i.invariant.1
-
-pub loop-i-preserved : goal.loop-i-preserved
-loop-i-preserved c =
-    (search rules, declared-on c.args.entries c.args.count (search (rules, c.well_formed.0)) c.args.sites c.loop-i.i (search rules) c.if-sites-entries.false ∙ c.loop-i.invariant.1)
 
 pub returns : goal.returns
 returns c =
-    sym (ap (all_declared c.args.sites) (past c.args.entries c.args.count (search (rules, c.well_formed.0)) c.loop-i.i c.loop-i-test.false)) ∙ c.loop-i.invariant.1
+    let es = c.args.entries.now in
+    all_from_yields_List (λ e. leb e.row c.args.sites) _ _ c.all.result c.all.ensures.ran (YieldsList-from_slice es cc) (λ x b q k. search (rules, tests))
+    ∙ declared-asked c.args.sites es

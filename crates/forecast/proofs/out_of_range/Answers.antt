@@ -1,26 +1,12 @@
-use mathlib.Core.Path.{refl, sym, ◌∙◌, ap}
-use Rattle.std.proofs.Common.{rules}
-use Rattle.forecast.specs.Asked.{bad_factor}
-use Rattle.forecast.proofs.Loops.{past, range-on, range-low, range_high}
+-- `forecast::out_of_range` meets its contract. Assumes nothing.
+use Rattle.std.proofs.Common.{◌∙◌, ltb, ◌||◌, rules, tests}
+use Rattle.std.proofs.lemmas.Iterator.{YieldsList-from_slice}
+use Rattle.std.proofs.lemmas.Iterator.Search.{any_from_yields_List}
+use Rattle.forecast.proofs.Tests.{range-asked}
 use Rattle.forecast.proofs.out_of_range.Goals as goal
-
-pub loop-i-init : goal.loop-i-init
-loop-i-init c = (search rules, refl)
-
-pub returns-then-entries-i-lt2 : goal.returns-then-entries-i-lt2
-returns-then-entries-i-lt2 c =
-    sym (range-low c.args.entries c.args.count (search (rules, c.well_formed.0)) c.loop-i.i c.loop-i-test.true c.if-entries-i-lt2.true) ∙ c.loop-i.invariant.1
-
-pub returns-then-entries-i-gt1000 : goal.returns-then-entries-i-gt1000
-returns-then-entries-i-gt1000 c =
-    sym (range_high c.args.entries c.args.count (search (rules, c.well_formed.0)) c.loop-i.i c.loop-i-test.true c.if-entries-i-gt1000.true) ∙ c.loop-i.invariant.1
-
-pub loop-i-preserved : goal.loop-i-preserved
-loop-i-preserved c = (
-  search rules,
-  range-on c.args.entries c.args.count (search (rules, c.well_formed.0)) c.loop-i.i c.loop-i-test.true c.if-entries-i-lt2.false c.if-entries-i-gt1000.false ∙ c.loop-i.invariant.1,
-)
 
 pub returns : goal.returns
 returns c =
-    sym (ap bad_factor (past c.args.entries c.args.count (search (rules, c.well_formed.0)) c.loop-i.i c.loop-i-test.false)) ∙ c.loop-i.invariant.1
+    let es = c.args.entries.now in
+    any_from_yields_List (λ e. ltb e.factor 2 || ltb 1000 e.factor) _ _ c.any.result c.any.ensures.ran (YieldsList-from_slice es cc) (λ x b q k. search (rules, tests))
+    ∙ range-asked es

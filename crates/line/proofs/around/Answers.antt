@@ -1,12 +1,12 @@
--- `line::around` meets its contract: the eight characters behind the value are tested as one word.
-use mathlib.Core.Bool.{Bool, ◌&&◌}
-use mathlib.Core.Path.{ap}
-use lib.Dec.{eqb}
-use lib.ListN.{get_or}
+-- `line::around` meets its contract: the eight characters behind the value are tested as one word (`Packs`).
+use mathlib.Core.Path.{◌≡◌}
+use native.Mathlib.Omega.{arith}
+use lib.ListN.{length}
+use Rattle.line.proofs.Packs.{zero_at}
 use Rattle.line.proofs.around.Goals as goal
 
 pub returns : goal.returns
 returns c =
-    let q = c.args in
-    let s = q.s.now in
-    ap (λ (b : Bool). eqb (get_or s 0 0) q.first && b && eqb (get_or s 22 0) 10) c.eight_zeros-rest.ensures
+    let s = c.args.s.now in
+    let h : length s ≡ 23 = omega arith in
+    cc (zero_at s h c.fits-s 14 (omega arith) _ c.eight-rest.ensures)

@@ -1,5 +1,12 @@
--- `line::bare` meets its contract: what is around, no site, and no value.
+-- `line::bare` meets its contract: what is around, no site, and no value (`Packs`).
+use mathlib.Core.Path.{◌≡◌}
+use native.Mathlib.Omega.{arith}
+use lib.ListN.{length}
+use Rattle.line.proofs.Packs.{site_zero, zero_at}
 use Rattle.line.proofs.bare.Goals as goal
 
 pub returns : goal.returns
-returns c = cc (c.around.ensures, c.eight_zeros-value.ensures, c.four_zeros-site.ensures)
+returns c =
+    let s = c.args.s.now in
+    let h : length s ≡ 23 = omega arith in
+    cc (c.around.ensures, site_zero s h c.fits-s _ c.four-site.ensures, zero_at s h c.fits-s 6 (omega arith) _ c.eight-value.ensures)

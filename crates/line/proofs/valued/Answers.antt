@@ -1,10 +1,12 @@
--- `line::valued` meets its contract: what is around, no site, and a value of digits that are not all 0.
-use mathlib.Core.Bool.{not, ◌&&◌}
-use mathlib.Core.Path.{ap, ap₂}
+-- `line::valued` meets its contract: what is around, no site, and a value of digits that are not all 0 (`Packs`).
+use mathlib.Core.Path.{◌≡◌}
+use native.Mathlib.Omega.{arith}
+use lib.ListN.{length}
+use Rattle.line.proofs.Packs.{site_zero, zero_at, good_at}
 use Rattle.line.proofs.valued.Goals as goal
 
 pub returns : goal.returns
 returns c =
-    ap₂ ◌&&◌
-    (ap₂ ◌&&◌ (ap₂ ◌&&◌ c.around.ensures c.four_zeros-site.ensures) c.eight_digits-value.ensures)
-    (ap not c.eight_zeros-none.ensures)
+    let s = c.args.s.now in
+    let h : length s ≡ 23 = omega arith in
+    cc (c.around.ensures, site_zero s h c.fits-s _ c.four-site.ensures, c.all_digits-value.ensures, zero_at s h c.fits-s 6 (omega arith) _ c.eight-none.ensures, good_at s h c.fits-s 6 (omega arith) _ c.eight.ensures)

@@ -1,6 +1,6 @@
 -- The three readers meet their contracts: what each step asks for and leaves is that of the item that is read.
 use Prim.Native.Nat.{◌+◌, ◌*◌, ◌-◌}
-use Rattle.line.specs.declared.Family.TheVariants.{Base}
+use Rattle.line.specs.Family.{Base}
 use Rattle.walk.specs.Weight.{by_asking}
 use Rattle.marks.proofs.Bodies.{Loop}
 use Rattle.marks.proofs.+readers.Given as goal

@@ -1,22 +1,10 @@
 -- `marks::join` meets its contract: the zone that loses is cleared, whichever it is.
-use native.Mathlib.Omega.{arith}
-use lib.ListN.{length-set}
 use Rattle.marks.proofs.Steps.{join_since, join_longest}
 use Rattle.marks.proofs.join.Goals as goal
-
-pub wipe_lines-requires : goal.wipe_lines-requires
-wipe_lines-requires c =
-    let f = c.requires in
-    (omega (arith, f.order.0, f.order.1), simp length-set (omega (arith, f.order.0, f.order.1, f.room)))
 
 pub returns-then-later : goal.returns-then-later
 returns-then-later c =
     rw (c.prefix.ensures, c.joined.ensures) (join_since c.args.marks.now c.args.z c.requires.room c.wipe_lines.new.marks c.wipe_lines.ensures c.later_heavier-later.result c.later_heavier-later.ensures c.if-later.true)
-
-pub wipe_lines-requires-2 : goal.wipe_lines-requires-2
-wipe_lines-requires-2 c =
-    let f = c.requires in
-    (omega (arith, f.order.0, f.order.1), simp length-set (omega (arith, f.order.0, f.order.1, f.room)))
 
 pub returns : goal.returns
 returns c =

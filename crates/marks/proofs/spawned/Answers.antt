@@ -1,13 +1,6 @@
 -- `marks::spawned` meets its contract: of the child and the longest before it, the one that loses is cleared.
-use native.Mathlib.Omega.{arith}
-use lib.ListN.{length-set}
 use Rattle.marks.proofs.Steps.{spawned_longer, spawned-shorter}
 use Rattle.marks.proofs.spawned.Goals as goal
-
-pub wipe_lines-requires : goal.wipe_lines-requires
-wipe_lines-requires c =
-    let f = c.requires.fits in
-    (f.order.0, simp length-set (omega (arith, f.order.1, f.room)))
 
 pub returns-then-longer : goal.returns-then-longer
 returns-then-longer c =

@@ -1,21 +1,14 @@
-use mathlib.Core.Path.{refl, ◌∙◌, sym}
-use native.Mathlib.Omega.{arith}
-use Rattle.names.proofs.Lines.{end_on, end_feed, end-text}
+-- `names::end` meets its contract: the first line feed from the place on ends the line. Assumes nothing.
+use Rattle.std.proofs.Common.{◌≡◌, ◌≢◌, ◌∙◌, drop, length-drop, arith, rules, tests}
+use Rattle.std.proofs.lemmas.List.{take_all}
+use Rattle.std.proofs.lemmas.Iterator.{IsFirst-from_position, YieldsList-from_slice}
+use Rattle.names.proofs.Lines.{line-length}
 use Rattle.names.proofs.end.Goals as goal
 
-pub loop-i-init : goal.loop-i-init
-loop-i-init c = (omega arith, refl)
-
-pub returns-then-text-i-eq10 : goal.returns-then-text-i-eq10
-returns-then-text-i-eq10 c =
+pub returns-in-Some : goal.returns-in-Some
+returns-in-Some c =
     let s = c.args.text.now in
-    sym (end_feed s c.loop-i.i c.loop-i-test.true c.if-text-i-eq10.true) ∙ c.loop-i.invariant.1
-
-pub loop-i-preserved : goal.loop-i-preserved
-loop-i-preserved c =
-    let s = c.args.text.now in
-    (omega (arith, c.loop-i.invariant.0), sym (end_on s c.loop-i.i c.loop-i-test.true c.if-text-i-eq10.false) ∙ c.loop-i.invariant.1)
-
-pub returns : goal.returns
-returns c =
-    sym (end-text c.args.text.now c.loop-i.i c.loop-i-test.false) ∙ c.loop-i.invariant.1
+    let a = c.args.from in
+    let rest : c.in-Some.rest.now ≡ drop a s = c.in-Some.ensures.lookup.0.2 ∙ take_all _ (drop a s) (omega (arith, length-drop a s)) in
+    let first = IsFirst-from_position _ _ c.position.result (λ x. x ≡ 10) (λ x. x ≢ 10) c.position.ensures.ran (YieldsList-from_slice c.in-Some.rest.now cc) (λ x q k. search (rules, tests)) (λ x q k. search (rules, tests)) in
+    rw (← rest) (omega (arith, line-length c.in-Some.rest.now c.position.result first))

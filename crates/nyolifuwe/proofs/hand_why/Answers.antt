@@ -4,18 +4,18 @@ use mathlib.Core.List.{List, ◌++◌}
 use mathlib.Core.Path.{ap, sym, ◌∙◌}
 use native.Mathlib.Omega.{arith}
 use lib.ListN.{length, drop}
-use Rattle.nyolifuwe.specs.Inside.{line_asked}
+use Rattle.nyolifuwe.specs.Inside.{line_of}
 use Rattle.nyolifuwe.specs.Asking.{numbers_of, why_numbered}
 use Rattle.nyolifuwe.proofs.Decided.{refused, given}
 use Rattle.nyolifuwe.proofs.hand_why.Goals as goal
 
 pub code-requires : goal.code-requires
-code-requires c = omega (arith, sym (ap line_asked c.in-Refused.is))
+code-requires c = omega (arith, sym (ap line_of c.in-Err.is))
 
-pub returns-in-Given : goal.returns-in-Given
-returns-in-Given c =
+pub returns-in-Ok : goal.returns-in-Ok
+returns-in-Ok c =
     let room = c.args.answer.now in
-    given (numbers_of c.in-Given.why) room _ (ap why_numbered c.in-Given.is) (c.put.ensures ∙ ap (λ (l : List ℕ). l ++ drop (length l) room) c.numbers_of-numbers.ensures)
+    given (numbers_of c.in-Ok.why) room _ (ap why_numbered c.in-Ok.is) (c.put.ensures ∙ ap (λ (l : List ℕ). l ++ drop (length l) room) c.numbers_of-numbers.ensures)
 
-pub returns-in-Refused : goal.returns-in-Refused
-returns-in-Refused c = rw c.code.ensures (refused _ _ c.args.answer.now (ap why_numbered c.in-Refused.is))
+pub returns-in-Err : goal.returns-in-Err
+returns-in-Err c = rw c.code.ensures (refused _ _ c.args.answer.now (ap why_numbered c.in-Err.is))

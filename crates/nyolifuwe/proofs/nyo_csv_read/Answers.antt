@@ -8,15 +8,15 @@ returns-then-count-lt1 c =
     let a = c.args in
     csv_untaken a.text.now a.rows.now a.count.now c.if-count-lt1.true
 
-pub tell_sites-requires : goal.tell_sites-requires
-tell_sites-requires c =
+pub tell-requires : goal.tell-requires
+tell-requires c =
     let a = c.args in
     (csv_record a.text.now (length a.rows.now) c.read_sheet.ensures.answered, c.if-count-lt1.false)
 
 pub returns : goal.returns
 returns c =
     let a = c.args in
-    let told = c.tell_sites.ensures in
+    let told = c.tell.ensures in
     csv_taken a.text.now a.rows.now _ a.count.now _ c.if-count-lt1.false
     c.read_sheet.ensures
     told.0

@@ -1,10 +1,24 @@
--- `nyolifuwe::nyo_forecast_marks` meets its contract: what the entries by value give is what the lent entries give.
+-- `nyolifuwe::nyo_forecast_marks` meets its contract: the promise of a forecast with its answer handed over, or no room for the
+-- answer. Assumes nothing.
+use Rattle.line.specs.Family.{Base}
 use Rattle.trace.specs.Promise.{Engine, Lent}
-use Rattle.nyolifuwe.proofs.Profiled.{lent-entries}
+use Rattle.nyolifuwe.proofs.Profiled.{forecasting, answer-line, without-room, with-room}
 use Rattle.nyolifuwe.proofs.nyo_forecast_marks.Goals as goal
+
+pub returns-then-answer-lt4 : goal.returns-then-answer-lt4
+returns-then-answer-lt4 c =
+    let a = c.args in
+    let before : Lent = record { scratch = a.scratch.now; rows = a.rows.now; marks = a.marks.now } in
+    rw c.refuse_room.ensures (without-room Base (forecasting a.entries.now) Engine.marks a.trace.now a.depth a.sites before a.answer.now c.if-answer-lt4.true)
+
+pub hand_over-requires : goal.hand_over-requires
+hand_over-requires c =
+    let a = c.args in
+    let before : Lent = record { scratch = a.scratch.now; rows = a.rows.now; marks = a.marks.now } in
+    (answer-line Base (forecasting a.entries.now) Engine.marks a.trace.now a.depth a.sites before _ c.forecast-found.result c.forecast-found.ensures, c.if-answer-lt4.false)
 
 pub returns : goal.returns
 returns c =
     let a = c.args in
     let before : Lent = record { scratch = a.scratch.now; rows = a.rows.now; marks = a.marks.now } in
-    lent-entries Engine.marks a.entries.now a.trace.now a.depth a.sites before a.answer.now _ _ _ (rw c.taken-list.ensures at c.forecast_marks.ensures)
+    with-room Base (forecasting a.entries.now) Engine.marks a.trace.now a.depth a.sites before a.answer.now c.forecast-found.result _ _ _ c.if-answer-lt4.false c.forecast-found.ensures c.hand_over.ensures

@@ -10,28 +10,26 @@ use Rattle.nyolifuwe.proofs.Decided.{refused, given, read_2, read_4, read_as, re
 use Rattle.nyolifuwe.proofs.read_as.Goals as goal
 
 pub returns-then-line-ne-LINE : goal.returns-then-line-ne-LINE
-returns-then-line-ne-LINE c =
+returns-then-line-ne-LINE g c =
     let a = c.args in
-    refused 2 0 a.frame.now (read_2 a.family a.line.now (length a.frame.now) c.if-line-ne-LINE.true)
+    refused 2 0 a.frame.now (read_2 g.F.Family.family a.line.now (length a.frame.now) c.if-line-ne-LINE.true)
 
 pub returns-then-frame-lt-FIELDS : goal.returns-then-frame-lt-FIELDS
-returns-then-frame-lt-FIELDS c =
+returns-then-frame-lt-FIELDS g c =
     let a = c.args in
-    refused 4 0 a.frame.now (read_4 a.family a.line.now (length a.frame.now) c.if-line-ne-LINE.false c.if-frame-lt-FIELDS.true)
+    refused 4 0 a.frame.now (read_4 g.F.Family.family a.line.now (length a.frame.now) c.if-line-ne-LINE.false c.if-frame-lt-FIELDS.true)
 
 pub code-requires : goal.code-requires
-code-requires c =
-    let a = c.args in
-    read_at_0 a.family a.line.now _ _ (sym c.line_as.ensures ∙ c.in-Refused.is)
+code-requires g c = read_at_0 g.F.Family.family c.args.line.now c.in-Err.refusal (sym c.read_line.ensures ∙ c.in-Err.is)
 
-pub returns-in-Line : goal.returns-in-Line
-returns-in-Line c =
+pub returns-in-Ok : goal.returns-in-Ok
+returns-in-Ok g c =
     let a = c.args in
-    let decided = read_as a.family a.line.now (length a.frame.now) c.if-line-ne-LINE.false c.if-frame-lt-FIELDS.false (sym c.line_as.ensures ∙ c.in-Line.is) in
-    given (numbers (fields_of c.in-Line.f)) a.frame.now _ decided (c.put.ensures ∙ ap (λ (l : List ℕ). l ++ drop (length l) a.frame.now) c.fields_of-fields.ensures)
+    let decided = read_as g.F.Family.family a.line.now (length a.frame.now) c.if-line-ne-LINE.false c.if-frame-lt-FIELDS.false (sym c.read_line.ensures ∙ c.in-Ok.is) in
+    given (numbers (fields_of c.in-Ok.read.frame)) a.frame.now _ decided (c.put.ensures ∙ ap (λ (l : List ℕ). l ++ drop (length l) a.frame.now) c.numbers.ensures)
 
-pub returns-in-Refused : goal.returns-in-Refused
-returns-in-Refused c =
+pub returns-in-Err : goal.returns-in-Err
+returns-in-Err g c =
     let a = c.args in
-    let decided = read_as a.family a.line.now (length a.frame.now) c.if-line-ne-LINE.false c.if-frame-lt-FIELDS.false (sym c.line_as.ensures ∙ c.in-Refused.is) in
+    let decided = read_as g.F.Family.family a.line.now (length a.frame.now) c.if-line-ne-LINE.false c.if-frame-lt-FIELDS.false (sym c.read_line.ensures ∙ c.in-Err.is) in
     rw c.code.ensures (refused _ _ a.frame.now decided)

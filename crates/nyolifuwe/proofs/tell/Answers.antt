@@ -6,10 +6,10 @@ use Rattle.nyolifuwe.specs.Inside.{line_of}
 use Rattle.nyolifuwe.proofs.tell.Goals as goal
 
 pub code-requires : goal.code-requires
-code-requires c = omega (arith, sym (ap line_of c.in-Refused.is))
+code-requires c = omega (arith, sym (ap line_of c.in-Err.is))
 
-pub returns-in-Chars : goal.returns-in-Chars
-returns-in-Chars c = rw c.in-Chars.is (refl, set_split c.args.written.now 0 _ (omega arith))
+pub returns-in-Ok : goal.returns-in-Ok
+returns-in-Ok c = rw c.in-Ok.is (refl, set_split c.args.count.now 0 _ (omega arith))
 
-pub returns-in-Refused : goal.returns-in-Refused
-returns-in-Refused c = rw c.in-Refused.is (c.code.ensures, refl)
+pub returns-in-Err : goal.returns-in-Err
+returns-in-Err c = rw c.in-Err.is (c.code.ensures, refl)

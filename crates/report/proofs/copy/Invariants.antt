@@ -1,12 +1,6 @@
--- `report::copy` meets its contract. The invariant: the first `i` are copied. The measure is what is left. Assumes
--- nothing.
-use Prim.Native.Nat.{◌≤◌, ◌-◌}
-use mathlib.Core.Path.{◌≡◌}
-use lib.ListN.{length, take}
+-- `report::copy` meets its contract. The invariant: the first `i` are copied. Assumes nothing.
+use Rattle.std.proofs.Common.{◌≡◌, take}
 use Rattle.report.proofs.copy.Given as goal
 
 abbrev pub invariant-loop-i : goal.invariant-loop-i
-invariant-loop-i l = (l.i ≤ length l.from) × (length l.to ≡ length l.initial.to) × (take l.i l.to ≡ take l.i l.from)
-
-abbrev pub decreases-loop-i : goal.decreases-loop-i
-decreases-loop-i l = length l.from - l.i
+invariant-loop-i l = take l.i l.to ≡ take l.i l.from

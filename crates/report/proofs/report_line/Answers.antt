@@ -2,17 +2,12 @@
 use Prim.Native.Nat.{ℕ, ◌+◌, ◌*◌}
 use mathlib.Core.List.{List, [], ◌∷◌, ◌++◌, append_assoc, flat_map}
 use mathlib.Core.Path.{refl, ◌∙◌, ap}
-use native.Mathlib.Omega.{arith}
-use lib.ListN.{replicate, length-append}
+use lib.ListN.{replicate}
 use Rattle.digits.specs.Digits.{digits}
 use Rattle.trace.specs.Rows.{columns}
 use Rattle.report.specs.Rows.{line_of}
 use Rattle.report.proofs.Parts.{behind}
 use Rattle.report.proofs.report_line.Goals as goal
-
-pub slice_bounds-chars-end-2 : goal.slice_bounds-chars-end-2
-slice_bounds-chars-end-2 c =
-    omega (arith, length-append c.put_digits.new.part (replicate (16 * columns + 1) 10), c.put_digits.auto.part)
 
 pub returns : goal.returns
 unfolding line_of

@@ -6,24 +6,9 @@ use native.Mathlib.Nat.{zero-add}
 use native.Mathlib.Omega.{arith}
 use lib.ListN.{length, drop}
 use Rattle.report.specs.Pieces.{pieces}
-use Rattle.report.proofs.Decisions.{refused, written, report_1, report_4_rows, report_4_out, report-text}
+use Rattle.report.proofs.Decisions.{written, report-text}
 use Rattle.report.proofs.Laying.{laid-front}
 use Rattle.report.proofs.write.Goals as goal
-
-pub returns-then-count-gt255 : goal.returns-then-count-gt255
-returns-then-count-gt255 c = let a = c.args in refused 1 0 a.out.now (report_1 a.rows.now a.count _ _ (length a.out.now) c.if-count-gt255.true)
-
-pub returns-then-rows-n : goal.returns-then-rows-n
-returns-then-rows-n c = let a = c.args in refused 4 0 a.out.now (report_4_rows a.rows.now a.count _ _ (length a.out.now) c.if-count-gt255.false c.if-rows-n.true)
-
-pub returns-then-out-rows_size : goal.returns-then-out-rows_size
-returns-then-out-rows_size c =
-    let a = c.args in
-    let size = c.rows_size.ensures in
-    refused 4 0 a.out.now (report_4_out a.rows.now a.count _ _ (length a.out.now) c.if-count-gt255.false c.if-rows-n.false (omega (arith, size, c.if-out-rows_size.true)))
-
-pub put_rows-requires : goal.put_rows-requires
-put_rows-requires c = record { n_bound = (omega arith, omega arith); room = omega (arith, c.rows_size.ensures, c.if-out-rows_size.false) }
 
 pub returns : goal.returns
 returns c =

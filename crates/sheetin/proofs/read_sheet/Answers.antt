@@ -1,68 +1,43 @@
 -- `sheetin::read_sheet` meets its contract: the header, the records, the room, and only then the rows. Assumes nothing.
-use native.Mathlib.Omega.{arith}
-use borrow.Author.Tests.{not-true, not-false}
-use Rattle.sheetin.proofs.Front.{rest-is}
-use Rattle.sheet.proofs.Decisions.{refused_15}
-use Rattle.sheetin.proofs.Whole.{whole_no, whole-one, reads-wrong, reads_short, reads-some, reads_all}
+use Rattle.std.proofs.Common.{◌≡◌, Ok, Err, ap, sym, ◌∙◌, arith, rules}
+use Rattle.line.specs.Refusal.{refusal}
+use Rattle.sheetin.specs.Seen.{past}
+use Rattle.sheetin.proofs.Whole.{no_header, no_records, wrong_record, few_rows, some_rows, short_room, all_rows}
 use Rattle.sheetin.proofs.read_sheet.Goals as goal
 
-pub returns-then-not-h : goal.returns-then-not-h
-returns-then-not-h c =
-    let a = c.args in
-    refused_15 a.text.now a.room.now 0
-    (whole_no a.text.now c.header_end-h.ensures (not-true _ c.if-not-h.true))
+pub returns-in_err-records : goal.returns-in_err-records
+returns-in_err-records c =
+    let e : c.from_residual.result ≡ Err (refusal 15 0) = search rules in
+    rw e (no_header c.args.text.now c.args.room.now (sym (ap past c.in_err-records.ensures.ok_part) ∙ c.header_end.ensures))
 
-pub returns-then-start-text : goal.returns-then-start-text
-returns-then-start-text c =
-    let a = c.args in
-    refused_15 a.text.now a.room.now 1
-    (whole-one a.text.now c.header_end-h.ensures (not-false _ c.if-not-h.false)
-    c.if-start-text.true)
+pub returns-then-is_empty : goal.returns-then-is_empty
+returns-then-is_empty c =
+    rw c.bad_record-then-is_empty.ensures
+    (no_records c.args.text.now c.args.room.now _ (sym (ap past c.in_ok-records.ensures.ok_part) ∙ c.header_end.ensures) c.if-is_empty.ensures)
 
-pub slice_bounds-records_end-count : goal.slice_bounds-records_end-count
-slice_bounds-records_end-count c = omega (arith, c.header_end-h.ensures.within)
-
-pub slice_bounds-records_end-start : goal.slice_bounds-records_end-start
-slice_bounds-records_end-start c = omega (arith, c.header_end-h.ensures.within)
-
-pub returns-then-not-t : goal.returns-then-not-t
-returns-then-not-t c =
-    let a = c.args in
-    reads-wrong a.text.now a.room.now c.header_end-h.ensures (not-false _ c.if-not-h.false) c.if-start-text.false _
-    (rest-is a.text.now _ c.header_end-h.ensures.within) c.records_end-t.ensures
-    (not-true _ c.if-not-t.true)
+pub returns-in_err-n : goal.returns-in_err-n
+returns-in_err-n c =
+    wrong_record c.args.text.now c.args.room.now _ (sym (ap past c.in_ok-records.ensures.ok_part) ∙ c.header_end.ensures) c.if-is_empty.ensures
+    c.records_end.ensures (grind (arith, rules))
 
 pub overflow_mul-n : goal.overflow_mul-n
-overflow_mul-n c = omega (arith, c.records_end-t.ensures.few (not-false _ c.if-not-t.false))
+overflow_mul-n c =
+    let g : c.records_end.result ≡ Ok c.in_ok-n.n = search rules in
+    let h = few_rows c.args.text.now c.args.room.now _ (sym (ap past c.in_ok-records.ensures.ok_part) ∙ c.header_end.ensures) c.if-is_empty.ensures c.in_ok-n.n (sym g ∙ c.records_end.ensures) in
+    record { fits = omega arith }
 
 pub returns-then-room-n : goal.returns-then-room-n
 returns-then-room-n c =
-    let a = c.args in
-    reads_short a.text.now a.room.now c.header_end-h.ensures (not-false _ c.if-not-h.false) c.if-start-text.false _
-    (rest-is a.text.now _ c.header_end-h.ensures.within) c.records_end-t.ensures
-    (not-false _ c.if-not-t.false) c.if-room-n.true
-
-pub slice_bounds-fill_records-count : goal.slice_bounds-fill_records-count
-slice_bounds-fill_records-count c =
-    omega (arith, c.header_end-h.ensures.within)
-
-pub slice_bounds-fill_records-start : goal.slice_bounds-fill_records-start
-slice_bounds-fill_records-start c =
-    omega (arith, c.header_end-h.ensures.within)
-
-pub fill_records-requires : goal.fill_records-requires
-fill_records-requires c =
-    (c.records_end-t.ensures.few (not-false _ c.if-not-t.false), c.if-room-n.false)
+    let g : c.records_end.result ≡ Ok c.in_ok-n.n = search rules in
+    rw c.refused.ensures
+    (short_room c.args.text.now c.args.room.now _ (sym (ap past c.in_ok-records.ensures.ok_part) ∙ c.header_end.ensures) c.if-is_empty.ensures c.in_ok-n.n (sym g ∙ c.records_end.ensures) c.if-room-n.true)
 
 pub overflow_sub-result : goal.overflow_sub-result
 overflow_sub-result c =
-    let a = c.args in
-    omega
-    (arith, reads-some a.text.now a.room.now c.header_end-h.ensures (not-false _ c.if-not-h.false) c.if-start-text.false _ (rest-is a.text.now _ c.header_end-h.ensures.within) c.records_end-t.ensures (not-false _ c.if-not-t.false))
+    let g : c.records_end.result ≡ Ok c.in_ok-n.n = search rules in
+    some_rows c.args.text.now c.args.room.now _ (sym (ap past c.in_ok-records.ensures.ok_part) ∙ c.header_end.ensures) c.if-is_empty.ensures c.in_ok-n.n (sym g ∙ c.records_end.ensures)
 
 pub returns : goal.returns
 returns c =
-    let a = c.args in
-    reads_all a.text.now a.room.now c.header_end-h.ensures (not-false _ c.if-not-h.false) c.if-start-text.false _
-    (rest-is a.text.now _ c.header_end-h.ensures.within) c.records_end-t.ensures (not-false _ c.if-not-t.false) _ _
-    (rest-is a.text.now _ c.header_end-h.ensures.within) c.if-room-n.false c.fill_records.ensures
+    let g : c.records_end.result ≡ Ok c.in_ok-n.n = search rules in
+    all_rows c.args.text.now c.args.room.now _ (sym (ap past c.in_ok-records.ensures.ok_part) ∙ c.header_end.ensures) c.if-is_empty.ensures c.in_ok-n.n (sym g ∙ c.records_end.ensures) _ c.if-room-n.false c.fill_records.ensures

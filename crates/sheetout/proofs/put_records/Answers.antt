@@ -1,6 +1,6 @@
 use Prim.Native.Nat.{ℕ, ◌*◌}
 use mathlib.Core.List.{flat_map}
-use mathlib.Core.Path.{◌≡◌, refl, ap, ◌∙◌, sym}
+use mathlib.Core.Path.{refl, ap, ◌∙◌, sym}
 use native.Mathlib.Nat.{add-sub_cancel_left}
 use native.Mathlib.Omega.{arith}
 use borrow.Rule.Slice.PartMut.{mid_of}
@@ -15,7 +15,7 @@ use Rattle.sheetout.proofs.put_records.Goals as goal
 pub loop-row-init : goal.loop-row-init
 loop-row-init c =
     let a = c.args in
-    (omega arith, refl, lays_as a.at (sym (flat_map_none (row_text a.rows.now))) (lays_nothing a.at a.out.now))
+    (refl, lays_as a.at (sym (flat_map_none (row_text a.rows.now))) (lays_nothing a.at a.out.now))
 
 pub put_record-end-requires : goal.put_record-end-requires
 put_record-end-requires c =
@@ -24,7 +24,7 @@ put_record-end-requires c =
     let fits = fits-row (row_text a.rows.now) c.loop-row.row a.n c.loop-row-test.true in
     let part = add-sub_cancel_left (columns * c.loop-row.row) columns in
     let long = ap (λ (k : ℕ). length (record_text c.loop-row.row (mid_of (columns * c.loop-row.row) k a.rows.now))) part in
-    omega (arith, c.loop-row.invariant.2.ends, pre.1, c.loop-row.invariant.1, fits, long)
+    omega (arith, c.loop-row.invariant.1.ends, pre.1, c.loop-row.invariant.0, fits, long)
 
 pub loop-row-preserved : goal.loop-row-preserved
 loop-row-preserved c =
@@ -34,11 +34,5 @@ loop-row-preserved c =
     let fits = fits-row text c.loop-row.row a.n c.loop-row-test.true in
     let part = add-sub_cancel_left (columns * c.loop-row.row) columns in
     let this = lays_as _ (ap (λ (k : ℕ). record_text c.loop-row.row (mid_of (columns * c.loop-row.row) k a.rows.now)) part) c.put_record-end.ensures in
-    let next = lays_next a.at (flat_map text (first c.loop-row.row)) (text c.loop-row.row) a.out.now (omega (arith, pre.1, fits)) c.loop-row.invariant.2 this in
-    (omega arith, c.put_record-end.auto.out ∙ c.loop-row.invariant.1, lays_as a.at (sym (next_row text c.loop-row.row)) next)
-
-pub returns : goal.returns
-returns c =
-    let a = c.args in
-    let e : c.loop-row.row ≡ a.n = omega (arith, c.loop-row.invariant.0) in
-    lays_as a.at (ap (λ (k : ℕ). flat_map (row_text a.rows.now) (first k)) e) c.loop-row.invariant.2
+    let next = lays_next a.at (flat_map text (first c.loop-row.row)) (text c.loop-row.row) a.out.now (omega (arith, pre.1, fits)) c.loop-row.invariant.1 this in
+    (c.put_record-end.auto.out ∙ c.loop-row.invariant.0, lays_as a.at (sym (next_row text c.loop-row.row)) next)

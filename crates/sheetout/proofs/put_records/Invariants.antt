@@ -1,6 +1,4 @@
--- `sheetout::put_records` meets its contract. The invariant: the first records are laid. The measure is how many are
--- left. Assumes nothing.
-use Prim.Native.Nat.{◌-◌, ◌≤◌}
+-- `sheetout::put_records` meets its contract. The invariant: the first records are laid. Assumes nothing.
 use mathlib.Core.List.{flat_map}
 use mathlib.Core.Path.{◌≡◌}
 use lib.ListN.{length}
@@ -10,7 +8,4 @@ use Rattle.sheetout.specs.Pieces.{row_text}
 use Rattle.sheetout.proofs.put_records.Given as goal
 
 abbrev pub invariant-loop-row : goal.invariant-loop-row
-invariant-loop-row l = (l.row ≤ l.n) × (length l.out ≡ length l.initial.out) × Lays l.at (flat_map (row_text l.rows) (first l.row)) l.initial.out l.end l.out
-
-abbrev pub decreases-loop-row : goal.decreases-loop-row
-decreases-loop-row l = l.n - l.row
+invariant-loop-row l = (length l.out ≡ length l.initial.out) × Lays l.at (flat_map (row_text l.rows) (first l.row)) l.initial.out l.end l.out

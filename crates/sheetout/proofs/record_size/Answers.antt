@@ -5,21 +5,6 @@ use Rattle.digits.proofs.Figures.{decimal-length, decimal-few}
 use Rattle.sheetout.proofs.Counting.{record_size_is}
 use Rattle.sheetout.proofs.record_size.Goals as goal
 
-pub numbers_size-requires : goal.numbers_size-requires
-numbers_size-requires c = c.requires
-
-pub overflow_add-result : goal.overflow_add-result
-overflow_add-result c =
-    let a = c.args in
-    omega
-    (arith, c.size-front.ensures, decimal-few a.row (search rules), decimal-length a.row, c.numbers_size.ensures.1)
-
-pub overflow_add-result-2 : goal.overflow_add-result-2
-overflow_add-result-2 c =
-    let a = c.args in
-    omega
-    (arith, c.size-front.ensures, decimal-few a.row (search rules), decimal-length a.row, c.numbers_size.ensures.1)
-
 pub returns : goal.returns
 returns c =
     let a = c.args in

@@ -6,20 +6,9 @@ use native.Mathlib.Omega.{arith}
 use lib.ListN.{length, drop}
 use Rattle.report.proofs.Decisions.{refused, written, fitting_short, fitting-text}
 use Rattle.sheet.specs.Text.{sheet_text}
-use Rattle.sheet.proofs.Decisions.{writing_1, writing_4, writing-fitting}
+use Rattle.sheet.proofs.Decisions.{writing-fitting}
 use Rattle.sheetout.proofs.Counting.{header_size, header-length, text-length, text-laid}
 use Rattle.sheetout.proofs.write_sheet.Goals as goal
-
-pub returns-then-count-gt255 : goal.returns-then-count-gt255
-returns-then-count-gt255 c =
-    let a = c.args in
-    refused 1 0 a.out.now (writing_1 a.rows.now a.count (length a.out.now) c.if-count-gt255.true)
-
-pub returns-then-rows-n : goal.returns-then-rows-n
-returns-then-rows-n c =
-    let a = c.args in
-    refused 4 0 a.out.now
-    (writing_4 a.rows.now a.count (length a.out.now) c.if-count-gt255.false c.if-rows-n.true)
 
 pub returns-then-out-size : goal.returns-then-out-size
 returns-then-out-size c =
@@ -27,9 +16,10 @@ returns-then-out-size c =
     let s = sheet_text a.rows.now a.count in
     let room = length a.out.now in
     let short : room < length s = omega (arith, header-length, text-length a.rows.now a.count, c.records_size.ensures.0, c.if-out-size.true) in
-    refused 16 0 a.out.now
+    rw c.refused-then-out-size.ensures
+    (refused 16 0 a.out.now
     (writing-fitting a.rows.now a.count room c.if-count-gt255.false c.if-rows-n.false
-    ∙ fitting_short 16 s room short)
+    ∙ fitting_short 16 s room short))
 
 pub put_header-at-requires : goal.put_header-at-requires
 put_header-at-requires c = omega (arith, header-length, c.if-out-size.false)

@@ -2,7 +2,7 @@
 -- read.
 use Prim.Native.Nat.{◌+◌, ◌*◌, ◌-◌}
 use mathlib.Core.List.{[]}
-use Rattle.line.specs.declared.Family.TheVariants.{Finishes}
+use Rattle.line.specs.Family.{Finishes}
 use Rattle.weigh.specs.Weighed.{Weigh}
 use Rattle.walk.specs.Weight.{by_asking}
 use Rattle.tables.proofs.Bodies.{Loop}

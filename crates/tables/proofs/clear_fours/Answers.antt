@@ -1,5 +1,4 @@
 use mathlib.Core.Path.{refl, ◌∙◌, sym}
-use Prim.Native.Nat.{◌<◌}
 use native.Mathlib.Nat.{div-one}
 use native.Mathlib.Omega.{arith}
 use lib.Count.{count_trailing_zeros}
@@ -12,40 +11,10 @@ pub loop-left-init : goal.loop-left-init
 loop-left-init c =
     (sym (div-one c.args.word), refl, cleared-none c.args.a c.args.w c.args.t.now 0)
 
-pub overflow_cast-c : goal.overflow_cast-c
-overflow_cast-c c =
-    let here : (c.loop-left.c < 64) × (count_trailing_zeros 64 c.loop-left.left < 64) = within c.args.word c.loop-left.c c.loop-left.left c.loop-left.invariant.0 (omega (arith, c.ranges.word)) c.loop-left-test.true in
-    omega (arith, here)
-
-pub overflow_add-c : goal.overflow_add-c
-overflow_add-c c =
-    let here : (c.loop-left.c < 64) × (count_trailing_zeros 64 c.loop-left.left < 64) = within c.args.word c.loop-left.c c.loop-left.left c.loop-left.invariant.0 (omega (arith, c.ranges.word)) c.loop-left-test.true in
-    record { fits = omega (arith, here) }
-
-pub overflow_mul-c : goal.overflow_mul-c
-overflow_mul-c c =
-    let here : (c.loop-left.c < 64) × (count_trailing_zeros 64 c.loop-left.left < 64) = within c.args.word c.loop-left.c c.loop-left.left c.loop-left.invariant.0 (omega (arith, c.ranges.word)) c.loop-left-test.true in
-    omega (arith, here)
-
 pub clear_next-requires : goal.clear_next-requires
 clear_next-requires c =
-    let here : (c.loop-left.c < 64) × (count_trailing_zeros 64 c.loop-left.left < 64) = within c.args.word c.loop-left.c c.loop-left.left c.loop-left.invariant.0 (omega (arith, c.ranges.word)) c.loop-left-test.true in
+    let here = within c.args.word c.loop-left.c c.loop-left.left c.loop-left.invariant.0 (omega (arith, c.ranges.word)) c.loop-left-test.true in
     (omega (arith, c.loop-left.invariant.1, c.requires.0), omega (arith, here))
-
-pub overflow_cast-left : goal.overflow_cast-left
-overflow_cast-left c =
-    let here : (c.loop-left.c < 64) × (count_trailing_zeros 64 c.loop-left.left < 64) = within c.args.word c.loop-left.c c.loop-left.left c.loop-left.invariant.0 (omega (arith, c.ranges.word)) c.loop-left-test.true in
-    omega (arith, here)
-
-pub overflow_shr-left : goal.overflow_shr-left
-overflow_shr-left c =
-    let here : (c.loop-left.c < 64) × (count_trailing_zeros 64 c.loop-left.left < 64) = within c.args.word c.loop-left.c c.loop-left.left c.loop-left.invariant.0 (omega (arith, c.ranges.word)) c.loop-left-test.true in
-    omega (arith, here)
-
-pub overflow_add-c-in-loop-left : goal.overflow_add-c-in-loop-left
-overflow_add-c-in-loop-left c =
-    let here : (c.loop-left.c < 64) × (count_trailing_zeros 64 c.loop-left.left < 64) = within c.args.word c.loop-left.c c.loop-left.left c.loop-left.invariant.0 (omega (arith, c.ranges.word)) c.loop-left-test.true in
-    record { fits = omega (arith, here) }
 
 pub loop-left-smaller : goal.loop-left-smaller
 loop-left-smaller c =

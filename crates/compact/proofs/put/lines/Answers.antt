@@ -1,28 +1,9 @@
 -- `compact::put::lines` meets its contract: a cost with its instructions, a sync, the line itself. Assumes nothing.
-use native.Mathlib.Omega.{arith}
 use lib.ListN.{length}
 use Rattle.digits.specs.Digits.{small_form}
 use Rattle.line.specs.Read.{line_at}
 use Rattle.compact.proofs.Passes.{pieces-fit, pieces-laid}
 use Rattle.compact.proofs.put.lines.Goals as goal
-
-pub cost-a-requires : goal.cost-a-requires
-cost-a-requires c =
-    let a = c.args in
-    let p = pieces-fit a.g (small_form (line_at a.trace.now a.n)) a.at (length a.out.now) c.requires.1.1 in
-    (c.requires.1.0.0, (c.requires.1.0.1, p.first))
-
-pub sync-b-requires : goal.sync-b-requires
-sync-b-requires c =
-    let a = c.args in
-    let p = pieces-fit a.g (small_form (line_at a.trace.now a.n)) a.at (length a.out.now) c.requires.1.1 in
-    omega (arith, p.second, c.cost-a.ensures.ends, c.cost-a.auto.out)
-
-pub itself-requires : goal.itself-requires
-itself-requires c =
-    let a = c.args in
-    let p = pieces-fit a.g (small_form (line_at a.trace.now a.n)) a.at (length a.out.now) c.requires.1.1 in
-    (c.requires.0, omega (arith, p.third, c.cost-a.ensures.ends, c.cost-a.auto.out, c.sync-b.ensures.ends, c.sync-b.auto.out))
 
 pub returns : goal.returns
 returns c =

@@ -1,18 +1,10 @@
-use Rattle.std.proofs.Common.{arith, rules}
-use Rattle.digits.proofs.FiguresWritten.{counts_none, counts_more, counts_all}
+-- `digits::decimal::size` meets its contract. Assumes nothing.
+use Rattle.std.proofs.Common.{◌≡◌, ◌+◌, MatchOption, rules}
+use Rattle.digits.proofs.FiguresWritten.{size-is}
 use Rattle.digits.proofs.decimal.size.Goals as goal
 
-pub loop-rest-init : goal.loop-rest-init
-loop-rest-init c = counts_none c.args.x (search rules)
-
-pub overflow_sub-left : goal.overflow_sub-left
-overflow_sub-left c = omega (arith, c.loop-rest.invariant.some)
-
-pub loop-rest-preserved : goal.loop-rest-preserved
-loop-rest-preserved c = counts_more c.loop-rest.invariant c.loop-rest-test.true
-
-pub overflow_sub-result : goal.overflow_sub-result
-overflow_sub-result c = omega (arith, c.loop-rest.invariant.few)
-
 pub returns : goal.returns
-returns c = counts_all c.loop-rest.invariant (search rules)
+returns c =
+    let l = c.checked_ilog10.ensures in
+    let e : MatchOption c.checked_ilog10.result (c.map_or.result ≡ 1) (λ k. c.map_or.result ≡ k + 1) = search rules in
+    size-is c.args.x c.checked_ilog10.result l.none l.power_le l.next_power_gt l.bound e

@@ -1,11 +1,7 @@
 -- `digits::decimal::value` meets its contract. The invariant: what is read so far and what is left come to the whole
--- (`Reads`). The measure is what is left of the length. Assumes nothing.
-use Rattle.std.proofs.Common.{◌-◌, length}
+-- (`Reads`). Assumes nothing.
 use Rattle.digits.proofs.FiguresRead.{Reads}
 use Rattle.digits.proofs.decimal.value.Given as goal
 
-abbrev pub invariant-loop-i : goal.invariant-loop-i
-invariant-loop-i l = Reads l.s l.value l.i
-
-abbrev pub decreases-loop-i : goal.decreases-loop-i
-decreases-loop-i l = length l.s - l.i
+abbrev pub invariant-loop-c : goal.invariant-loop-c
+invariant-loop-c l = Reads l.s l.value l.c-index

@@ -1,25 +1,19 @@
-use mathlib.Core.Path.{refl, ◌∙◌}
-use native.Mathlib.Omega.{arith}
-use Rattle.folded.proofs.Measuring.{measuring_start, measuring_asks, measuring_on, measuring_end}
+use Rattle.std.proofs.Common.{◌∙◌, arith}
+use Rattle.folded.proofs.Measuring.{measuring_asks, measuring_on, measuring_out, measuring_end}
 use Rattle.folded.proofs.measure.fits.Goals as goal
 
-pub without-requires : goal.without-requires
-without-requires c = c.requires.found 0 (omega arith)
-
-pub loop-n-init : goal.loop-n-init
-loop-n-init c =
-    let a = c.args in
-    (refl, λ q. measuring_start q a.whole _ c.without.ensures)
-
-pub take_line-a-requires : goal.take_line-a-requires
-take_line-a-requires c =
+pub take_line-requires : goal.take_line-requires
+take_line-requires c =
     let q = c.requires in
     measuring_asks q c.args.whole (c.loop-n.invariant.1 q) c.loop-n-test.true (omega (arith, c.loop-n.invariant.0))
 
+pub returns-in-None : goal.returns-in-None
+returns-in-None c = λ q. measuring_out q c.args.whole (c.loop-n.invariant.1 q) c.loop-n-test.true (omega (arith, c.loop-n.invariant.0)) c.take_line.new.t c.in-None.ensures
+
 pub loop-n-preserved : goal.loop-n-preserved
 loop-n-preserved c = (
-  c.take_line-a.auto.t ∙ c.loop-n.invariant.0,
-  λ q. measuring_on q c.args.whole (c.loop-n.invariant.1 q) c.loop-n-test.true (omega (arith, c.loop-n.invariant.0)) c.take_line-a.result _ c.take_line-a.ensures,
+  c.take_line.auto.t ∙ c.loop-n.invariant.0,
+  λ q. measuring_on q c.args.whole (c.loop-n.invariant.1 q) c.loop-n-test.true (omega (arith, c.loop-n.invariant.0)) c.in-Some.b _ c.in-Some.ensures,
 )
 
 pub returns : goal.returns

@@ -1,50 +1,32 @@
 -- `folded::measure::take_line` meets its contract, kind by kind. Assumes nothing.
-use Rattle.std.proofs.Common.{rules}
-use native.Mathlib.Omega.{arith}
+use Rattle.std.proofs.Common.{ap, ◌+◌, ℕ, rules, arith}
 use Rattle.digits.proofs.Figures.{decimal-length, decimal-few}
-use Rattle.folded.proofs.Measuring.{some_open, within, top, cost-left, return_left, passed-left, site_left, made-known, made-room, made-left}
+use Rattle.folded.proofs.Measuring.{top, cost-left, return_left, passed-left, made-known, made-room, made-left}
 use Rattle.folded.proofs.measure.take_line.Goals as goal
 
-pub overflow_sub-depth : goal.overflow_sub-depth
-overflow_sub-depth c = some_open c.requires
-
-pub bounds-t-depth : goal.bounds-t-depth
-bounds-t-depth c = omega (arith, some_open c.requires, within c.requires)
+pub overflow_add-size : goal.overflow_add-size
+overflow_add-size c = omega (arith, c.size-size.ensures, decimal-length c.cost_at.result, decimal-few c.cost_at.result (search rules))
 
 pub overflow_sub-whole : goal.overflow_sub-whole
 overflow_sub-whole c = omega (arith, top c.requires)
 
-pub overflow_add-size : goal.overflow_add-size
-overflow_add-size c = omega (arith, c.size.ensures, decimal-length c.cost_at-v.result, decimal-few c.cost_at-v.result (search rules))
+pub returns-in-6 : goal.returns-in-6
+returns-in-6 c = λ q. cost-left q c.kind_at.result c.kind_at.ensures c.in-6.is c.cost_at.result _ c.cost_at.ensures (ap (λ (k : ℕ). 2 + k) c.size-size.ensures) c.print.result c.print.ensures
 
-pub returns-then-kind-eq6 : goal.returns-then-kind-eq6
-returns-then-kind-eq6 c =
-    let a = c.args in
-    λ q. cost-left q c.kind_at-kind.result c.kind_at-kind.ensures c.if-kind-eq6.true c.cost_at-v.result c.size.result c.less.result c.less-left.result c.cost_at-v.ensures c.size.ensures c.less.ensures c.less-left.ensures
+pub returns-in-5 : goal.returns-in-5
+returns-in-5 c = λ q. return_left q c.kind_at.result c.kind_at.ensures c.in-5.is
 
-pub overflow_sub-result : goal.overflow_sub-result
-overflow_sub-result c = some_open c.requires
+pub bounds-names-site_at : goal.bounds-names-site_at
+bounds-names-site_at c = (made-known c.requires c.kind_at.result c.kind_at.ensures (omega arith) (omega arith) c.site_at.result c.site_at.ensures).inside
 
-pub returns-then-kind-eq5 : goal.returns-then-kind-eq5
-returns-then-kind-eq5 c = λ q. return_left q c.kind_at-kind.result c.kind_at-kind.ensures c.if-kind-eq5.true
+pub bounds-t-depth-in-2-2 : goal.bounds-t-depth-in-2-2
+bounds-t-depth-in-2-2 c = made-room c.requires c.kind_at.result c.kind_at.ensures (omega arith) (omega arith) c.site_at.result c.site_at.ensures
 
-pub returns-then-kind-gt3 : goal.returns-then-kind-gt3
-returns-then-kind-gt3 c = λ q. passed-left q c.kind_at-kind.result c.kind_at-kind.ensures c.if-kind-eq6.false c.if-kind-eq5.false c.if-kind-gt3.true
+pub returns-in-2 : goal.returns-in-2
+returns-in-2 c = λ q. made-left q c.kind_at.result c.kind_at.ensures (omega arith) (omega arith) c.site_at.result c.site_at.ensures c.saturating_sub-in-2.result c.saturating_sub.result _ c.saturating_sub.ensures c.saturating_sub-in-2.ensures
 
-pub returns-then-kind-eq1 : goal.returns-then-kind-eq1
-returns-then-kind-eq1 c = λ q. site_left q c.kind_at-kind.result c.kind_at-kind.ensures c.if-kind-eq1.true
+pub returns-in_default : goal.returns-in_default
+returns-in_default c = λ q. passed-left q c.kind_at.result c.kind_at.ensures (λ e. omega arith) (λ e. omega arith) (λ e. omega arith) (λ e. omega arith)
 
-pub overflow_sub-depth-2 : goal.overflow_sub-depth-2
-overflow_sub-depth-2 c = some_open c.requires
-
-pub bounds-t-depth-2 : goal.bounds-t-depth-2
-bounds-t-depth-2 c = omega (arith, some_open c.requires, within c.requires)
-
-pub without-requires : goal.without-requires
-without-requires c = made-known c.requires c.kind_at-kind.result c.kind_at-kind.ensures c.if-kind-gt3.false c.if-kind-eq1.false c.site_at-site.result c.site_at-site.ensures
-
-pub bounds-t-depth-3 : goal.bounds-t-depth-3
-bounds-t-depth-3 c = made-room c.requires c.kind_at-kind.result c.kind_at-kind.ensures c.if-kind-gt3.false c.if-kind-eq1.false c.site_at-site.result c.site_at-site.ensures
-
-pub returns : goal.returns
-returns c = λ q. made-left q c.kind_at-kind.result c.kind_at-kind.ensures c.if-kind-gt3.false c.if-kind-eq1.false c.site_at-site.result c.site_at-site.ensures c.without.result c.minus.result c.minus.ensures c.without.ensures
+pub returns-in_default-2 : goal.returns-in_default-2
+returns-in_default-2 c = λ q. passed-left q c.kind_at.result c.kind_at.ensures (λ e. omega arith) (λ e. omega arith) (λ e. omega arith) (λ e. omega arith)

@@ -1,46 +1,48 @@
 -- `folded::write::put_line` meets its contract, kind by kind. Assumes nothing.
-use native.Mathlib.Omega.{arith}
-use Rattle.folded.proofs.Writing.{some_open, within, stack-asked, cost-fits, cost-from, cost-left, close_asked, return_left, passed-left, site_left, made-room, made-left}
+use Rattle.std.proofs.Common.{◌-◌, arith}
+use Rattle.folded.proofs.Writing.{some_open, row-known, stack-asked, cost-fits, cost-from, cost-left, return_left, passed-left, made-room, made-left}
 use Rattle.folded.proofs.write.put_line.Goals as goal
 
 pub put_stack-end-requires : goal.put_stack-end-requires
-put_stack-end-requires c = stack-asked c.requires c.kind_at-kind.result c.kind_at-kind.ensures c.if-kind-eq6.true c.cost_at-v.result c.cost_at-v.ensures
+put_stack-end-requires c = stack-asked c.requires c.kind_at.result c.kind_at.ensures c.in-6.is c.cost_at-v.result c.cost_at-v.ensures
 
 pub put_cost-next-requires : goal.put_cost-next-requires
+unfolding stack-asked
 put_cost-next-requires c =
-    cost-fits c.requires c.kind_at-kind.result c.kind_at-kind.ensures c.if-kind-eq6.true c.cost_at-v.result c.cost_at-v.ensures c.put_stack-end.ensures c.put_stack-end.auto.out
+    let q = c.requires in
+    let asked = stack-asked q c.kind_at.result c.kind_at.ensures c.in-6.is c.cost_at-v.result c.cost_at-v.ensures in
+    cost-fits q c.kind_at.result c.kind_at.ensures c.in-6.is c.cost_at-v.result c.cost_at-v.ensures (c.put_stack-end.ensures asked) c.put_stack-end.auto.out
 
 pub overflow_sub-this : goal.overflow_sub-this
+unfolding stack-asked
 overflow_sub-this c =
-    cost-from c.requires c.kind_at-kind.result c.kind_at-kind.ensures c.if-kind-eq6.true c.cost_at-v.result c.cost_at-v.ensures c.put_stack-end.ensures c.put_stack-end.auto.out
+    let q = c.requires in
+    let asked = stack-asked q c.kind_at.result c.kind_at.ensures c.in-6.is c.cost_at-v.result c.cost_at-v.ensures in
+    cost-from q c.kind_at.result c.kind_at.ensures c.in-6.is c.cost_at-v.result c.cost_at-v.ensures (c.put_stack-end.ensures asked) c.put_stack-end.auto.out
 
-pub returns-then-kind-eq6 : goal.returns-then-kind-eq6
-returns-then-kind-eq6 c =
-    λ q. cost-left q c.kind_at-kind.result c.kind_at-kind.ensures c.if-kind-eq6.true c.cost_at-v.result c.cost_at-v.ensures c.put_stack-end.ensures c.put_stack-end.auto.out c.put_cost-next.ensures
+pub returns-in-6 : goal.returns-in-6
+unfolding stack-asked
+returns-in-6 c = λ q.
+    let asked = stack-asked q c.kind_at.result c.kind_at.ensures c.in-6.is c.cost_at-v.result c.cost_at-v.ensures in
+    cost-left q c.kind_at.result c.kind_at.ensures c.in-6.is c.cost_at-v.result c.cost_at-v.ensures (c.put_stack-end.ensures asked) c.put_stack-end.auto.out c.put_cost-next.ensures
 
-pub overflow_sub-row : goal.overflow_sub-row
-overflow_sub-row c = some_open c.requires
+pub offset_bounds-names-t : goal.offset_bounds-names-t
+offset_bounds-names-t c = omega (arith, (row-known c.requires (c.args.a.depth - 1) (omega (arith, some_open c.requires))).inside)
 
-pub bounds-t-depth : goal.bounds-t-depth
-bounds-t-depth c = omega (arith, some_open c.requires, within c.requires)
+pub bounds-names-t : goal.bounds-names-t
+bounds-names-t c = (row-known c.requires (c.args.a.depth - 1) (omega (arith, some_open c.requires))).inside
 
-pub close-same-requires : goal.close-same-requires
-close-same-requires c = close_asked c.requires c.kind_at-kind.result c.kind_at-kind.ensures
+pub returns-in-5 : goal.returns-in-5
+returns-in-5 c = λ q. return_left q c.kind_at.result c.kind_at.ensures c.in-5.is _ c.close.result c.close.ensures
 
-pub overflow_sub-result : goal.overflow_sub-result
-overflow_sub-result c = some_open c.requires
+pub bounds-t-depth-in-2 : goal.bounds-t-depth-in-2
+bounds-t-depth-in-2 c = made-room c.requires c.kind_at.result c.kind_at.ensures (omega arith) (omega arith) c.site_at.result c.site_at.ensures
 
-pub returns-then-kind-eq5 : goal.returns-then-kind-eq5
-returns-then-kind-eq5 c = λ q. return_left q c.kind_at-kind.result c.kind_at-kind.ensures c.if-kind-eq5.true c.close-same.result c.close-same.ensures
+pub returns-in-2 : goal.returns-in-2
+returns-in-2 c = λ q. made-left q c.kind_at.result c.kind_at.ensures (omega arith) (omega arith) c.site_at.result c.site_at.ensures
 
-pub returns-then-kind-gt3 : goal.returns-then-kind-gt3
-returns-then-kind-gt3 c = λ q. passed-left q c.kind_at-kind.result c.kind_at-kind.ensures c.if-kind-eq6.false c.if-kind-eq5.false c.if-kind-gt3.true
+pub returns-in_default : goal.returns-in_default
+returns-in_default c = λ q. passed-left q c.kind_at.result c.kind_at.ensures (λ e. omega arith) (λ e. omega arith) (λ e. omega arith) (λ e. omega arith)
 
-pub returns-then-kind-eq1 : goal.returns-then-kind-eq1
-returns-then-kind-eq1 c = λ q. site_left q c.kind_at-kind.result c.kind_at-kind.ensures c.if-kind-eq1.true
-
-pub bounds-t-depth-2 : goal.bounds-t-depth-2
-bounds-t-depth-2 c = made-room c.requires c.kind_at-kind.result c.kind_at-kind.ensures c.if-kind-gt3.false c.if-kind-eq1.false c.site_at.result c.site_at.ensures
-
-pub returns : goal.returns
-returns c = λ q. made-left q c.kind_at-kind.result c.kind_at-kind.ensures c.if-kind-gt3.false c.if-kind-eq1.false c.site_at.result c.site_at.ensures
+pub returns-in_default-2 : goal.returns-in_default-2
+returns-in_default-2 c = λ q. passed-left q c.kind_at.result c.kind_at.ensures (λ e. omega arith) (λ e. omega arith) (λ e. omega arith) (λ e. omega arith)

@@ -6,9 +6,6 @@ use Rattle.digits.proofs.Figures.{decimal-length}
 use Rattle.report.proofs.Laying.{decimal-laid}
 use Rattle.report.proofs.lay.decimal.Goals as goal
 
-pub overflow_add-end : goal.overflow_add-end
-overflow_add-end c = omega (arith, c.requires, c.size.ensures, decimal-length c.args.x)
-
 pub slice_bounds-put_figures-end : goal.slice_bounds-put_figures-end
 slice_bounds-put_figures-end c = omega (arith, c.requires, c.size.ensures, decimal-length c.args.x)
 

@@ -1,12 +1,11 @@
--- `sheetin::check::names_end` meets its contract. The invariant: the names so far are there, and the others stand in
--- the table from `h` on (`Heading`). The measure is what is left of the table. Assumes nothing.
-use Prim.Native.Nat.{◌-◌}
-use lib.ListN.{length}
+-- `sheetin::check::names_end` meets its contract. The invariant: the names so far are there. The measure is what is
+-- left of the table. Assumes nothing.
+use Rattle.std.proofs.Common.{length}
 use Rattle.sheetin.proofs.Head.{Heading}
 use Rattle.sheetin.proofs.check.names_end.Given as goal
 
-abbrev pub invariant-loop-h : goal.invariant-loop-h
-invariant-loop-h l = Heading l.s l.table l.at l.h
+abbrev pub invariant-loop-left : goal.invariant-loop-left
+invariant-loop-left l = Heading l.s l.rest l.left
 
-abbrev pub decreases-loop-h : goal.decreases-loop-h
-decreases-loop-h l = length l.table - l.h
+abbrev pub decreases-loop-left : goal.decreases-loop-left
+decreases-loop-left l = length l.left

@@ -1,29 +1,27 @@
--- `sheetin::fields::field_at` meets its contract, by the first character. Assumes nothing.
-use Rattle.std.proofs.Common.{rules}
-use mathlib.Core.Path.{ap, ◌∙◌}
-use Rattle.sheet.specs.Grammar.{before, ends_quoted}
-use Rattle.sheetin.proofs.Front.{rest-is, field-empty, field_unclosed, field-quoted, field-bare}
+-- `sheetin::fields::field_at` meets its contract. Assumes nothing.
+use Rattle.std.proofs.Common.{◌-◌, Some, None, length, take, drop, ap, ◌∙◌, arith, rules, ltb-true}
+use Rattle.sheet.specs.Grammar.{ends_quoted}
+use Rattle.sheetin.specs.Seen.{parted}
+use Rattle.sheetin.proofs.Scan.{FirstPicked}
+use Rattle.sheetin.proofs.Front.{field-quoted, field-unclosed, field-bare}
 use Rattle.sheetin.proofs.fields.field_at.Goals as goal
+use Rattle.sheetin.proofs.fields.field_at.Goals.{in_default-via-then-s-lt1, in_default-via-else-s-lt1+in_default-1}
 
-pub returns-then-s-eq0 : goal.returns-then-s-eq0
-returns-then-s-eq0 c = field-empty c.args.s.now c.if-s-eq0.true
+pub returns-in_err-n-in-34 : goal.returns-in_err-n-in-34
+returns-in_err-n-in-34 c =
+    let s = c.args.s.now in
+    let f : FirstPicked ends_quoted (take (length s - 1) (drop 1 s)) None = search rules in
+    ap parted c.from_residual.ensures ∙ field-unclosed s (omega arith) (omega arith) f
 
-pub returns-then-s-n : goal.returns-then-s-n
-returns-then-s-n c =
-    let a = c.args in
-    let rest = rest-is a.s.now 1 (search rules) in
-    field_unclosed a.s.now _ c.if-s-eq0.false c.if-s-eq34.true
-    (c.to_quote-n.ensures.0 ∙ ap (before ends_quoted) rest) c.if-s-n.true
+pub returns-in_ok-n-in-34 : goal.returns-in_ok-n-in-34
+returns-in_ok-n-in-34 c =
+    let s = c.args.s.now in
+    let f : FirstPicked ends_quoted (take (length s - 1) (drop 1 s)) (Some c.in_ok-n-in-34.n) = search rules in
+    field-quoted s c.in_ok-n-in-34.n (omega arith) (omega arith) f
 
-pub returns-then-s-eq34 : goal.returns-then-s-eq34
-returns-then-s-eq34 c =
-    let a = c.args in
-    let rest = rest-is a.s.now 1 (search rules) in
-    field-quoted a.s.now _ c.if-s-eq0.false c.if-s-eq34.true
-    (c.to_quote-n.ensures.0 ∙ ap (before ends_quoted) rest) c.if-s-n.false
-
-pub returns : goal.returns
-returns c =
-    let a = c.args in
-    field-bare a.s.now _ c.if-s-eq0.false c.if-s-eq34.false c.to_end-n.ensures.0
-    c.to_end-n.ensures.1
+pub returns-in_default : goal.returns-in_default
+returns-in_default c =
+    let e = c.to_end.ensures in
+    field-bare c.args.s.now _ _ _
+    (λ h e. elim c.in_default.branch [ in_default-via-then-s-lt1 w ↦ absurd (grind (arith, ltb-true)) | in_default-via-else-s-lt1+in_default-1 w ↦ absurd (omega arith) ])
+    e.0 c.split_at.ensures.front c.split_at.ensures.back

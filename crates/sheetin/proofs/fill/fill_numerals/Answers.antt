@@ -1,53 +1,19 @@
-use mathlib.Core.Path.{ap}
-use native.Mathlib.Omega.{arith}
-use lib.ListN.{length, length-drop, length-set}
-use Rattle.sheetin.proofs.Front.{rest-is}
-use Rattle.sheetin.proofs.Stores.{filling_none, filling_more, filling_end}
+use Rattle.std.proofs.Common.{arith}
+use Rattle.sheetin.proofs.Stores.{not-filled, filling_none, filling_no, filling_more, filling_end}
 use Rattle.sheetin.proofs.fill.fill_numerals.Goals as goal
 
-pub loop-k-init : goal.loop-k-init
-loop-k-init c =
-    let a = c.args in
-    filling_none a.s.now a.part.now
+pub loop-x-init : goal.loop-x-init
+loop-x-init c = filling_none c.args.s.now c.args.part.now
 
-pub slice_bounds-next_numeral-count : goal.slice_bounds-next_numeral-count
-slice_bounds-next_numeral-count c = omega (arith, c.loop-k.invariant.within)
+pub returns-in_err-x : goal.returns-in_err-x
+returns-in_err-x c =
+    not-filled _ _ c.from_residual.ensures
+    (filling_no c.args.s.now c.loop-x.rest.now c.args.part.now c.loop-x.part c.loop-x.x-index c.loop-x.invariant (omega arith) c.in_err-x.ensures)
 
-pub slice_bounds-next_numeral-start : goal.slice_bounds-next_numeral-start
-slice_bounds-next_numeral-start c = omega (arith, c.loop-k.invariant.within)
-
-pub overflow_add-at : goal.overflow_add-at
-overflow_add-at c =
-    let a = c.args in
-    let rest = rest-is a.s.now c.loop-k.at c.loop-k.invariant.within in
-    omega
-    (arith, c.loop-k.invariant.within, c.next_numeral-g.ensures.within, ap length rest, length-drop c.loop-k.at a.s.now)
-
-pub loop-k-smaller : goal.loop-k-smaller
-loop-k-smaller c = simp length-set (omega arith)
-
-pub loop-k-preserved : goal.loop-k-preserved
-loop-k-preserved c =
-    let a = c.args in
-    let rest = rest-is a.s.now c.loop-k.at c.loop-k.invariant.within in
-    filling_more a.s.now a.part.now c.loop-k.part c.loop-k.at c.loop-k.k c.loop-k.invariant _ rest
-    c.loop-k-test.true c.next_numeral-g.ensures
-
-pub slice_bounds-line_end-count : goal.slice_bounds-line_end-count
-slice_bounds-line_end-count c = omega (arith, c.loop-k.invariant.within)
-
-pub slice_bounds-line_end-start : goal.slice_bounds-line_end-start
-slice_bounds-line_end-start c = omega (arith, c.loop-k.invariant.within)
-
-pub overflow_add-result : goal.overflow_add-result
-overflow_add-result c =
-    let a = c.args in
-    let rest = rest-is a.s.now c.loop-k.at c.loop-k.invariant.within in
-    omega (arith, c.loop-k.invariant.within, c.line_end-p.ensures.within, ap length rest, length-drop c.loop-k.at a.s.now)
+pub loop-x-preserved : goal.loop-x-preserved
+loop-x-preserved c =
+    filling_more c.args.s.now c.loop-x.rest.now c.args.part.now c.loop-x.part c.loop-x.x-index c.loop-x.invariant (omega arith) _ _ c.in_ok-x.ensures
 
 pub returns : goal.returns
 returns c =
-    let a = c.args in
-    let rest = rest-is a.s.now c.loop-k.at c.loop-k.invariant.within in
-    filling_end a.s.now a.part.now c.loop-k.part c.loop-k.at c.loop-k.k c.loop-k.invariant _ rest
-    c.loop-k-test.false c.line_end-p.ensures
+    filling_end c.args.s.now c.loop-x.rest.now c.args.part.now c.loop-x.part c.loop-x.x-index c.loop-x.invariant (omega arith) _ c.line_end.ensures

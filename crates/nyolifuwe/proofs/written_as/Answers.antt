@@ -1,8 +1,0 @@
--- `nyolifuwe::written_as` meets its contract: each family's writer. Assumes nothing.
-use Rattle.nyolifuwe.proofs.written_as.Goals as goal
-
-pub returns-in-Base : goal.returns-in-Base
-returns-in-Base c = rw c.in-Base.is c.write_line.ensures
-
-pub returns-in-Finishes : goal.returns-in-Finishes
-returns-in-Finishes c = rw c.in-Finishes.is c.finish_write_line.ensures
