@@ -3,9 +3,8 @@
 
 #![tactic(auto)]
 
-ghost use Rattle.std.specs.Prelude.{ℕ, ◌≡◌, ◌+◌, ◌*◌, ◌-◌, ◌^◌, ◌≤◌, ◌<◌, ◌++◌, length, get_or, set, drop, replicate};
+ghost use Rattle.std.specs.Prelude.{ℕ, ◌≡◌, refl, ◌+◌, ◌*◌, ◌-◌, ◌^◌, ◌≤◌, ◌<◌, ◌++◌, length, get_or, set, drop, replicate};
 ghost use Rattle.trace.specs.Column.{Column, slot};
-ghost use Rattle.trace.specs.Tree.{larger};
 ghost use Rattle.trace.specs.Fold.{nothing};
 ghost use Rattle.walk.specs.Measure.{cycles, instructions};
 ghost use Rattle.walk.specs.Weight.{asked_line, asked, weight_at, instructions_at};
@@ -20,6 +19,8 @@ pub trait Measure: Copy {
     ghost of: { ℕ → Self };
 
     ghost number: { Self → ℕ };
+
+    ghost number_of: { (n : ℕ) → number (of n) ≡ n };
 
     // So many of the measure.
     fn of(n: u64) -> Self
@@ -55,6 +56,8 @@ impl Measure for Cycles {
 
     ghost number = { λ c. c.0 };
 
+    ghost number_of = { λ n. refl };
+
     fn of(n: u64) -> Cycles {
         Cycles(n)
     }
@@ -72,6 +75,8 @@ impl Measure for Instructions {
     ghost of = { instructions };
 
     ghost number = { λ i. i.0 };
+
+    ghost number_of = { λ n. refl };
 
     fn of(n: u64) -> Instructions {
         Instructions(n)
@@ -256,12 +261,12 @@ pub fn instructions_at(trace: &[u8], at: usize) -> Instructions
     Instructions(0)
 }
 
-// Adds to a number of a measure.
+// Adds to a number in a slice, which is taken out as a number of the measure and put back.
 pub fn add<M: Measure>(a: &mut [u64], i: usize, v: M)
     requires { (i < length a.old) × (get_or a.old i 0 + M.number v < 2 ^ 64) }
     ensures { a.new ≡ set a.old i (get_or a.old i 0 + M.number v) }
 {
-    a[i] += v.number();
+    a[i] = M::of(a[i]).plus(v).number();
 }
 
 // Column 1 of row s: an invocation was made from it.
