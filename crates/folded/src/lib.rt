@@ -6,34 +6,38 @@ mod measure;
 mod shown;
 mod write;
 
-ghost use Rattle.std.specs.Prelude.{length};
+ghost use Rattle.std.specs.Prelude.{◌<◌, length};
 ghost use Rattle.folded.specs.Folding.{folding, Folds};
 ghost use Rattle.folded.specs.Whole.{Admitted, Decided, Fitted};
 
 use line::Refusal;
 use names::Lists;
 
-// The names are good: they are found, the text is measured and, where it fits, written.
-fn named(
+// The names are good: they are found, in the table that is lent, the text is measured and, where it fits, written.
+fn named<'a>(
     trace: &[u8],
     count: usize,
     lines: usize,
-    lists: Lists,
+    lists: Lists<'a>,
+    names: &mut [&'a [u8]],
     scratch: &mut [u64],
     out: &mut [u8],
 ) -> Result<usize, Refusal>
-    requires { Admitted trace.now count lines (length scratch.old) }
+    requires { Admitted trace.now count lines (length scratch.old) × (count < length names.old) }
     ensures { Fitted trace.now count lines lists.entry.project.now lists.entry.stock.now result
         out.old out.new scratch.old scratch.new }
 {
-    let names = shown::find(lists, count + 1);
-    if !measure::fits(trace, lines, &names, out.len()) {
+    shown::find(lists, count + 1, names);
+    if !measure::fits(trace, lines, names, out.len()) {
         return Err(trace::refused(18));
     }
-    let n = write::text(trace, lines, &names, scratch, out);
+    let n = write::text(trace, lines, names, scratch, out);
     walk::zero(scratch, scratch.len());
     Ok(n)
 }
+
+// Rows that a small trace has at most: to clear a table of 256 names takes longer than all else of it.
+const FEW: usize = 32;
 
 // The trace is accepted: 17 for the first row whose name is bad, then 18 for output too short.
 fn accepted(
@@ -55,7 +59,12 @@ fn accepted(
             line: bad,
         });
     }
-    named(trace, count, lines, lists, scratch, out)
+    if count < FEW {
+        let mut names: [&[u8]; FEW] = [&[]; FEW];
+        return named(trace, count, lines, lists, &mut names, scratch, out);
+    }
+    let mut names: [&[u8]; 256] = [&[]; 256];
+    named(trace, count, lines, lists, &mut names, scratch, out)
 }
 
 // Writes the folded stacks of any text, with any limits, any lists of names and any room, or refuses: as the engines

@@ -1,16 +1,15 @@
 // The name shown for each row, looked up once.
-ghost use Rattle.std.specs.Prelude.{◌≤◌};
+ghost use Rattle.std.specs.Prelude.{◌≤◌, length};
 ghost use Rattle.names.specs.Names.{shown};
 ghost use Rattle.folded.specs.Shows.{Found};
 
 use names::{Lists, Places};
 
-// The names of the first `count` rows; further rows have none.
-pub(crate) fn find<'a>(lists: Lists<'a>, count: usize) -> [&'a [u8]; 256]
-    requires { count ≤ 256 }
-    ensures { Found (shown lists.entry.project.now lists.entry.stock.now) count result }
+// The names of the first `count` rows go to the front of the table.
+pub(crate) fn find<'a>(lists: Lists<'a>, count: usize, names: &mut [&'a [u8]])
+    requires { count ≤ length names.old }
+    ensures { Found (shown lists.entry.project.now lists.entry.stock.now) count names.new }
 {
-    let mut names: [&[u8]; 256] = [&[]; 256];
     let mut from = Places {
         project: 0,
         stock: 0,
@@ -20,5 +19,4 @@ pub(crate) fn find<'a>(lists: Lists<'a>, count: usize) -> [&'a [u8]; 256]
         names[row] = lists.either(from, ends);
         from = lists.nexts(ends);
     }
-    names
 }

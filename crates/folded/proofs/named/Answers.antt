@@ -5,32 +5,32 @@ use Rattle.folded.proofs.Whole.{few, measure_asks, short_18, write_asks, all-wri
 use Rattle.folded.proofs.named.Goals as goal
 
 pub overflow_add-count : goal.overflow_add-count
-overflow_add-count c = omega (arith, few c.requires)
+overflow_add-count c = omega (arith, few c.requires.0)
 
-pub find-names-requires : goal.find-names-requires
-find-names-requires c = omega (arith, few c.requires)
+pub find-requires : goal.find-requires
+find-requires c = omega (arith, few c.requires.0)
 
 pub fits-requires : goal.fits-requires
-fits-requires c = measure_asks c.requires c.args.lists.project.now c.args.lists.stock.now _ c.find-names.ensures
+fits-requires c = measure_asks c.requires.0 c.args.lists.project.now c.args.lists.stock.now _ c.find.ensures
 
 pub returns-then-not-fits : goal.returns-then-not-fits
 returns-then-not-fits c =
     let a = c.args in
-    let found = c.find-names.ensures in
+    let found = c.find.ensures in
     λ q. rw c.refused.ensures
     (short_18 q a.lists.project.now a.lists.stock.now _ found a.out.now c.fits.result (c.fits.ensures (measure_asks q a.lists.project.now a.lists.stock.now _ found)) c.if-not-fits.true a.scratch.now)
 
 pub text-n-requires : goal.text-n-requires
 text-n-requires c =
     let a = c.args in
-    let q = c.requires in
-    let found = c.find-names.ensures in
+    let q = c.requires.0 in
+    let found = c.find.ensures in
     write_asks q a.lists.project.now a.lists.stock.now _ found a.out.now c.fits.result (c.fits.ensures (measure_asks q a.lists.project.now a.lists.stock.now _ found)) c.if-not-fits.false a.scratch.now refl
 
 pub returns : goal.returns
 returns c =
     let a = c.args in
-    let found = c.find-names.ensures in
+    let found = c.find.ensures in
     let yes = c.if-not-fits.false in
     λ q. (
     let is = c.fits.ensures (measure_asks q a.lists.project.now a.lists.stock.now _ found) in

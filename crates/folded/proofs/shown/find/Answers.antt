@@ -15,7 +15,7 @@ loop-row-preserved c =
     let e = c.ends-ends.ensures in
     let is = shown-parts p q row from.project ends.project from.stock ends.stock i.own e.project i.other e.stock in
     record {
-      long = length-set c.loop-row.names row c.either.result ∙ i.long;
+      long = omega (arith, i.long, length-set c.loop-row.names row c.either.result);
       own = begins-next p row from.project ends.project i.own e.project _ c.nexts-from.ensures.project;
       other = begins-next q row from.stock ends.stock i.other e.stock _ c.nexts-from.ensures.stock;
       found = found-more (shown p q) c.loop-row.names row c.either.result (omega (arith, i.long)) (c.either.ensures ∙ is) i.found;
