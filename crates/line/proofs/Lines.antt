@@ -15,9 +15,25 @@ use Rattle.digits.specs.Read.{reading}
 use Rattle.digits.proofs.Laws.{all_append}
 use Rattle.digits.proofs.Reading.{reading-some, reading-none}
 use Rattle.line.specs.Refusal.{refusal}
-use Rattle.line.specs.Family.{Family}
-use Rattle.line.specs.Table.{Fields, table_of}
+use Rattle.line.specs.Family.{Family, Finishes}
+use Rattle.line.specs.Table.{Fields, none, table_of, table}
 use Rattle.line.specs.Read.{part, fields, wrong, tabled, read_line_of, line_at, Read}
+
+-- kinds that document 01's table does not have
+pub table_none : (x : Fields) → (x.kind ≡ 1 → ⊥) → (x.kind ≡ 2 → ⊥) → (x.kind ≡ 3 → ⊥) → (x.kind ≡ 4 → ⊥) → (x.kind ≡ 5 → ⊥) → (x.kind ≡ 6 → ⊥) → (x.kind ≡ 7 → ⊥) → table x ≡ none
+table_none x a b c d e f g =
+    simp (ne_eqb x.kind 1 a, ne_eqb x.kind 2 b, ne_eqb x.kind 3 c, ne_eqb x.kind 4 d, ne_eqb x.kind 5 e, ne_eqb x.kind 6 f, ne_eqb x.kind 7 g)
+    (neither (eqb x.kind 0x12) (eqb x.kind 0x13))
+  where
+    neither : (a b : Bool) → cond a none (cond b none none) ≡ none
+    neither true b = refl
+    neither false true = refl
+    neither false false = refl
+
+-- kinds that both families have, or none
+pub same-table : (x : Fields) → (x.kind ≡ 3 → ⊥) → (x.kind ≡ 4 → ⊥) → (x.kind ≡ 0x12 → ⊥) → (x.kind ≡ 0x13 → ⊥)
+    → (n : ℕ) {r : Read} → r ≡ tabled (table x) n → r ≡ tabled (table_of Finishes x) n
+same-table x a b c d n h = h ∙ simp (ne_eqb x.kind 3 a, ne_eqb x.kind 4 b, ne_eqb x.kind 0x12 c, ne_eqb x.kind 0x13 d)
 
 -- `read_line_of` by cases
 module _ (g : Family) (s : List ℕ) (n : ℕ) where

@@ -1,7 +1,7 @@
--- What the line writer rests on: the fields have room in their digits, so the table alone decides.
--- Assumes nothing.
+-- What the line writer rests on: which frames are writable, a line for each case, since the fields have room in their
+-- digits and the table alone decides; and what is written. Assumes nothing.
 use Prim.Native.Nat.{ℕ, ◌<◌}
-use mathlib.Core.Bool.{Bool, true, false, cond, ◌&&◌, and-true}
+use mathlib.Core.Bool.{Bool, true, false, not, cond, ◌&&◌, and-true}
 use mathlib.Core.List.{List}
 use mathlib.Core.Path.{◌≡◌, refl, ap, ◌∙◌, sym, subst⁻¹}
 use native.Mathlib.Omega.{arith}
@@ -10,18 +10,46 @@ use lib.Dec.{leb, ltb}
 use lib.ListN.{length, replicate}
 use Rattle.std.specs.Prelude.{Ok, Err}
 use Rattle.line.specs.Refusal.{refusal}
-use Rattle.line.specs.Family.{Family, Base}
+use Rattle.line.specs.Family.{Family, Base, Finishes}
 use Rattle.line.specs.declared.Frame.{Frame}
 use Rattle.line.specs.declared.Frame.TheVariants.{Site, Call, Spawn, Sync, Return, Cost, Instructions, Async, Finish}
+use Rattle.line.specs.declared.Place.{Place}
 use Rattle.line.specs.declared.Line.{Line}
 use Rattle.line.specs.declared.Refusal.{Refusal}
-use Rattle.line.specs.Table.{Fields, Entry, frame, none, only, table_of, fields_of}
+use Rattle.line.specs.Table.{Fields, Entry, frame, none, only, is_base, in_base, in_finishes, table_of, fields_of}
 use Rattle.line.specs.Read.{tabled}
 use Rattle.line.specs.Write.{chars, narrow, is_frame, writable_of, write_chars_of, write_line_of, write_chars}
 
 is-only : (b : Bool) (f : Frame) → is_frame (only b f) ≡ b
 is-only true f = refl
 is-only false f = refl
+
+base-only : (g : Family) (f : Frame) → is_frame (in_base g (frame f)) ≡ is_base g
+base-only g f = is-only (is_base g) f
+
+finishes_only : (g : Family) (f : Frame) → is_frame (in_finishes g (frame f)) ≡ not (is_base g)
+finishes_only Base f = refl
+finishes_only Finishes f = refl
+
+pub writable-site : (g : Family) (s : ℕ) (p : Place) → s < 65536 → p.file < 65536 → p.line < 4294967296 → p.column < 65536 → writable_of g (Site s p) ≡ (leb 1 p.line && leb 1 p.file && leb 1 p.column)
+writable-site g s p hs hf hl hc = simp (lt-ltb s 65536 hs, lt-ltb p.file 65536 hf, lt-ltb p.line 4294967296 hl, lt-ltb p.column 65536 hc) (is-only _ _)
+
+pub writable_call : (g : Family) (s : ℕ) → s < 65536 → writable_of g (Call s) ≡ true
+writable_call g s h = simp (lt-ltb s 65536 h)
+
+-- what document 01's family has alone
+pub writable_spawn : (g : Family) (s : ℕ) → s < 65536 → writable_of g (Spawn s) ≡ is_base g
+writable_spawn g s h = simp (lt-ltb s 65536 h) (base-only g (Spawn s))
+
+pub writable-sync : (g : Family) → writable_of g Sync ≡ is_base g
+writable-sync g = base-only g Sync
+
+-- what the finish family has alone
+pub writable-async : (g : Family) (s : ℕ) → s < 65536 → writable_of g (Async s) ≡ not (is_base g)
+writable-async g s h = simp (lt-ltb s 65536 h) (finishes_only g (Async s))
+
+pub writable-finish : (g : Family) → writable_of g Finish ≡ not (is_base g)
+writable-finish g = finishes_only g Finish
 
 -- a cost and its instructions, which differ in the kind alone
 pub writable-value : (f : Frame) (v : ℕ) → v < 4294967296 → (ltb v 4294967296 && true && true && is_frame (only (leb 1 v && leb v 4294967295 && true && true) f)) ≡ leb 1 v

@@ -7,7 +7,7 @@ use native.Mathlib.Nat.{add-sub_cancel_left, add_assoc, add-zero, zero-add, sub-
 use native.Mathlib.Numerals.{add-one}
 use native.Mathlib.Omega.{arith}
 use borrow.Rule.Slice.PartMut.{put_mid, mid_of, mid_len}
-use lib.ListN.{length, take, drop, set, length-append, length-drop, take-append-drop}
+use lib.ListN.{length, take, drop, get_or, set, length-append, length-drop, take-append-drop, get_or-append}
 use Rattle.std.proofs.lemmas.List.{drop-take}
 use lib.Seq.{length-take-le, take-take, take_at, drop_at, drop-drop, set_split}
 use Rattle.digits.specs.Decimal.{size_of, figures, decimal}
@@ -50,6 +50,14 @@ module _ (at : ℕ) (room : List ℕ) where
     laid-part e h =
         ap (λ (k : ℕ). take at room ++ (piece ++ drop k (drop at room))) (ap (λ (n : ℕ). n - at) h ∙ add-sub_cancel_left at (length piece))
         ∙ ap (λ (l : List ℕ). take at room ++ (piece ++ l)) (drop-drop (length piece) at room)
+
+    -- what stands before it is as it was
+    pub laid-before : (i : ℕ) → i < at → get_or (laid at piece room) i 0 ≡ get_or room i 0
+    unfolding laid
+    laid-before i h =
+        get_or-append (take at room) (piece ++ drop (at + length piece) room) 0 i (omega (arith, length-take-le at room (omega arith)))
+        ∙ sym (get_or-append (take at room) (drop at room) 0 i (omega (arith, length-take-le at room (omega arith))))
+        ∙ ap (λ (l : List ℕ). get_or l i 0) (take-append-drop at room)
 
   -- it stands there, whatever is laid behind it as one with it
   pub laid-there : (piece more : List ℕ) → at ≤ length room → take (length piece) (drop at (laid at (piece ++ more) room)) ≡ piece

@@ -3,6 +3,7 @@ use mathlib.Core.Path.{◌≡◌, refl, ap, ◌∙◌, sym}
 use mathlib.Core.List.{List}
 use Prim.Native.Nat.{ℕ, zero, suc, ◌+◌, ◌*◌, ◌/◌, ◌%◌, ◌-◌, ◌≤◌, ◌<◌}
 use native.Mathlib.Omega.{arith}
+use native.Mathlib.Decide.{dec_lt}
 use lib.ListN.{length, get_or, set, replicate, length-set}
 use Rattle.std.proofs.lemmas.List.{get_or-replicate}
 use lib.Seq.{get_or-set_same, get_or-set_other}
@@ -14,6 +15,21 @@ pub by_two : (P : ℕ → Type 0) → P 0 → P 1 → (k : ℕ) → k < 2 → P 
 by_two P a b zero h = a
 by_two P a b (suc zero) h = b
 by_two P a b (suc (suc k)) h = absurd (omega arith)
+
+-- some numbers and then more behind them
+laid-two : {m p i : ℕ} {x y : ℕ → ℕ} {t t₁ t₂ : List ℕ} (z : ℕ → ℕ) → ((k : ℕ) → k < m → z k ≡ x k) → ((k : ℕ) → k < p → z (m + k) ≡ y k) → Laid m i x t t₁ → Laid p (i + m) y t₁ t₂ → Laid (m + p) i z t t₂
+laid-two {m} {p} {i} {x} {y} {t} {t₁} {t₂} z first second a b =
+    record {
+      here = λ k l. go k l (dec_lt k m);
+      off = λ j o. b.off j (λ u v. o (omega arith) (omega arith)) ∙ a.off j (λ u v. o (omega arith) (omega arith));
+    }
+  where
+    go : (k : ℕ) → k < m + p → Dec (k < m) → get_or t₂ (i + k) 0 ≡ z k
+    go k l (yes d) = b.off (i + k) (λ u v. omega arith) ∙ a.here k d ∙ sym (first k d)
+    go k l (no d) =
+        let e : i + k ≡ i + m + (k - m) = omega arith in
+        let f : m + (k - m) ≡ k = omega arith in
+        ap (λ (j : ℕ). get_or t₂ j 0) e ∙ b.here (k - m) (omega arith) ∙ sym (second (k - m) (omega arith)) ∙ ap z f
 
 pub pair_laid : (t : List ℕ) (i : ℕ) (x : Pair) → i + 2 ≤ length t → Laid 2 i (of_pair x) t (paired t i x)
 pair_laid t i x room =

@@ -31,3 +31,7 @@ written_at a j v i l = go (eqb j i) refl
     go : (b : Bool) → eqb j i ≡ b → get_or (set a j v) i 0 ≡ cond b v (get_or a i 0)
     go true e = let q = eqb-true j i e in rw (← q) (get_or-set_same a j v 0 (omega arith))
     go false e = get_or-set_other a j i v 0 (λ q. eqb-false j i e (sym q))
+
+-- numbers that grew twice
+pub grown_twice : (a b c : List ℕ) (g h : ℕ → ℕ) → length b ≡ length a → Grown a g b → Grown b h c → Grown a (λ i. g i + h i) c
+grown_twice a b c g h e x y i l = omega (arith, x i l, y i (omega arith))
