@@ -36,7 +36,7 @@ fn named<'a>(
     Ok(n)
 }
 
-// Rows that a small trace has at most: to clear a table of 256 names takes longer than all else of it.
+// Rows that a small trace has at most: a table of 256 names would take a quarter of its time to be cleared.
 const FEW: usize = 32;
 
 // The trace is accepted: 17 for the first row whose name is bad, then 18 for output too short.
