@@ -58,7 +58,9 @@ pub(crate) fn next_name<'a>(s: &'a [u8], n: &[u8]) -> Option<&'a [u8]>
     name_at(comma_at(s)?, n)
 }
 
-// A field whose content is a decimal number.
+// A field whose content is a decimal number. It stands outside its callers: inside, the loop over the figures would set
+// what they answer at each figure.
+#[inline(never)]
 pub(crate) fn numeral_at(s: &[u8]) -> Option<(u64, &[u8])>
     ensures { got result ≡ numeral s.now }
 {
