@@ -20,23 +20,16 @@ pub fn put_figures(part: &mut [u8], x: u64)
     }
 }
 
-// The most whose tenfold has room in 64 bits.
-const MOST: u64 = u64::MAX / 10;
-
-// The number that figures are, whether the first is 0 or not; none past 64 bits. A comparison and ten times the number
-// take less time than `checked_mul`.
+// The number that figures are, whether the first is 0 or not; none past 64 bits.
 fn value(s: &[u8]) -> Option<u64>
     ensures { result ≡ value_of s.now }
 {
     let mut value: u64 = 0;
     for &c in s {
-        if MOST < value {
-            return None;
-        }
         if !c.is_ascii_digit() {
             return None;
         }
-        value = (10 * value).checked_add(u64::from(c - b'0'))?;
+        value = value.checked_mul(10)?.checked_add(u64::from(c - b'0'))?;
     }
     Some(value)
 }

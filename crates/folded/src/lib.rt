@@ -36,7 +36,7 @@ fn named<'a>(
     Ok(n)
 }
 
-// Rows that a small trace has at most: a table of 256 names would take a quarter of its time to be cleared.
+// Rows that a small trace has at most: to clear a table of 256 names would be a fifth of its time.
 const FEW: usize = 32;
 
 // The trace is accepted: 17 for the first row whose name is bad, then 18 for output too short.
